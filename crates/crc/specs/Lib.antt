@@ -1,0 +1,2 @@
+pub mod CheckWord
+pub mod Laws
