@@ -1,0 +1,4 @@
+pub mod Wire
+pub mod Reading
+pub mod Session
+pub mod Theorems
