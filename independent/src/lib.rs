@@ -8,4 +8,5 @@
 pub mod answer;
 pub mod check_word;
 pub mod group;
+pub mod object;
 pub mod random;
