@@ -438,21 +438,27 @@ mod tests {
         }
     }
 
-    #[test]
-    fn the_two_searches_agree() {
-        let mut random = Random::from_seed(6);
+    /// A thousand sets a seed: trying all takes some hundredths of a second for each.
+    fn the_two_searches_agree(seed: u64) {
+        let mut random = Random::from_seed(seed);
         let mut fitting = 0;
-        let sets = 3_000;
-        for _ in 0..sets {
+        for _ in 0..1_000 {
             let set = segments::near_the_bounds(&mut random, 1_024);
             let quick = fits(1_024, &set.header, &set.body);
-            assert_eq!(
-                quick,
-                fits_by_trying_all(1_024, &set.header, &set.body),
-                "{set:?}"
-            );
+            let slow = fits_by_trying_all(1_024, &set.header, &set.body);
+            assert_eq!(quick, slow, "{set:?}");
             fitting += usize::from(quick);
         }
-        assert!(fitting > sets / 5 && fitting < sets * 4 / 5, "{fitting}");
+        assert!(fitting > 200 && fitting < 800, "{fitting}");
+    }
+
+    #[test]
+    fn the_two_searches_agree_on_one_seed() {
+        the_two_searches_agree(6);
+    }
+
+    #[test]
+    fn the_two_searches_agree_on_another_seed() {
+        the_two_searches_agree(60);
     }
 }
