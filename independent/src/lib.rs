@@ -7,6 +7,9 @@
 
 pub mod answer;
 pub mod check_word;
+pub mod collector;
 pub mod group;
+pub mod header;
+pub mod listing;
 pub mod object;
 pub mod random;
