@@ -2,6 +2,8 @@
 //! generators of groups and whatever else is handed to two programs to be compared.
 
 pub mod groups;
+pub mod headers;
+pub mod histories;
 pub mod segments;
 
 /// A linear congruence modulo 2^64 whose upper half is used, the lower bits being poor. The same

@@ -134,7 +134,7 @@ pub fn one_field_wrong(random: &mut Random) -> Vec<u8> {
         2 => fields.segment = None,
         3 => fields.user_access = None,
         4 => fields.user_access.as_mut().unwrap().transport_flag = false,
-        5 => fields.user_access.as_mut().unwrap().indicator = random.byte() & 0x0F,
+        5 => fields.user_access.as_mut().unwrap().indicator = random.one_of(&[0, 1, 2, 3, 14, 15]),
         6 => {
             let right = fields.bytes.len() as u16;
             fields.size = random.one_of(&[
