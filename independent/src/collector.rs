@@ -83,8 +83,7 @@ pub enum Stage {
 #[derive(Clone, Debug)]
 pub struct Held {
     pub transport: u16,
-    pub stage: Stage,
-    /// The stored segments of each part, in the order in which they came.
+    /// The stored segments of each part, no number twice.
     pub header: Vec<Piece>,
     pub body: Vec<Piece>,
 }
@@ -93,7 +92,6 @@ impl Held {
     fn nothing_of(transport: u16) -> Held {
         Held {
             transport,
-            stage: Stage::Gathering,
             header: Vec::new(),
             body: Vec::new(),
         }
@@ -110,6 +108,26 @@ impl Held {
         match part {
             Part::Header => &mut self.header,
             Part::Body => &mut self.body,
+        }
+    }
+
+    /// Whether every segment of a part is in: the last one and all before it, none of them being
+    /// held twice; or none where the core says that the body is empty.
+    fn is_whole(&self, part: Part) -> bool {
+        let empty = part == Part::Body && self.core().is_some_and(|core| core.body_size == 0);
+        let count = self.pieces(part).len();
+        let all_up_to = |last: &Piece| count == usize::from(last.number) + 1;
+        empty || self.last(part).is_some_and(all_up_to)
+    }
+
+    pub fn stage(&self) -> Stage {
+        if self.is_whole(Part::Header) && self.is_whole(Part::Body) {
+            Stage::Finished {
+                header: self.length(Part::Header),
+                body: self.length(Part::Body),
+            }
+        } else {
+            Stage::Gathering
         }
     }
 
@@ -253,7 +271,7 @@ impl Collector {
     fn store_newest(
         &mut self,
         slot: usize,
-        mut held: Held,
+        held: Held,
         part: Part,
         sizes_before: [Option<usize>; 2],
     ) -> Answer {
@@ -273,13 +291,7 @@ impl Collector {
         self.store(part)[start..start + newest.bytes.len()].copy_from_slice(&newest.bytes);
         self.marks(slot, part)[usize::from(newest.number)] = 1;
 
-        if self.is_whole(slot, &held, Part::Header) && self.is_whole(slot, &held, Part::Body) {
-            held.stage = Stage::Finished {
-                header: held.length(Part::Header),
-                body: held.length(Part::Body),
-            };
-        }
-        let answer = match held.stage {
+        let answer = match held.stage() {
             Stage::Gathering => Answer::Stored,
             Stage::Finished { .. } => Answer::Complete,
         };
@@ -296,15 +308,6 @@ impl Collector {
             self.store(part)
                 .copy_within(share.end - piece.bytes.len()..share.end, place);
         }
-    }
-
-    /// Whether every segment of a part is in: the last one and all before it, or none where the
-    /// core says that the body is empty.
-    fn is_whole(&mut self, slot: usize, held: &Held, part: Part) -> bool {
-        let empty = part == Part::Body && held.core().is_some_and(|core| core.body_size == 0);
-        let last = held.last(part).map(|piece| usize::from(piece.number));
-        let marks = self.marks(slot, part);
-        empty || last.is_some_and(|last| marks[..=last].iter().all(|&mark| mark == 1))
     }
 
     fn share(&self, slot: usize, part: Part) -> Range<usize> {
@@ -344,7 +347,7 @@ impl Collector {
     /// A finished object's header or body, where it stands in its store; or NOTHELD or UNFINISHED.
     pub fn show(&self, transport: u16, part: Part) -> Result<&[u8], Answer> {
         let slot = self.slot_of(transport).ok_or(Answer::NotHeld)?;
-        let stage = self.slots[slot].as_ref().map(|held| held.stage);
+        let stage = self.slots[slot].as_ref().map(Held::stage);
         let Some(Stage::Finished { header, body }) = stage else {
             return Err(Answer::Unfinished);
         };
