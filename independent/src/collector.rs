@@ -205,6 +205,22 @@ impl Collector {
         })
     }
 
+    /// A collector that holds this already. Whoever puts it together sees to it that memory and
+    /// what is held agree.
+    pub(crate) fn of_parts(
+        limit: usize,
+        slots: Vec<Option<Held>>,
+        memory: Memory,
+        counts: Counts,
+    ) -> Collector {
+        Collector {
+            limit,
+            slots,
+            memory,
+            counts,
+        }
+    }
+
     pub fn limit(&self) -> usize {
         self.limit
     }

@@ -13,3 +13,4 @@ pub mod header;
 pub mod listing;
 pub mod object;
 pub mod random;
+pub mod state;

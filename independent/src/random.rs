@@ -1,6 +1,7 @@
 //! Chance that can be repeated: a small generator of numbers from a seed, and beside it the
 //! generators of groups and whatever else is handed to two programs to be compared.
 
+pub mod damage;
 pub mod groups;
 pub mod headers;
 pub mod histories;
