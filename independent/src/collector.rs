@@ -1,0 +1,728 @@
+//! The straightforward collector. For each transport number it holds the list of the segments
+//! that it stored, and for each new one it asks the search of `object` whether an object and a cut
+//! send them all. The stores and marks are laid out as document 01 says, so that they can be
+//! compared byte for byte.
+
+use crate::answer::{Answer, Reply};
+use crate::group::{self, Part};
+use crate::header;
+use crate::object::{
+    self, Core, Piece, BODY_LIMITS, BODY_SEGMENTS, HEADER_LENGTHS, HEADER_SEGMENTS,
+};
+use std::ops::{Range, RangeInclusive};
+
+/// Bounds of document 01, "Numbers that bound it".
+pub const SLOTS: RangeInclusive<usize> = 1..=16;
+pub const HEADER_SHARE: usize = *HEADER_LENGTHS.end();
+pub const MARKS_SHARE: usize = HEADER_SEGMENTS + BODY_SEGMENTS;
+pub const MOST_COUNTED: u32 = 2_147_483_647;
+
+/// The memory that a collector works in.
+#[derive(Clone, Debug, PartialEq, Eq)]
+pub struct Memory {
+    pub header_store: Vec<u8>,
+    pub body_store: Vec<u8>,
+    pub marks: Vec<u8>,
+}
+
+impl Memory {
+    /// Memory of the right lengths, every byte of it the same.
+    pub fn filled(limit: usize, slots: usize, byte: u8) -> Memory {
+        Memory {
+            header_store: vec![byte; slots * HEADER_SHARE],
+            body_store: vec![byte; slots * limit],
+            marks: vec![byte; slots * MARKS_SHARE],
+        }
+    }
+}
+
+#[derive(Clone, Copy, Debug, Default, PartialEq, Eq)]
+pub struct Counts {
+    pub taken: u32,
+    pub repeated: u32,
+    pub refused: u32,
+    pub completed: u32,
+    pub dropped: u32,
+}
+
+impl Counts {
+    /// In the order in which the listing prints them.
+    pub fn in_order(&self) -> [u32; 5] {
+        [
+            self.taken,
+            self.repeated,
+            self.refused,
+            self.completed,
+            self.dropped,
+        ]
+    }
+
+    fn count(&mut self, answer: Answer) {
+        let one_more = |count: &mut u32| *count = (*count + 1).min(MOST_COUNTED);
+        match answer.number() {
+            0 => one_more(&mut self.taken),
+            1 => {
+                one_more(&mut self.taken);
+                one_more(&mut self.completed);
+            }
+            2 => one_more(&mut self.repeated),
+            3 => one_more(&mut self.dropped),
+            10..=18 => one_more(&mut self.refused),
+            _ => (),
+        }
+    }
+}
+
+#[derive(Clone, Copy, Debug, PartialEq, Eq)]
+pub enum Stage {
+    Gathering,
+    Finished { header: usize, body: usize },
+}
+
+/// What is held under one transport number.
+#[derive(Clone, Debug)]
+pub struct Held {
+    pub transport: u16,
+    /// The stored segments of each part, no number twice.
+    pub header: Vec<Piece>,
+    pub body: Vec<Piece>,
+}
+
+impl Held {
+    fn nothing_of(transport: u16) -> Held {
+        Held {
+            transport,
+            header: Vec::new(),
+            body: Vec::new(),
+        }
+    }
+
+    pub fn pieces(&self, part: Part) -> &[Piece] {
+        match part {
+            Part::Header => &self.header,
+            Part::Body => &self.body,
+        }
+    }
+
+    fn pieces_mut(&mut self, part: Part) -> &mut Vec<Piece> {
+        match part {
+            Part::Header => &mut self.header,
+            Part::Body => &mut self.body,
+        }
+    }
+
+    /// Whether every segment of a part is in: the last one and all before it, none of them being
+    /// held twice; or none where the core says that the body is empty.
+    fn is_whole(&self, part: Part) -> bool {
+        let empty = part == Part::Body && self.core().is_some_and(|core| core.body_size == 0);
+        let count = self.pieces(part).len();
+        let all_up_to = |last: &Piece| count == usize::from(last.number) + 1;
+        empty || self.last(part).is_some_and(all_up_to)
+    }
+
+    pub fn stage(&self) -> Stage {
+        if self.is_whole(Part::Header) && self.is_whole(Part::Body) {
+            Stage::Finished {
+                header: self.length(Part::Header),
+                body: self.length(Part::Body),
+            }
+        } else {
+            Stage::Gathering
+        }
+    }
+
+    /// How many bytes of a part are in.
+    fn length(&self, part: Part) -> usize {
+        self.pieces(part)
+            .iter()
+            .map(|piece| piece.bytes.len())
+            .sum()
+    }
+
+    pub fn last(&self, part: Part) -> Option<&Piece> {
+        self.pieces(part).iter().find(|piece| piece.last)
+    }
+
+    /// The core, known exactly when header segment 0 is in.
+    pub fn core(&self) -> Option<Core> {
+        self.header
+            .iter()
+            .find(|piece| piece.number == 0)
+            .and_then(|piece| Core::of(&piece.bytes))
+    }
+
+    /// The segment size of a part where it is known: from a full segment, or from BodySize and
+    /// the last segment of the body.
+    pub fn known_size(&self, part: Part) -> Option<usize> {
+        if let Some(full) = self.pieces(part).iter().find(|piece| !piece.last) {
+            return Some(full.bytes.len());
+        }
+        if part == Part::Header {
+            return None;
+        }
+        let body_size = self.core()?.body_size;
+        let last = self.last(Part::Body)?;
+        let before = usize::from(last.number);
+        (before >= 1).then(|| (body_size - last.bytes.len()) / before)
+    }
+
+    /// Where a stored piece stands in its slot's share of the store. Only a last one can come
+    /// while the size isn't known.
+    fn place(&self, part: Part, share: usize, piece: &Piece) -> usize {
+        match self.known_size(part) {
+            _ if piece.number == 0 => 0,
+            Some(size) => usize::from(piece.number) * size,
+            None => share - piece.bytes.len(),
+        }
+    }
+}
+
+#[derive(Clone, Debug)]
+pub struct Collector {
+    limit: usize,
+    slots: Vec<Option<Held>>,
+    pub memory: Memory,
+    pub counts: Counts,
+}
+
+impl Collector {
+    /// Opens a collector, all marks and counts 0, the stores as they are; or LIMITS.
+    pub fn open(limit: usize, slots: usize, mut memory: Memory) -> Result<Collector, Answer> {
+        if !BODY_LIMITS.contains(&limit)
+            || !SLOTS.contains(&slots)
+            || memory.header_store.len() != slots * HEADER_SHARE
+            || memory.body_store.len() != slots * limit
+            || memory.marks.len() != slots * MARKS_SHARE
+        {
+            return Err(Answer::Limits);
+        }
+        memory.marks.fill(0);
+        Ok(Collector {
+            limit,
+            slots: vec![None; slots],
+            memory,
+            counts: Counts::default(),
+        })
+    }
+
+    /// A collector that holds this already. Whoever puts it together sees to it that memory and
+    /// what is held agree.
+    pub(crate) fn of_parts(
+        limit: usize,
+        slots: Vec<Option<Held>>,
+        memory: Memory,
+        counts: Counts,
+    ) -> Collector {
+        Collector {
+            limit,
+            slots,
+            memory,
+            counts,
+        }
+    }
+
+    pub fn limit(&self) -> usize {
+        self.limit
+    }
+
+    /// The slots in their order; a free one holds nothing.
+    pub fn slots(&self) -> &[Option<Held>] {
+        &self.slots
+    }
+
+    fn slot_of(&self, transport: u16) -> Option<usize> {
+        self.slots
+            .iter()
+            .position(|slot| matches!(slot, Some(held) if held.transport == transport))
+    }
+
+    /// Takes one group.
+    pub fn take(&mut self, group: &[u8]) -> Reply {
+        let reply = match group::read(group) {
+            Err(refusal) => Reply::bare(refusal.answer()),
+            Ok(segment) => {
+                let piece = Piece {
+                    number: segment.number,
+                    last: segment.last,
+                    bytes: segment.bytes(group).to_vec(),
+                };
+                let answer = self.gather(segment.transport, segment.part, piece);
+                Reply::of_segment(answer, segment.transport, segment.part, segment.number)
+            }
+        };
+        self.counts.count(reply.answer);
+        reply
+    }
+
+    /// Gathers one segment that passed the reading checks.
+    fn gather(&mut self, transport: u16, part: Part, piece: Piece) -> Answer {
+        let held_in = self.slot_of(transport);
+        let lowest_free = self.slots.iter().position(Option::is_none);
+        let mut held = match held_in {
+            Some(slot) => self.slots[slot].take().expect("the number's own slot"),
+            None => Held::nothing_of(transport),
+        };
+        let answer = if held.pieces(part).contains(&piece) {
+            Answer::Repeat
+        } else {
+            let sizes_before = [Part::Header, Part::Body].map(|part| held.known_size(part));
+            held.pieces_mut(part).push(piece);
+            if !object::fits(self.limit, &held.header, &held.body) {
+                held.pieces_mut(part).pop();
+                Answer::Conflict
+            } else if let Some(slot) = held_in.or(lowest_free) {
+                return self.store_newest(slot, held, part, sizes_before);
+            } else {
+                Answer::Full
+            }
+        };
+        if let Some(slot) = held_in {
+            self.slots[slot] = Some(held);
+        }
+        answer
+    }
+
+    /// Stores the newest piece of a part: its bytes, its mark, and the copies of last segments
+    /// whose place is known from now on.
+    fn store_newest(
+        &mut self,
+        slot: usize,
+        held: Held,
+        part: Part,
+        sizes_before: [Option<usize>; 2],
+    ) -> Answer {
+        let (newest, older) = held.pieces(part).split_last().expect("the newest piece");
+        for (each, before) in [Part::Header, Part::Body].into_iter().zip(sizes_before) {
+            let there_before = if each == part {
+                older
+            } else {
+                held.pieces(each)
+            };
+            if let (None, Some(size)) = (before, held.known_size(each)) {
+                self.copy_parked(slot, each, there_before, size);
+            }
+        }
+        let share = self.share(slot, part);
+        let start = share.start + held.place(part, share.len(), newest);
+        self.store(part)[start..start + newest.bytes.len()].copy_from_slice(&newest.bytes);
+        self.marks(slot, part)[usize::from(newest.number)] = 1;
+
+        let answer = match held.stage() {
+            Stage::Gathering => Answer::Stored,
+            Stage::Finished { .. } => Answer::Complete,
+        };
+        self.slots[slot] = Some(held);
+        answer
+    }
+
+    /// Copies a last segment that stands at the end of its share to where this size puts it.
+    fn copy_parked(&mut self, slot: usize, part: Part, pieces: &[Piece], size: usize) {
+        let parked = pieces.iter().find(|piece| piece.last && piece.number >= 1);
+        if let Some(piece) = parked {
+            let share = self.share(slot, part);
+            let place = share.start + usize::from(piece.number) * size;
+            self.store(part)
+                .copy_within(share.end - piece.bytes.len()..share.end, place);
+        }
+    }
+
+    fn share(&self, slot: usize, part: Part) -> Range<usize> {
+        let length = match part {
+            Part::Header => HEADER_SHARE,
+            Part::Body => self.limit,
+        };
+        slot * length..(slot + 1) * length
+    }
+
+    fn store(&mut self, part: Part) -> &mut [u8] {
+        match part {
+            Part::Header => &mut self.memory.header_store,
+            Part::Body => &mut self.memory.body_store,
+        }
+    }
+
+    fn marks(&mut self, slot: usize, part: Part) -> &mut [u8] {
+        let marks = &mut self.memory.marks[slot * MARKS_SHARE..(slot + 1) * MARKS_SHARE];
+        match part {
+            Part::Header => &mut marks[..HEADER_SEGMENTS],
+            Part::Body => &mut marks[HEADER_SEGMENTS..],
+        }
+    }
+
+    /// Drops what is held under a number.
+    pub fn drop_number(&mut self, transport: u16) -> Reply {
+        let Some(slot) = self.slot_of(transport) else {
+            return Reply::bare(Answer::NotHeld);
+        };
+        self.slots[slot] = None;
+        self.memory.marks[slot * MARKS_SHARE..(slot + 1) * MARKS_SHARE].fill(0);
+        self.counts.count(Answer::Dropped);
+        Reply::of_number(Answer::Dropped, transport)
+    }
+
+    /// A finished object's header or body, where it stands in its store; or NOTHELD or UNFINISHED.
+    pub fn show(&self, transport: u16, part: Part) -> Result<&[u8], Answer> {
+        let slot = self.slot_of(transport).ok_or(Answer::NotHeld)?;
+        let stage = self.slots[slot].as_ref().map(Held::stage);
+        let Some(Stage::Finished { header, body }) = stage else {
+            return Err(Answer::Unfinished);
+        };
+        let start = self.share(slot, part).start;
+        Ok(match part {
+            Part::Header => &self.memory.header_store[start..start + header],
+            Part::Body => &self.memory.body_store[start..start + body],
+        })
+    }
+
+    /// What a finished object's header says; or NOTHELD, UNFINISHED, CORE, HEADER or DUPLICATE.
+    pub fn read_header(&self, transport: u16) -> Result<header::Reading, Answer> {
+        header::read(self.show(transport, Part::Header)?)
+    }
+
+    /// The lowest transport number of a finished object of this name; or NOTFOUND.
+    pub fn find(&self, name: &[u8]) -> Result<u16, Answer> {
+        let finished = self.slots.iter().flatten().filter_map(|held| {
+            let header = self.show(held.transport, Part::Header).ok()?;
+            Some((held.transport, header))
+        });
+        header::find(finished, name).ok_or(Answer::NotFound)
+    }
+}
+
+#[cfg(test)]
+mod tests {
+    use super::*;
+    use crate::group::Fields;
+
+    const LIMIT: usize = 12_288;
+
+    fn opened(slots: usize) -> Collector {
+        Collector::open(LIMIT, slots, Memory::filled(LIMIT, slots, 0xEE)).unwrap()
+    }
+
+    fn header_group(transport: u16, number: u16, last: bool, bytes: &[u8]) -> Vec<u8> {
+        Fields::of_segment(transport, Part::Header, number, last, bytes).whole()
+    }
+
+    fn body_group(transport: u16, number: u16, last: bool, bytes: &[u8]) -> Vec<u8> {
+        Fields::of_segment(transport, Part::Body, number, last, bytes).whole()
+    }
+
+    fn core(header_size: usize, body_size: usize) -> Vec<u8> {
+        let core = Core {
+            body_size,
+            header_size,
+            content_type: 0,
+            content_subtype: 0,
+        };
+        core.bytes().to_vec()
+    }
+
+    /// A whole header of 7 bytes that says this body size.
+    fn says(transport: u16, body_size: usize) -> Vec<u8> {
+        header_group(transport, 0, true, &core(7, body_size))
+    }
+
+    fn answer(collector: &mut Collector, group: &[u8]) -> Answer {
+        collector.take(group).answer
+    }
+
+    #[test]
+    fn opening() {
+        let memory = || Memory::filled(LIMIT, 2, 0xEE);
+        let collector = Collector::open(LIMIT, 2, memory()).unwrap();
+        assert!(collector.memory.marks.iter().all(|&mark| mark == 0));
+        assert!(collector
+            .memory
+            .header_store
+            .iter()
+            .all(|&byte| byte == 0xEE));
+        assert!(collector.memory.body_store.iter().all(|&byte| byte == 0xEE));
+        assert_eq!(collector.counts.in_order(), [0; 5]);
+
+        for (limit, slots, opens) in [
+            (1_023, 1, false),
+            (1_024, 1, true),
+            (1_048_576, 1, true),
+            (1_048_577, 1, false),
+            (1_024, 0, false),
+            (1_024, 16, true),
+            (1_024, 17, false),
+        ] {
+            let opened = Collector::open(limit, slots, Memory::filled(limit, slots, 0));
+            assert_eq!(opened.is_ok(), opens, "{limit} {slots}");
+        }
+        let mut wrong = memory();
+        wrong.header_store.pop();
+        assert_eq!(Collector::open(LIMIT, 2, wrong).err(), Some(Answer::Limits));
+        let mut wrong = memory();
+        wrong.body_store.push(0);
+        assert_eq!(Collector::open(LIMIT, 2, wrong).err(), Some(Answer::Limits));
+        let mut wrong = memory();
+        wrong.marks.pop();
+        assert_eq!(Collector::open(LIMIT, 2, wrong).err(), Some(Answer::Limits));
+    }
+
+    /// Document 01's second core: an empty body, finished by the header alone.
+    #[test]
+    fn empty_body() {
+        let mut collector = opened(1);
+        let header = [0x00, 0x00, 0x00, 0x00, 0x03, 0x84, 0x01];
+        assert_eq!(
+            collector.take(&header_group(9, 0, true, &header)),
+            Reply::of_segment(Answer::Complete, 9, Part::Header, 0)
+        );
+        assert_eq!(collector.show(9, Part::Header), Ok(&header[..]));
+        assert_eq!(collector.show(9, Part::Body), Ok(&[][..]));
+        // No body segment belongs to it.
+        assert_eq!(
+            answer(&mut collector, &body_group(9, 0, true, &[1])),
+            Answer::Conflict
+        );
+    }
+
+    /// Document 01: body last n 3, k 10 is in, then the header says B.
+    #[test]
+    fn last_first_and_then_the_header() {
+        for (length, body_size, expected) in [
+            (10, 100, Answer::Stored),
+            (10, 99, Answer::Conflict),
+            (10, 40, Answer::Conflict),
+            (10, 58, Answer::Stored),
+            (20, 68, Answer::Conflict),
+        ] {
+            let mut collector = opened(1);
+            let last = body_group(1, 3, true, &vec![7; length]);
+            assert_eq!(answer(&mut collector, &last), Answer::Stored);
+            assert_eq!(answer(&mut collector, &says(1, body_size)), expected);
+        }
+    }
+
+    /// One call writes the header store and copies inside the body store; the parked bytes stay.
+    #[test]
+    fn parked_until_the_header_says_the_size() {
+        let mut collector = opened(2);
+        let other = body_group(8, 0, true, &[1]);
+        assert_eq!(answer(&mut collector, &other), Answer::Stored);
+        let last = body_group(1, 3, true, b"0123456789");
+        assert_eq!(answer(&mut collector, &last), Answer::Stored);
+        let mut store = vec![0xEE; 2 * LIMIT];
+        store[0] = 1;
+        store[2 * LIMIT - 10..].copy_from_slice(b"0123456789");
+        assert_eq!(collector.memory.body_store, store);
+
+        assert_eq!(answer(&mut collector, &says(1, 100)), Answer::Stored);
+        store[LIMIT + 90..LIMIT + 100].copy_from_slice(b"0123456789");
+        assert_eq!(collector.memory.body_store, store);
+        let mut headers = vec![0xEE; 2 * 1_024];
+        headers[1_024..1_031].copy_from_slice(&core(7, 100));
+        assert_eq!(collector.memory.header_store, headers);
+        let mut marks = vec![0; 2 * 1_088];
+        for place in [64, 1_088, 1_088 + 64 + 3] {
+            marks[place] = 1;
+        }
+        assert_eq!(collector.memory.marks, marks);
+    }
+
+    #[test]
+    fn parked_until_a_full_segment() {
+        let mut collector = opened(1);
+        let mut store = vec![0xEE; LIMIT];
+        answer(&mut collector, &body_group(1, 2, true, b"abc"));
+        store[LIMIT - 3..].copy_from_slice(b"abc");
+        assert_eq!(collector.memory.body_store, store);
+        answer(&mut collector, &body_group(1, 1, false, &[5; 20]));
+        store[20..40].fill(5);
+        store[40..43].copy_from_slice(b"abc");
+        assert_eq!(collector.memory.body_store, store);
+        // The header has a share and a size of its own.
+        let mut headers = vec![0xEE; 1_024];
+        answer(&mut collector, &header_group(1, 1, true, b"xy"));
+        headers[1_022..].copy_from_slice(b"xy");
+        assert_eq!(collector.memory.header_store, headers);
+        let mut first = core(19, 43);
+        first.resize(17, 6);
+        answer(&mut collector, &header_group(1, 0, false, &first));
+        headers[..17].copy_from_slice(&first);
+        headers[17..19].copy_from_slice(b"xy");
+        assert_eq!(collector.memory.header_store, headers);
+        assert_eq!(
+            answer(&mut collector, &body_group(1, 0, false, &[4; 20])),
+            Answer::Complete
+        );
+    }
+
+    /// With the size known as it comes, the last segment is never parked; number 0 never is.
+    #[test]
+    fn straight_into_place() {
+        let mut collector = opened(1);
+        let mut store = vec![0xEE; LIMIT];
+        answer(&mut collector, &says(1, 100));
+        answer(&mut collector, &body_group(1, 3, true, &[7; 10]));
+        store[90..100].fill(7);
+        assert_eq!(collector.memory.body_store, store);
+
+        let mut collector = opened(1);
+        let mut store = vec![0xEE; LIMIT];
+        answer(&mut collector, &body_group(1, 0, true, &[7; 10]));
+        store[..10].fill(7);
+        assert_eq!(collector.memory.body_store, store);
+    }
+
+    /// The two places of a parked segment may overlap, either way round being the same.
+    #[test]
+    fn overlapping_copy() {
+        let mut collector = opened(1);
+        let bytes: Vec<u8> = (0..4_000).map(|place| (place % 251) as u8).collect();
+        answer(&mut collector, &body_group(1, 2, true, &bytes));
+        // S 4,100: the place is 8,200 to 12,200, parked at 8,288 to 12,288.
+        answer(&mut collector, &body_group(1, 0, false, &[1; 4_100]));
+        assert_eq!(collector.memory.body_store[8_200..12_200], bytes);
+        assert_eq!(collector.memory.body_store[12_200..], bytes[3_912..]);
+        answer(&mut collector, &body_group(1, 1, false, &[2; 4_100]));
+        assert_eq!(answer(&mut collector, &says(1, 12_200)), Answer::Complete);
+        let body = [vec![1; 4_100], vec![2; 4_100], bytes].concat();
+        assert_eq!(collector.show(1, Part::Body), Ok(&body[..]));
+    }
+
+    #[test]
+    fn repeats() {
+        let mut collector = opened(1);
+        let first = body_group(1, 0, false, &[5; 16]);
+        let second = body_group(1, 1, true, &[6; 4]);
+        answer(&mut collector, &first);
+        let before = collector.memory.clone();
+        assert_eq!(
+            collector.take(&first),
+            Reply::of_segment(Answer::Repeat, 1, Part::Body, 0)
+        );
+        assert_eq!(collector.memory, before);
+        answer(&mut collector, &second);
+        assert_eq!(answer(&mut collector, &says(1, 20)), Answer::Complete);
+        // Under a finished object too; and ignored fields don't make a difference.
+        let mut fields = Fields::of_segment(1, Part::Body, 1, true, &[6; 4]);
+        fields.continuity = 3;
+        fields.extension = Some([1, 1]);
+        assert_eq!(answer(&mut collector, &fields.whole()), Answer::Repeat);
+        // The same number with another flag or other bytes is none.
+        let flag = body_group(1, 0, true, &[5; 16]);
+        assert_eq!(answer(&mut collector, &flag), Answer::Conflict);
+        let bytes = body_group(1, 1, true, &[7; 4]);
+        assert_eq!(answer(&mut collector, &bytes), Answer::Conflict);
+        assert_eq!(collector.counts.in_order(), [3, 2, 2, 1, 0]);
+    }
+
+    #[test]
+    fn numbers_out_of_bounds_conflict() {
+        let mut collector = opened(1);
+        for group in [
+            body_group(1, 1_024, true, &[0; 4]),
+            body_group(1, 32_767, true, &[0; 4]),
+            body_group(1, 1_023, false, &[0; 16]),
+            header_group(1, 64, true, &[0; 4]),
+            header_group(1, 63, false, &[0; 16]),
+            header_group(1, 63, true, &[0; 17]),
+            header_group(1, 0, true, &core(7, 0)[..6]),
+            says(1, LIMIT + 1),
+        ] {
+            assert_eq!(answer(&mut collector, &group), Answer::Conflict);
+        }
+        assert_eq!(
+            answer(&mut collector, &header_group(1, 63, true, &[0; 16])),
+            Answer::Stored
+        );
+    }
+
+    /// FULL comes after CONFLICT; a free slot is looked for from the lowest.
+    #[test]
+    fn slots_run_out_and_come_back() {
+        let mut collector = opened(2);
+        let of = |transport| body_group(transport, 0, true, &[transport as u8]);
+        assert_eq!(answer(&mut collector, &of(1)), Answer::Stored);
+        assert_eq!(answer(&mut collector, &of(2)), Answer::Stored);
+        let before = collector.memory.clone();
+        assert_eq!(
+            collector.take(&of(3)),
+            Reply::of_segment(Answer::Full, 3, Part::Body, 0)
+        );
+        let conflict = body_group(3, 1_024, true, &[3]);
+        assert_eq!(answer(&mut collector, &conflict), Answer::Conflict);
+        assert_eq!(answer(&mut collector, &of(1)), Answer::Repeat);
+        assert_eq!(collector.memory, before);
+
+        assert_eq!(collector.drop_number(3), Reply::bare(Answer::NotHeld));
+        assert_eq!(
+            collector.drop_number(1),
+            Reply::of_number(Answer::Dropped, 1)
+        );
+        assert!(collector.memory.marks[..1_088]
+            .iter()
+            .all(|&mark| mark == 0));
+        assert_eq!(collector.memory.body_store, before.body_store);
+        assert_eq!(answer(&mut collector, &of(3)), Answer::Stored);
+        assert_eq!(collector.memory.body_store[0], 3);
+        assert_eq!(collector.memory.body_store[LIMIT], 2);
+        // What was held before the drop plays no part any more.
+        collector.drop_number(3);
+        collector.drop_number(2);
+        assert_eq!(answer(&mut collector, &of(2)), Answer::Stored);
+        assert_eq!(collector.memory.body_store[0], 2);
+        assert_eq!(collector.counts.in_order(), [4, 1, 2, 0, 3]);
+    }
+
+    /// A refused first segment takes no slot.
+    #[test]
+    fn first_groups_conflict_alone() {
+        let mut collector = opened(1);
+        let conflict = body_group(1, 768, true, &[3]);
+        assert_eq!(answer(&mut collector, &conflict), Answer::Conflict);
+        assert!(collector.slots()[0].is_none());
+    }
+
+    #[test]
+    fn questions() {
+        let mut collector = opened(3);
+        let mut header = core(13, 1);
+        header.extend([0x4A, 0x05, 0xCC, 0x02, 0x40, 0x61]);
+        assert_eq!(collector.show(7, Part::Header), Err(Answer::NotHeld));
+        assert_eq!(collector.read_header(7), Err(Answer::NotHeld));
+        assert_eq!(collector.find(b"a"), Err(Answer::NotFound));
+        for transport in [7, 3, 5] {
+            answer(&mut collector, &header_group(transport, 0, true, &header));
+        }
+        assert_eq!(collector.show(7, Part::Body), Err(Answer::Unfinished));
+        assert_eq!(collector.read_header(7), Err(Answer::Unfinished));
+        assert_eq!(collector.find(b"a"), Err(Answer::NotFound));
+        answer(&mut collector, &body_group(7, 0, true, b"x"));
+        answer(&mut collector, &body_group(5, 0, true, b"y"));
+        assert_eq!(collector.show(7, Part::Header), Ok(&header[..]));
+        assert_eq!(collector.show(5, Part::Body), Ok(&b"y"[..]));
+        let reading = collector.read_header(7).unwrap();
+        assert_eq!((reading.priority, reading.name), (Some(5), Some(11..13)));
+        // 3 isn't finished, and 5 stands in a higher slot than 7.
+        assert_eq!(collector.find(b"/a"), Ok(5));
+        // Questions aren't counted.
+        assert_eq!(collector.counts.in_order(), [5, 0, 0, 2, 0]);
+    }
+
+    #[test]
+    fn counts_stay_at_the_most() {
+        let mut collector = opened(1);
+        collector.counts = Counts {
+            taken: MOST_COUNTED - 1,
+            repeated: MOST_COUNTED,
+            refused: MOST_COUNTED - 1,
+            completed: MOST_COUNTED,
+            dropped: MOST_COUNTED - 1,
+        };
+        let whole = says(1, 0);
+        for _ in 0..3 {
+            collector.take(&whole);
+            collector.take(&whole);
+            collector.take(&[]);
+            collector.drop_number(1);
+            collector.drop_number(1);
+        }
+        assert_eq!(collector.counts.in_order(), [MOST_COUNTED; 5]);
+    }
+}

@@ -1,0 +1,206 @@
+//! Groups to compare two readers on: valid, cut short, with bits turned over, of random bytes,
+//! with one field wrong, of every length, the ignored fields random throughout.
+
+use super::Random;
+use crate::group::{with_check, Fields, Part, SegmentField, LONGEST_SEGMENT};
+
+/// The lengths that are covered whatever the count: some bytes past the longest group too.
+pub const LONGEST_COVERED: usize = 8_220;
+
+/// `count` groups and, before them, two of each length up to `LONGEST_COVERED`.
+pub fn all(seed: u64, count: usize) -> impl Iterator<Item = Vec<u8>> {
+    let mut random = Random::from_seed(seed);
+    let lengths = (0..=LONGEST_COVERED).flat_map(|length| [length, length]);
+    let any = std::iter::repeat_n(None, count);
+    lengths
+        .map(Some)
+        .chain(any)
+        .map(move |length| match length {
+            Some(length) => of_length(&mut random, length),
+            None => any_group(&mut random),
+        })
+}
+
+/// A group of one of the sorts named above.
+pub fn any_group(random: &mut Random) -> Vec<u8> {
+    match random.within(0, 9) {
+        0..=2 => valid(random).whole(),
+        3 => cut_short(random),
+        4 => bits_turned(random),
+        5 => {
+            let length = short_length(random);
+            random.bytes(length)
+        }
+        6 => {
+            let length = short_length(random);
+            with_check(random.bytes(length))
+        }
+        _ => one_field_wrong(random),
+    }
+}
+
+/// A segment's fields that pass the reading checks, everything ignored random.
+pub fn valid(random: &mut Random) -> Fields {
+    let last = random.coin();
+    let least = if last { 1 } else { 16 };
+    let length = match random.within(0, 9) {
+        0 => least,
+        1 => 16,
+        2 => LONGEST_SEGMENT,
+        3 => random.within(least, LONGEST_SEGMENT),
+        _ => random.within(least, 200),
+    };
+    let bytes = random.bytes(length);
+    let part = random.one_of(&[Part::Header, Part::Body]);
+    let transport = random.word() as u16;
+    let number = random.word() as u16 & 0x7FFF;
+    with_ignored_fields(
+        random,
+        Fields::of_segment(transport, part, number, last, &bytes),
+    )
+}
+
+/// The same segment with random ignored fields: indices, extension, spare bits, repetition count
+/// and end user address.
+pub fn with_ignored_fields(random: &mut Random, mut fields: Fields) -> Fields {
+    fields.continuity = random.byte() & 0x0F;
+    fields.repetition = random.byte() & 0x0F;
+    fields.repetition_count = random.byte() & 0x07;
+    fields.extension = random.coin().then(|| [random.byte(), random.byte()]);
+    if let Some(access) = fields.user_access.as_mut() {
+        access.spare = random.byte() & 0x07;
+        let length = random.one_of(&[0, 0, 1, 4, 12, 13]);
+        access.address = random.bytes(length);
+        access.indicator = 2 + length as u8;
+    }
+    fields
+}
+
+/// A group of exactly this length, as right as the length allows: where a segment has room it is
+/// a valid one, and where it has not the fields stop early. Every fourth has its check word
+/// spoilt.
+pub fn of_length(random: &mut Random, length: usize) -> Vec<u8> {
+    let mut fields = valid(random);
+    fields.bytes.clear();
+    let around = fields.unchecked().len() + 2;
+    let room = length.saturating_sub(around);
+    fields.bytes = random.bytes(room);
+    fields.size = room as u16;
+    if room < 16 {
+        fields.segment = fields.segment.map(|field| SegmentField {
+            last: true,
+            ..field
+        });
+    }
+    let mut group = fields.unchecked();
+    group.truncate(length.saturating_sub(2));
+    let mut group = with_check(group);
+    if random.once_in(4) {
+        let place = group.len() - 1;
+        group[place] ^= 1 << random.within(0, 7);
+    }
+    group.truncate(length);
+    group
+}
+
+/// A valid group that ends too soon, in half the cases with a check word over what is left.
+fn cut_short(random: &mut Random) -> Vec<u8> {
+    let mut group = valid(random).unchecked();
+    let keep = random.within(0, group.len().min(40));
+    group.truncate(keep);
+    if random.coin() {
+        group = with_check(group);
+    }
+    group
+}
+
+/// A valid group with one to three bits turned over, near its start in half the cases.
+fn bits_turned(random: &mut Random) -> Vec<u8> {
+    let mut group = valid(random).whole();
+    for _ in 0..random.within(1, 3) {
+        let most = if random.coin() { 8 } else { group.len() - 1 };
+        let place = random.within(0, most);
+        group[place] ^= 1 << random.within(0, 7);
+    }
+    group
+}
+
+/// A group with one field wrong or at its bound and a right check word.
+pub fn one_field_wrong(random: &mut Random) -> Vec<u8> {
+    let mut fields = valid(random);
+    match random.within(0, 7) {
+        0 => fields.check_flag = false,
+        1 => fields.kind = random.byte() & 0x0F,
+        2 => fields.segment = None,
+        3 => fields.user_access = None,
+        4 => fields.user_access.as_mut().unwrap().transport_flag = false,
+        5 => fields.user_access.as_mut().unwrap().indicator = random.one_of(&[0, 1, 2, 3, 14, 15]),
+        6 => {
+            let right = fields.bytes.len() as u16;
+            fields.size = random.one_of(&[
+                0,
+                1,
+                15,
+                16,
+                right - 1,
+                right + 1,
+                8_189,
+                8_190,
+                8_191,
+                right ^ 0x1000,
+            ]);
+        }
+        _ => {
+            let length = random.one_of(&[0, 1, 15, 16, 8_189, 8_190, 8_191]);
+            fields.bytes = random.bytes(length);
+            fields.size = length as u16;
+            fields.segment.as_mut().unwrap().last = random.coin();
+        }
+    }
+    fields.whole()
+}
+
+fn short_length(random: &mut Random) -> usize {
+    if random.once_in(10) {
+        random.within(0, LONGEST_COVERED)
+    } else {
+        random.within(0, 40)
+    }
+}
+
+#[cfg(test)]
+mod tests {
+    use super::*;
+    use crate::group::{read, Refusal};
+    use std::collections::{HashMap, HashSet};
+
+    #[test]
+    fn every_length_and_every_reading_comes_up() {
+        let mut lengths = HashSet::new();
+        let mut readings: HashMap<Option<Refusal>, usize> = HashMap::new();
+        for group in all(1, 4_000) {
+            lengths.insert(group.len());
+            *readings.entry(read(&group).err()).or_default() += 1;
+        }
+        assert!((0..=LONGEST_COVERED).all(|length| lengths.contains(&length)));
+        assert!(readings[&None] > 5_000);
+        for refusal in Refusal::ALL {
+            assert!(readings[&Some(refusal)] > 50, "{refusal:?}: {readings:?}");
+        }
+    }
+
+    #[test]
+    fn valid_groups_read() {
+        let mut random = Random::from_seed(2);
+        for _ in 0..500 {
+            let fields = valid(&mut random);
+            let group = fields.whole();
+            let segment = read(&group).unwrap();
+            assert_eq!(segment.bytes(&group), fields.bytes);
+            assert_eq!(
+                Some(segment.transport),
+                fields.user_access.map(|access| access.transport)
+            );
+        }
+    }
+}

@@ -1,0 +1,412 @@
+//! Histories of calls, and of listing lines, to compare two collectors on. Objects are cut and
+//! sent, several numbers at a time and more of them than there are slots; segments come shuffled
+//! and repeated, spoilt in every field, or never; numbers are dropped and sent anew; and between
+//! them come damaged groups, questions and malformed lines.
+
+use super::{groups, headers, segments, Random};
+use crate::group::{Fields, Part};
+use crate::listing::{LIMIT, LONGEST_LINE, SLOTS};
+use crate::object::{cut, Core, Piece, BODY_SEGMENTS, CORE_LENGTH};
+
+/// One call of a collector that is open.
+#[derive(Clone, Debug, PartialEq, Eq)]
+pub enum Call {
+    Take(Vec<u8>),
+    Drop(u16),
+    Show(u16, Part),
+    ReadHeader(u16),
+    Find(Vec<u8>),
+}
+
+/// An object that some station sends under a number.
+struct Station {
+    transport: u16,
+    /// All that one round of the carousel sends, and how far it has come.
+    segments: Vec<(Part, Piece)>,
+    sent: usize,
+}
+
+impl Station {
+    fn new(random: &mut Random, transport: u16, limit: usize) -> Station {
+        let mut segments = if random.once_in(12) {
+            let set = segments::near_the_bounds(random, limit);
+            of_both_parts(set.header, set.body)
+        } else {
+            let (header, body) = object(random, limit);
+            let header_size = cut_size(random, header.len(), 64);
+            let body_size = cut_size(random, body.len(), BODY_SEGMENTS);
+            of_both_parts(cut(&header, header_size), cut(&body, body_size))
+        };
+        if !random.once_in(4) {
+            random.shuffle(&mut segments);
+        }
+        Station {
+            transport,
+            segments,
+            sent: 0,
+        }
+    }
+
+    /// The next segment of the round, if there is one.
+    fn next(&mut self) -> Option<(Part, Piece)> {
+        let segment = self.segments.get(self.sent)?.clone();
+        self.sent += 1;
+        Some(segment)
+    }
+
+    /// Any segment that was sent already.
+    fn again(&self, random: &mut Random) -> Option<(Part, Piece)> {
+        let place = random.within(0, self.sent.checked_sub(1)?);
+        Some(self.segments[place].clone())
+    }
+
+    /// After a whole round the carousel goes round again, or the number is dropped for the next
+    /// object.
+    fn after_a_round(&mut self, random: &mut Random, limit: usize) -> Call {
+        if random.coin() {
+            *self = Station::new(random, self.transport, limit);
+            Call::Drop(self.transport)
+        } else {
+            self.sent = 0;
+            Call::Find(headers::name(random))
+        }
+    }
+}
+
+fn of_both_parts(header: Vec<Piece>, body: Vec<Piece>) -> Vec<(Part, Piece)> {
+    let header = header.into_iter().map(|piece| (Part::Header, piece));
+    let body = body.into_iter().map(|piece| (Part::Body, piece));
+    header.chain(body).collect()
+}
+
+/// A header and a body; in one of eight the core tells something else than the lengths.
+fn object(random: &mut Random, limit: usize) -> (Vec<u8>, Vec<u8>) {
+    let body_length = match random.within(0, 11) {
+        0 => 0,
+        1 => limit,
+        2 => random.within(0, limit),
+        3 => limit + 1,
+        _ => random.within(1, 300),
+    };
+    let mut header = headers::well_formed(random, body_length);
+    if random.once_in(3) {
+        // A list of any kind, for the questions about a header that doesn't read.
+        let other = headers::any_header(random);
+        header.truncate(CORE_LENGTH);
+        header.extend(other.get(CORE_LENGTH..).unwrap_or_default());
+    } else if random.once_in(6) {
+        // A longer header, by an unknown parameter at its end.
+        let length = random.one_of(&[16, 17, 1_023, 1_024, 1_025, 600]);
+        if header.len() + 4 < length {
+            let data = (length - header.len() - 3) as u16;
+            header.push(0xFF);
+            header.extend((0x8000 | data).to_be_bytes());
+            let filler = random.bytes(usize::from(data));
+            header.extend(filler);
+        }
+    }
+    let mut core = Core::of(&header).expect("a well-formed header has a core");
+    core.header_size = header.len();
+    if random.once_in(8) {
+        match random.within(0, 3) {
+            0 => core.body_size += 1,
+            1 => core.body_size = core.body_size.saturating_sub(1),
+            2 => core.header_size += 1,
+            _ => core.header_size -= 1,
+        }
+    }
+    header[..CORE_LENGTH].copy_from_slice(&core.bytes());
+    let body = random.bytes(body_length);
+    (header, body)
+}
+
+/// A segment size that cuts this length into few segments, now and then into as many as can be.
+fn cut_size(random: &mut Random, length: usize, segments: usize) -> usize {
+    let size = match random.within(0, 9) {
+        0 => 16,
+        1 => length,
+        2 => length.div_ceil(segments),
+        3 => random.within(16, 8_189),
+        _ => length / random.within(1, 5),
+    };
+    // A size under the least would make 2,000 segments and more of a long body.
+    size.clamp(length.div_ceil(segments + 1).clamp(16, 8_189), 8_189)
+}
+
+/// The same segment with one thing about it changed.
+fn spoilt(random: &mut Random, (mut part, mut piece): (Part, Piece)) -> (Part, Piece) {
+    match random.within(0, 8) {
+        0 => piece.number = (piece.number + 1) & 0x7FFF,
+        1 => piece.number = piece.number.saturating_sub(1),
+        2 => piece.number = random.one_of(&[63, 64, 1_023, 1_024, 32_767]),
+        3 if piece.bytes.len() >= 16 => piece.last = !piece.last,
+        4 if piece.bytes.len() < 8_189 => piece.bytes.push(0),
+        5 if piece.bytes.len() > 16 => {
+            piece.bytes.pop();
+        }
+        6 => {
+            part = match part {
+                Part::Header => Part::Body,
+                Part::Body => Part::Header,
+            };
+        }
+        7 if part == Part::Header => piece.bytes[0] ^= 1 << random.within(0, 7),
+        _ => {
+            let place = random.within(0, piece.bytes.len() - 1);
+            piece.bytes[place] ^= 1 << random.within(0, 7);
+        }
+    }
+    (part, piece)
+}
+
+/// A group of this segment, its ignored fields random in half the cases.
+fn group_of(random: &mut Random, transport: u16, (part, piece): (Part, Piece)) -> Vec<u8> {
+    let fields = Fields::of_segment(transport, part, piece.number, piece.last, &piece.bytes);
+    if random.coin() {
+        groups::with_ignored_fields(random, fields).whole()
+    } else {
+        fields.whole()
+    }
+}
+
+/// `count` calls of a collector opened with this limit and so many slots.
+pub fn calls(random: &mut Random, limit: usize, slots: usize, count: usize) -> Vec<Call> {
+    let mut numbers = vec![0, 0xFFFF, 5];
+    numbers.extend((0..slots + 2).map(|_| random.word() as u16));
+    random.shuffle(&mut numbers);
+    numbers.truncate(random.within(1, slots + 2));
+    let mut stations: Vec<Station> = numbers
+        .iter()
+        .map(|&transport| Station::new(random, transport, limit))
+        .collect();
+    (0..count)
+        .map(|_| {
+            let place = random.within(0, stations.len() - 1);
+            call(random, &mut stations[place], limit)
+        })
+        .collect()
+}
+
+/// The next call, most likely the next segment that this station sends.
+fn call(random: &mut Random, station: &mut Station, limit: usize) -> Call {
+    let transport = station.transport;
+    let segment = match random.within(0, 99) {
+        0..=59 => station.next(),
+        60..=66 => station.again(random),
+        67..=74 => station.again(random).map(|segment| spoilt(random, segment)),
+        75..=78 => return Call::Take(groups::any_group(random)),
+        79..=83 => return Call::Take(groups::one_field_wrong(random)),
+        84..=86 => {
+            *station = Station::new(random, transport, limit);
+            return Call::Drop(transport);
+        }
+        // Another object under the same number, the old one not dropped.
+        87 => {
+            *station = Station::new(random, transport, limit);
+            station.next()
+        }
+        88 => return Call::Drop(random.word() as u16),
+        89..=91 => return Call::Show(transport, Part::Header),
+        92..=94 => return Call::Show(transport, Part::Body),
+        95..=96 => return Call::ReadHeader(transport),
+        97 => return Call::ReadHeader(random.word() as u16),
+        _ => return Call::Find(headers::name(random)),
+    };
+    match segment {
+        Some(segment) => Call::Take(group_of(random, transport, segment)),
+        None => station.after_a_round(random, limit),
+    }
+}
+
+fn hex(letter: u8, bytes: &[u8]) -> Vec<u8> {
+    let digits: String = bytes.iter().map(|byte| format!("{byte:02x}")).collect();
+    [&[letter, b'\t'], digits.as_bytes()].concat()
+}
+
+/// A line for a call; a question, which the listing doesn't know, becomes a malformed line.
+fn line(random: &mut Random, call: Call) -> Vec<u8> {
+    let line = match call {
+        Call::Take(group) if group.len() >= 2 && random.once_in(3) => {
+            hex(b'B', &group[..group.len() - 2])
+        }
+        Call::Take(group) => hex(b'G', &group),
+        Call::Drop(transport) => hex(b'D', &transport.to_be_bytes()),
+        Call::Show(transport, _) | Call::ReadHeader(transport) => {
+            return malformed(random, hex(b'D', &transport.to_be_bytes()))
+        }
+        Call::Find(name) => return malformed(random, hex(b'B', &name)),
+    };
+    if random.once_in(40) {
+        malformed(random, line)
+    } else {
+        line
+    }
+}
+
+/// This line made wrong in some way.
+fn malformed(random: &mut Random, mut line: Vec<u8>) -> Vec<u8> {
+    match random.within(0, 11) {
+        0 => line.clear(),
+        1 => line.push(b'\r'),
+        2 => line.push(b'0'),
+        3 => line[1] = b' ',
+        4 => line.insert(1, b'\t'),
+        5 => line.truncate(1),
+        6 => line[0] = random.one_of(b"ACEFHTgbd0\t "),
+        7 => line.make_ascii_uppercase(),
+        8 => line.extend(b"0A"),
+        9 => line.extend([0xC3, 0xA9]),
+        10 => {
+            let length = LONGEST_LINE + random.within(0, 3);
+            line.resize(length, b'0');
+        }
+        _ => {
+            let place = random.within(0, line.len() - 1);
+            let byte = random.byte();
+            line[place] = if byte == b'\n' { b'x' } else { byte };
+        }
+    }
+    line
+}
+
+/// So many lines for the listing program, now and then without the newline at the end.
+pub fn listing(random: &mut Random, lines: usize) -> Vec<u8> {
+    let calls = calls(random, LIMIT, SLOTS, lines);
+    let mut text = Vec::new();
+    for call in calls {
+        text.extend(line(random, call));
+        text.push(b'\n');
+    }
+    if random.once_in(4) && !text.ends_with(b"\n\n") {
+        text.pop();
+    }
+    text
+}
+
+#[cfg(test)]
+mod tests {
+    use super::*;
+    use crate::answer::Answer;
+    use crate::collector::{Collector, Memory};
+    use std::collections::{HashMap, HashSet};
+
+    #[test]
+    fn every_answer_of_the_listing_comes_up() {
+        let mut random = Random::from_seed(11);
+        let mut tally: HashMap<String, usize> = HashMap::new();
+        for _ in 0..60 {
+            let text = listing(&mut random, 80);
+            let mut output = Vec::new();
+            crate::listing::run(&text[..], &mut output).unwrap();
+            let output = String::from_utf8(output).unwrap();
+            assert_eq!(output.lines().count(), 81);
+            for line in output.lines().filter(|line| !line.starts_with('T')) {
+                let answer = line.split(' ').nth(1).unwrap();
+                *tally.entry(answer.to_string()).or_default() += 1;
+            }
+        }
+        for answer in [
+            "STORED",
+            "COMPLETE",
+            "REPEAT",
+            "DROPPED",
+            "LENGTH",
+            "NOCHECK",
+            "BADCHECK",
+            "KIND",
+            "NOSEGMENT",
+            "ADDRESS",
+            "SIZE",
+            "CONFLICT",
+            "FULL",
+            "NOTHELD",
+            "LINE",
+        ] {
+            assert!(tally.get(answer) > Some(&5), "{answer}: {tally:?}");
+        }
+    }
+
+    /// Every answer to a group, a drop or a question that a sound state can give, but CORE: a
+    /// finished header always has its seven bytes.
+    #[test]
+    fn every_answer_of_the_collector_comes_up() {
+        let mut seen = HashSet::new();
+        for (seed, limit) in [(12, 1_024), (13, 12_288), (14, 65_536), (15, 1_048_576)] {
+            let mut random = Random::from_seed(seed);
+            for slots in [1, 2, 3, 5, 16] {
+                let memory = Memory::filled(limit, slots, 0);
+                let mut collector = Collector::open(limit, slots, memory).unwrap();
+                for call in calls(&mut random, limit, slots, 300) {
+                    let answer = match call {
+                        Call::Take(group) => Some(collector.take(&group).answer),
+                        Call::Drop(transport) => Some(collector.drop_number(transport).answer),
+                        Call::Show(transport, part) => collector.show(transport, part).err(),
+                        Call::ReadHeader(transport) => collector.read_header(transport).err(),
+                        Call::Find(name) => collector.find(&name).err(),
+                    };
+                    seen.extend(answer);
+                }
+            }
+        }
+        let never = [Answer::Core, Answer::Limits, Answer::State];
+        for answer in Answer::ALL {
+            assert_eq!(
+                seen.contains(&answer),
+                !never.contains(&answer),
+                "{answer:?}"
+            );
+        }
+    }
+
+    /// Objects that are what their cores say never conflict, in whatever order they come, and
+    /// are shown as they were sent.
+    #[test]
+    fn real_cuts_are_finished_and_shown() {
+        let mut random = Random::from_seed(16);
+        for _ in 0..60 {
+            let limit = random.one_of(&[1_024, 12_288, 65_536]);
+            let slots = random.within(1, 4);
+            let memory = Memory::filled(limit, slots, random.byte());
+            let mut collector = Collector::open(limit, slots, memory).unwrap();
+            let objects: Vec<(Vec<u8>, Vec<u8>)> = (0..slots)
+                .map(|_| {
+                    let body_length = random.within(0, limit);
+                    let body = random.bytes(body_length);
+                    (headers::well_formed(&mut random, body_length), body)
+                })
+                .collect();
+            let mut to_send = Vec::new();
+            for (transport, (header, body)) in objects.iter().enumerate() {
+                let header_size = cut_size(&mut random, header.len(), 64);
+                let least = body.len().div_ceil(BODY_SEGMENTS).max(16);
+                let body_size = cut_size(&mut random, body.len(), BODY_SEGMENTS).max(least);
+                let segments = of_both_parts(cut(header, header_size), cut(body, body_size));
+                to_send.extend(segments.into_iter().map(|each| (transport as u16, each)));
+            }
+            random.shuffle(&mut to_send);
+            let mut came = vec![0; slots];
+            let all: Vec<usize> = (0..slots)
+                .map(|slot| to_send.iter().filter(|each| each.0 == slot as u16).count())
+                .collect();
+            for (transport, segment) in to_send {
+                let group = group_of(&mut random, transport, segment);
+                came[usize::from(transport)] += 1;
+                let whole = came[usize::from(transport)] == all[usize::from(transport)];
+                let expected = if whole {
+                    Answer::Complete
+                } else {
+                    Answer::Stored
+                };
+                assert_eq!(collector.take(&group).answer, expected);
+                if random.once_in(3) {
+                    assert_eq!(collector.take(&group).answer, Answer::Repeat);
+                }
+            }
+            for (transport, (header, body)) in objects.iter().enumerate() {
+                let transport = transport as u16;
+                assert_eq!(collector.show(transport, Part::Header), Ok(&header[..]));
+                assert_eq!(collector.show(transport, Part::Body), Ok(&body[..]));
+            }
+        }
+    }
+}
