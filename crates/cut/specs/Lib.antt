@@ -1,3 +1,4 @@
 pub mod Lists
 pub mod Requirement
 pub mod LawsCore
+pub mod LawsSegment
