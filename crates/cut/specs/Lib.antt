@@ -1,4 +1,6 @@
 pub mod Lists
 pub mod Requirement
+pub mod Decision
 pub mod LawsCore
 pub mod LawsSegment
+pub mod LawsDecision
