@@ -4,3 +4,4 @@ pub mod Decision
 pub mod LawsCore
 pub mod LawsSegment
 pub mod LawsDecision
+pub mod LawsObject
