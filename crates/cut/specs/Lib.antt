@@ -5,3 +5,4 @@ pub mod LawsCore
 pub mod LawsSegment
 pub mod LawsDecision
 pub mod LawsObject
+pub mod Theorem
