@@ -36,19 +36,28 @@ boundsOf Body limit Unseen = record { least = 0; most = limit; numbers = bodyNum
 boundsOf Body limit (Seen body header) = record { least = body; most = body; numbers = bodyNumbers }
 
 -- the sizes that the header says are within the bounds
+abbrev pub coreTests : ℕ → Core → List Bool
+coreTests limit Unseen = []
+coreTests limit (Seen body header) = leb headerLeast header ∷ leb header headerMost ∷ leb body limit ∷ []
+
 unfoldable pub coreFits : ℕ → Core → Bool
-coreFits limit Unseen = true
-coreFits limit (Seen body header) = all (leb headerLeast header ∷ leb header headerMost ∷ leb body limit ∷ [])
+coreFits limit c = all (coreTests limit c)
 
 -- ---- one part
 
--- how many numbers a full segment may have, from 0: the last one isn't in
-abbrev pub roomOpen : Bounds → ℕ → ℕ
-roomOpen b size = pick (all (leb sizeLeast size ∷ leb size sizeMost ∷ leb (b .least) (b .most) ∷ leb (b .least) (b .numbers * size) ∷ [])) (min (b .numbers - 1) ((b .most - 1) / size)) 0
+-- full segments of a size can be: the last one is not in, or is number n with tail bytes
+abbrev pub openTests : Bounds → ℕ → List Bool
+openTests b size = leb sizeLeast size ∷ leb size sizeMost ∷ leb (b .least) (b .most) ∷ leb (b .least) (b .numbers * size) ∷ []
 
--- the same, where number n is the last one, with tail bytes
+abbrev pub endedTests : Bounds → ℕ → ℕ → ℕ → List Bool
+endedTests b size n tail = leb sizeLeast size ∷ leb size sizeMost ∷ leb 1 tail ∷ leb tail size ∷ leb (suc n) (b .numbers) ∷ leb (n * size + tail) (b .most) ∷ leb (b .least) (n * size + tail) ∷ []
+
+-- how many numbers they may have, from 0: one more byte and one more number come after each; the last one comes after all
+abbrev pub roomOpen : Bounds → ℕ → ℕ
+roomOpen b size = pick (all (openTests b size)) (min (b .numbers - 1) ((b .most - 1) / size)) 0
+
 abbrev pub roomEnded : Bounds → ℕ → ℕ → ℕ → ℕ
-roomEnded b size n tail = pick (all (leb sizeLeast size ∷ leb size sizeMost ∷ leb 1 tail ∷ leb tail size ∷ leb (suc n) (b .numbers) ∷ leb (b .least) (n * size + tail) ∷ leb (n * size + tail) (b .most) ∷ [])) n 0
+roomEnded b size n tail = pick (all (endedTests b size n tail)) n 0
 
 abbrev pub roomAs : Bounds → ℕ → ℕ → ℕ → ℕ
 roomAs b size zero tail = roomOpen b size
@@ -61,14 +70,23 @@ room b p = roomAs b (p .size) (p .end) (p .tail)
 unfoldable pub largest : Bounds → ℕ → ℕ → ℕ
 largest b n tail = min sizeMost ((b .most - tail) / n)
 
--- no full segment is in: nothing, or the last one alone, which is number 0 or a higher one
-abbrev pub aloneAs : Bounds → ℕ → ℕ → Bool
-aloneAs b zero tail = all (leb (b .least) (b .most) ∷ leb (b .least) (b .numbers * sizeMost) ∷ [])
-aloneAs b (suc zero) tail = all (leb 1 tail ∷ leb tail sizeMost ∷ leb 1 (b .numbers) ∷ leb (b .least) tail ∷ leb tail (b .most) ∷ [])
-aloneAs b (suc (suc n)) tail = all (leb 1 tail ∷ leb tail (b .most) ∷ leb (suc (suc n)) (b .numbers) ∷ leb sizeLeast (largest b (suc n) tail) ∷ leb tail (largest b (suc n) tail) ∷ leb (b .least) (suc n * largest b (suc n) tail + tail) ∷ [])
+-- no full segment is in: nothing is, or the last one alone, as number 0 or as a later number n
+abbrev pub nothingTests : Bounds → List Bool
+nothingTests b = leb (b .least) (b .most) ∷ leb (b .least) (b .numbers * sizeMost) ∷ []
+
+abbrev pub firstTests : Bounds → ℕ → List Bool
+firstTests b tail = leb 1 tail ∷ leb tail sizeMost ∷ leb 1 (b .numbers) ∷ leb (b .least) tail ∷ leb tail (b .most) ∷ []
+
+abbrev pub laterTests : Bounds → ℕ → ℕ → List Bool
+laterTests b n tail = leb 1 tail ∷ leb tail (b .most) ∷ leb (suc n) (b .numbers) ∷ leb sizeLeast (largest b n tail) ∷ leb tail (largest b n tail) ∷ leb (b .least) (n * largest b n tail + tail) ∷ []
+
+abbrev pub aloneTests : Bounds → ℕ → ℕ → List Bool
+aloneTests b zero tail = nothingTests b
+aloneTests b (suc zero) tail = firstTests b tail
+aloneTests b (suc (suc n)) tail = laterTests b (suc n) tail
 
 unfoldable pub alone : Bounds → Part → Bool
-alone b p = aloneAs b (p .end) (p .tail)
+alone b p = all (aloneTests b (p .end) (p .tail))
 
 -- some length and size within the bounds suit what is in
 abbrev pub possible : Bounds → ℕ → Part → Bool
@@ -107,10 +125,13 @@ abbrev pub someFull : Summary → Bool
 someFull σ = leb 1 (σ .top)
 
 -- the record: S from a full segment, else from the part's length and the last one; the bounds alone never give it
+abbrev pub divided : Bounds → ℕ → ℕ → ℕ
+divided b n tail = pick (eqb (b .least) (b .most)) ((b .most - tail) / n) 0
+
 abbrev pub derived : Bounds → ℕ → ℕ → ℕ
 derived b zero tail = 0
 derived b (suc zero) tail = 0
-derived b (suc (suc n)) tail = pick (eqb (b .least) (b .most)) ((b .most - tail) / suc n) 0
+derived b (suc (suc n)) tail = divided b (suc n) tail
 
 unfoldable pub settle : Bounds → Bool → Part → Part
 settle b full p = record { size = pick full (p .size) (derived b (p .end) (p .tail)); end = p .end; tail = p .tail }
@@ -125,8 +146,11 @@ coreOf [] = Unseen
 coreOf (s ∷ ss) = coreAfter s (coreOf ss)
 
 -- what is kept of the header and of the body suits some object and cut
+abbrev pub suitTests : ℕ → Core → Summary → Summary → List Bool
+suitTests limit c σ τ = coreFits limit c ∷ possible (boundsOf Header limit c) (σ .top) (σ .part) ∷ possible (boundsOf Body limit c) (τ .top) (τ .part) ∷ []
+
 unfoldable pub suits : ℕ → Core → Summary → Summary → Bool
-suits limit c σ τ = all (coreFits limit c ∷ possible (boundsOf Header limit c) (σ .top) (σ .part) ∷ possible (boundsOf Body limit c) (τ .top) (τ .part) ∷ [])
+suits limit c σ τ = all (suitTests limit c σ τ)
 
 -- THE DECISION: a segment of a new number fits what is kept
 abbrev pub accepts : Kind → ℕ → Core → Summary → Summary → Segment → Bool

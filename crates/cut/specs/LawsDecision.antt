@@ -14,7 +14,7 @@ use Rattle.cut.specs.Lists.{Each}
 use Rattle.cut.specs.Requirement.{sizeLeast, sizeMost, Segment}
 use Rattle.cut.specs.declared.Bounds.{Bounds}
 use Rattle.cut.specs.declared.Part.{Part}
-use Rattle.cut.specs.Decision.{pick, both, all, roomOpen, roomEnded, roomAs, room, largest, aloneAs, alone, possible, Summary, addPart, addTop, addTo, summary}
+use Rattle.cut.specs.Decision.{pick, both, all, openTests, endedTests, roomAs, room, largest, nothingTests, firstTests, laterTests, aloneTests, alone, possible, Summary, addPart, addTop, addTo, summary}
 use Rattle.cut.specs.LawsSegment.{SitsAs, Sits, Within, PartSits}
 
 -- ---- tests
@@ -37,7 +37,21 @@ pub true-all : (bs : List Bool) → Each (λ b. b ≡ true) bs → all bs ≡ tr
 true-all [] e = refl
 true-all (b ∷ bs) e = true-both b (all bs) (e .0) (true-all bs (e .1))
 
+-- a test fails: not every one passes
+pub some-fails : (bs : List Bool) → ¬ (Each (λ b. b ≡ true) bs) → all bs ≡ false
+some-fails bs h = go (all bs) refl
+  where
+    go : (b : Bool) → all bs ≡ b → b ≡ false
+    go true e = absurd (h (all-true bs e))
+    go false e = refl
+
 -- a number that is 0 unless every test passes
+pub pick-fails : (bs : List Bool) (v : ℕ) → ¬ (Each (λ b. b ≡ true) bs) → 0 ≡ pick (all bs) v 0
+pick-fails bs v h = rw (some-fails bs h) refl
+
+pub pick-passes : (bs : List Bool) (v : ℕ) → Each (λ b. b ≡ true) bs → v ≡ pick (all bs) v 0
+pick-passes bs v h = rw (true-all bs h) refl
+
 pick-some : (c : Bool) (v t : ℕ) → suc t ≤ pick c v 0 → (c ≡ true) × (suc t ≤ v)
 pick-some true v t h = (refl, h)
 pick-some false v t h = absurd (omega arith)
@@ -149,7 +163,7 @@ below : (S n m : ℕ) → n * S < m * S → n < m
 below S n m h = lt-of-mul-lt-mul-right S h
 
 -- the largest size that keeps within the bounds
-largest-high : (b : Bounds) (n k : ℕ) → (largest b n k ≤ sizeMost) × (n * largest b n k ≤ b .most - k)
+pub largest-high : (b : Bounds) (n k : ℕ) → (largest b n k ≤ sizeMost) × (n * largest b n k ≤ b .most - k)
 unfolding largest
 largest-high b n k =
     let h : largest b n k ≤ (b .most - k) / n = omega arith in
@@ -162,35 +176,28 @@ largest-most b n k S z a h =
     let f : S ≤ (b .most - k) / n = le-div-iff-mul-le {k = n} {x = S} {y = b .most - k} z .1 g in
     omega arith
 
-tests-open : Bounds → ℕ → List Bool
-tests-open b size = leb sizeLeast size ∷ leb size sizeMost ∷ leb (b .least) (b .most) ∷ leb (b .least) (b .numbers * size) ∷ []
-
-tests-ended : Bounds → ℕ → ℕ → ℕ → List Bool
-tests-ended b size n tail = leb sizeLeast size ∷ leb size sizeMost ∷ leb 1 tail ∷ leb tail size ∷ leb (suc n) (b .numbers) ∷ leb (b .least) (n * size + tail) ∷ leb (n * size + tail) (b .most) ∷ []
-
 -- the tests pass where a size and a length suit
 module _ (b : Bounds) (S L : ℕ) (w : Within (b .least) (b .most) (b .numbers) S L) where
-  alone-passes : (end tail : ℕ) → EndSits S L end tail → aloneAs b end tail ≡ true
-  alone-passes zero tail e = true-all (leb (b .least) (b .most) ∷ leb (b .least) (b .numbers * sizeMost) ∷ []) (let h : b .numbers * S ≤ b .numbers * sizeMost = mul-le-mul-left (b .numbers) (w .high) in omega (arith, le-leb, w .long, w .short, w .enough))
-  alone-passes (suc zero) tail e = true-all (leb 1 tail ∷ leb tail sizeMost ∷ leb 1 (b .numbers) ∷ leb (b .least) tail ∷ leb tail (b .most) ∷ []) (
+  alone-passes : (end tail : ℕ) → EndSits S L end tail → all (aloneTests b end tail) ≡ true
+  alone-passes zero tail e = true-all (nothingTests b) (let h : b .numbers * S ≤ b .numbers * sizeMost = mul-le-mul-left (b .numbers) (w .high) in omega (arith, le-leb, w .long, w .short, w .enough))
+  alone-passes (suc zero) tail e = true-all (firstTests b tail) (
       let z : 0 * S ≡ 0 = zero-mul S in
       let n : 0 < b .numbers = below S 0 (b .numbers) (omega (arith, w .enough)) in
       omega (arith, le-leb, w .long, w .short, w .high))
-  alone-passes (suc (suc n)) tail e = true-all (leb 1 tail ∷ leb tail (b .most) ∷ leb (suc (suc n)) (b .numbers) ∷ leb sizeLeast (largest b (suc n) tail) ∷ leb tail (largest b (suc n) tail) ∷ leb (b .least) (suc n * largest b (suc n) tail + tail) ∷ []) (
+  alone-passes (suc (suc n)) tail e = true-all (laterTests b (suc n) tail) (
       let m : S ≤ largest b (suc n) tail = largest-most b (suc n) tail S (omega arith) (w .high) (omega (arith, w .short)) in
       let h : suc n * S ≤ suc n * largest b (suc n) tail = mul-le-mul-left (suc n) m in
       let g : suc n < b .numbers = below S (suc n) (b .numbers) (omega (arith, w .enough)) in
       omega (arith, le-leb, w .long, w .short, w .low))
 
   room-passes : (t end tail : ℕ) → suc t * S < L → EndSits S L end tail → suc t ≤ roomAs b S end tail
-  unfolding tests-open tests-ended
-  room-passes t zero tail f e = some-pick (all (tests-open b S)) (min (b .numbers - 1) ((b .most - 1) / S)) t
-      (true-all (tests-open b S) (omega (arith, le-leb, w .long, w .short, w .low, w .high, w .enough)))
+  room-passes t zero tail f e = some-pick (all (openTests b S)) (min (b .numbers - 1) ((b .most - 1) / S)) t
+      (true-all (openTests b S) (omega (arith, le-leb, w .long, w .short, w .low, w .high, w .enough)))
       (let n : suc t < b .numbers = below S (suc t) (b .numbers) (omega (arith, w .enough)) in
       let g : suc t ≤ (b .most - 1) / S = le-div-iff-mul-le {k = S} {x = suc t} {y = b .most - 1} (omega (arith, w .low)) .1 (omega (arith, w .short)) in
       omega arith)
-  room-passes t (suc n) tail f e = some-pick (all (tests-ended b S n tail)) n t
-      (true-all (tests-ended b S n tail) (let g : n < b .numbers = below S n (b .numbers) (omega (arith, w .enough)) in omega (arith, le-leb, w .long, w .short, w .low, w .high)))
+  room-passes t (suc n) tail f e = some-pick (all (endedTests b S n tail)) n t
+      (true-all (endedTests b S n tail) (let g : n < b .numbers = below S n (b .numbers) (omega (arith, w .enough)) in omega (arith, le-leb, w .long, w .short, w .low, w .high)))
       (let h : t * S < n * S = omega arith in below S t n h)
 
 suits-possible : (b : Bounds) (top : ℕ) (p : Part) → Suits b top (p .size) (p .end) (p .tail) → possible b top p ≡ true
@@ -199,17 +206,17 @@ suits-possible b zero p s = alone-passes b (s .cut) (s .long) (s .within) (p .en
 suits-possible b (suc t) p s = le-leb (suc t) (roomAs b (p .size) (p .end) (p .tail)) (rw (s .full .0) (room-passes b (s .cut) (s .long) (s .within) t (p .end) (p .tail) (s .full .1) (s .ended)))
 
 -- where they pass, a size and a length suit
-alone-suits : (b : Bounds) (size end tail : ℕ) → aloneAs b end tail ≡ true → Suits b 0 size end tail
+alone-suits : (b : Bounds) (size end tail : ℕ) → all (aloneTests b end tail) ≡ true → Suits b 0 size end tail
 alone-suits b size zero tail e =
-    let r = all-true (leb (b .least) (b .most) ∷ leb (b .least) (b .numbers * sizeMost) ∷ []) e in
+    let r = all-true (nothingTests b) e in
     record { cut = sizeMost; long = b .least; within = record { long = omega arith; short = omega (arith, leb-true); low = omega arith; high = omega arith; enough = omega (arith, leb-true) }; full = tt; ended = tt }
 alone-suits b size (suc zero) tail e =
-    let r = all-true (leb 1 tail ∷ leb tail sizeMost ∷ leb 1 (b .numbers) ∷ leb (b .least) tail ∷ leb tail (b .most) ∷ []) e in
+    let r = all-true (firstTests b tail) e in
     let z : 0 * sizeMost ≡ 0 = zero-mul sizeMost in
     let n : 1 ≤ b .numbers = omega (arith, leb-true) in
     record { cut = sizeMost; long = tail; within = record { long = omega (arith, leb-true); short = omega (arith, leb-true); low = omega arith; high = omega arith; enough = omega (arith, leb-true, mul-le-mul-right sizeMost n) }; full = tt; ended = (omega arith, omega (arith, leb-true), omega (arith, leb-true)) }
 alone-suits b size (suc (suc n)) tail e =
-    let r = all-true (leb 1 tail ∷ leb tail (b .most) ∷ leb (suc (suc n)) (b .numbers) ∷ leb sizeLeast (largest b (suc n) tail) ∷ leb tail (largest b (suc n) tail) ∷ leb (b .least) (suc n * largest b (suc n) tail + tail) ∷ []) e in
+    let r = all-true (laterTests b (suc n) tail) e in
     let h = largest-high b (suc n) tail in
     let g : suc (suc n) ≤ b .numbers = omega (arith, leb-true) in
     record {
@@ -221,10 +228,9 @@ alone-suits b size (suc (suc n)) tail e =
     }
 
 room-suits : (b : Bounds) (t size end tail : ℕ) → suc t ≤ roomAs b size end tail → Suits b (suc t) size end tail
-unfolding tests-open tests-ended
 room-suits b t size zero tail h =
-    let p = pick-some (all (tests-open b size)) (min (b .numbers - 1) ((b .most - 1) / size)) t h in
-    let r = all-true (tests-open b size) (p .0) in
+    let p = pick-some (all (openTests b size)) (min (b .numbers - 1) ((b .most - 1) / size)) t h in
+    let r = all-true (openTests b size) (p .0) in
     let z : 0 < size = omega (arith, leb-true) in
     let g : suc t ≤ (b .most - 1) / size = omega (arith, p .1) in
     let f : suc t * size ≤ b .most - 1 = le-div-iff-mul-le {k = size} {x = suc t} {y = b .most - 1} z .0 g in
@@ -237,8 +243,8 @@ room-suits b t size zero tail h =
       ended = tt;
     }
 room-suits b t size (suc n) tail h =
-    let p = pick-some (all (tests-ended b size n tail)) n t h in
-    let r = all-true (tests-ended b size n tail) (p .0) in
+    let p = pick-some (all (endedTests b size n tail)) n t h in
+    let r = all-true (endedTests b size n tail) (p .0) in
     let g : suc n ≤ b .numbers = omega (arith, leb-true) in
     record {
       cut = size;

@@ -14,7 +14,7 @@ use Rattle.cut.specs.declared.Kind.the-variants.{Header, Body}
 use Rattle.cut.specs.declared.Core.{Core}
 use Rattle.cut.specs.declared.Core.the-variants.{Unseen, Seen}
 use Rattle.cut.specs.declared.Bounds.{Bounds}
-use Rattle.cut.specs.Decision.{pick, all, boundsOf, coreFits, possible, Summary, summary, coreAfter, coreOf, suits}
+use Rattle.cut.specs.Decision.{pick, all, boundsOf, coreTests, coreFits, possible, Summary, summary, coreAfter, coreOf, suitTests, suits}
 use Rattle.cut.specs.LawsCore.{coreBytes, core-body, core-header, core-is-bytes, front-body, front-header}
 use Rattle.cut.specs.LawsSegment.{Sits, Agree, Within, PartFits, PartSits, fits-sits, sits-fits, sends-agree, sends-sits, sent-bytes, fill, fill-length, fill-bytes, fill-sends, fill-front}
 use Rattle.cut.specs.LawsDecision.{Clear, all-true, true-all, sits-possible, possible-sits}
@@ -88,7 +88,7 @@ module _ (limit : ℕ) (hs bs : List Segment) (f : Fits limit hs bs) where
   core-sits (Seen B H) i =
       let h : H ≡ length (f .header) = i .1 ∙ o .saysHeader in
       let b : B ≡ length (f .body) = i .0 ∙ o .saysBody in
-      true-all (leb headerLeast H ∷ leb H headerMost ∷ leb B limit ∷ []) (omega (arith, le-leb, o .headerLow, o .headerHigh, o .bodyHigh))
+      true-all (coreTests limit (Seen B H)) (omega (arith, le-leb, o .headerLow, o .headerHigh, o .bodyHigh))
 
   core-now : CoreIs (f .header) (coreOf hs)
   core-now = core-is (f .header) (f .headerCut) hs (f .headerCuts .low) (f .headerSent)
@@ -100,7 +100,7 @@ module _ (limit : ℕ) (hs bs : List Segment) (f : Fits limit hs bs) where
     headerClear = header-sits (coreOf hs) core-now .0;
     bodyAgree = sends-agree (f .body) (f .bodyCut) bs (f .bodySent);
     bodyClear = body-sits (coreOf hs) core-now .0;
-    suit = true-all (coreFits limit (coreOf hs) ∷ possible (boundsOf Header limit (coreOf hs)) (summary hs .top) (summary hs .part) ∷ possible (boundsOf Body limit (coreOf hs)) (summary bs .top) (summary bs .part) ∷ [])
+    suit = true-all (suitTests limit (coreOf hs) (summary hs) (summary bs))
         (core-sits (coreOf hs) core-now, (header-sits (coreOf hs) core-now .1, (body-sits (coreOf hs) core-now .1, tt)));
   }
 
@@ -209,13 +209,13 @@ pub passes-fits : (limit : ℕ) (hs bs : List Segment) → limit ≤ limitMost �
 unfolding suits boundsOf coreFits
 passes-fits limit hs bs z yh yb t = go (coreOf hs) refl (r .0) (r .1 .0) (r .1 .1 .0)
   where
-    r : Each (λ b. b ≡ true) (coreFits limit (coreOf hs) ∷ possible (boundsOf Header limit (coreOf hs)) (summary hs .top) (summary hs .part) ∷ possible (boundsOf Body limit (coreOf hs)) (summary bs .top) (summary bs .part) ∷ [])
-    r = all-true (coreFits limit (coreOf hs) ∷ possible (boundsOf Header limit (coreOf hs)) (summary hs .top) (summary hs .part) ∷ possible (boundsOf Body limit (coreOf hs)) (summary bs .top) (summary bs .part) ∷ []) (t .suit)
+    r : Each (λ b. b ≡ true) (suitTests limit (coreOf hs) (summary hs) (summary bs))
+    r = all-true (suitTests limit (coreOf hs) (summary hs) (summary bs)) (t .suit)
 
     go : (c : Core) → coreOf hs ≡ c → coreFits limit c ≡ true → possible (boundsOf Header limit c) (summary hs .top) (summary hs .part) ≡ true → possible (boundsOf Body limit c) (summary bs .top) (summary bs .part) ≡ true → Fits limit hs bs
     go Unseen e k h b = fits-unseen limit hs bs z yh (core-unseen hs e) (t .headerAgree) (possible-sits (boundsOf Header limit Unseen) hs (t .headerClear) h) (sits-fits 0 limit bodyNumbers bs yb (possible-sits (boundsOf Body limit Unseen) bs (t .bodyClear) b) (t .bodyAgree))
     go (Seen B H) e k h b =
-        let q = all-true (leb headerLeast H ∷ leb H headerMost ∷ leb B limit ∷ []) k in
+        let q = all-true (coreTests limit (Seen B H)) k in
         fits-seen limit B H hs bs e (leb-true headerLeast H (q .0)) (leb-true H headerMost (q .1 .0)) (leb-true B limit (q .1 .1 .0))
         (sits-fits H H headerNumbers hs yh (possible-sits (boundsOf Header limit (Seen B H)) hs (t .headerClear) h) (t .headerAgree))
         (sits-fits B B bodyNumbers bs yb (possible-sits (boundsOf Body limit (Seen B H)) bs (t .bodyClear) b) (t .bodyAgree))
