@@ -6,3 +6,4 @@ pub mod LawsSegment
 pub mod LawsDecision
 pub mod LawsObject
 pub mod Theorem
+pub mod Finished
