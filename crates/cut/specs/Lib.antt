@@ -5,5 +5,6 @@ pub mod LawsCore
 pub mod LawsSegment
 pub mod LawsDecision
 pub mod LawsObject
+pub mod LawsOrder
 pub mod Theorem
 pub mod Finished
