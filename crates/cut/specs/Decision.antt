@@ -136,6 +136,10 @@ derived b (suc (suc n)) tail = divided b (suc n) tail
 unfoldable pub settle : Bounds → Bool → Part → Part
 settle b full p = record { size = pick full (p .size) (derived b (p .end) (p .tail)); end = p .end; tail = p .tail }
 
+-- the record that segments give, within the bounds of their part
+abbrev pub recordOf : Bounds → Summary → Part
+recordOf b σ = settle b (someFull σ) (σ .part)
+
 -- ---- the object
 
 abbrev pub coreAfter : Segment → Core → Core

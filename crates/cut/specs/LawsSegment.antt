@@ -229,22 +229,19 @@ pub record PartSits (least most numbers : ℕ) (ss : List Segment) : Type 0 wher
   pub within : Within least most numbers size long
   pub sits : Each (Sits size long) ss
 
-pub fits-sits : (least most numbers : ℕ) (ss : List Segment) → PartFits least most numbers ss → PartSits least most numbers ss × Agree ss
-fits-sits least most numbers ss f = (
-  record { size = f .size; long = length (f .part); within = f .within; sits = each-map (λ s t. sends-sits (f .part) (f .size) s t) ss (f .sent) },
-  sends-agree (f .part) (f .size) ss (f .sent),
-)
-
-pub sits-fits : (least most numbers : ℕ) (ss : List Segment) → Each (λ s. Bytes (s .bytes)) ss → PartSits least most numbers ss → Agree ss → PartFits least most numbers ss
-sits-fits least most numbers ss b f a =
-    let z : List ℕ = replicate (f .long) 0 in
-    let e : length z ≡ f .long = length-replicate (f .long) 0 in
-    let o : 0 < f .size = omega (arith, f .within .low) in
-    let t : Each (Sits (f .size) (length z)) ss = rw e (f .sits) in
-    record {
-      part = fill z (f .size) ss;
-      size = f .size;
-      isBytes = fill-bytes z (f .size) ss (bytes-zeros (f .long)) b;
-      within = rw (fill-length z (f .size) ss o t, e) (f .within);
-      sent = fill-sends z (f .size) ss o t a;
-    }
+-- and back: a part that sends them, cut at that size
+pub sits-fits : (least most numbers : ℕ) (ss : List Segment) → Each (λ s. Bytes (s .bytes)) ss → (p : PartSits least most numbers ss) → Agree ss → (f : PartFits least most numbers ss) × (f .size ≡ p .size)
+sits-fits least most numbers ss b p a =
+    let z : List ℕ = replicate (p .long) 0 in
+    let e : length z ≡ p .long = length-replicate (p .long) 0 in
+    let o : 0 < p .size = omega (arith, p .within .low) in
+    let t : Each (Sits (p .size) (length z)) ss = rw e (p .sits) in (
+      record {
+        part = fill z (p .size) ss;
+        size = p .size;
+        isBytes = fill-bytes z (p .size) ss (bytes-zeros (p .long)) b;
+        within = rw (fill-length z (p .size) ss o t, e) (p .within);
+        sent = fill-sends z (p .size) ss o t a;
+      },
+      refl,
+    )

@@ -8,3 +8,4 @@ pub mod LawsObject
 pub mod LawsOrder
 pub mod Theorem
 pub mod Finished
+pub mod Known

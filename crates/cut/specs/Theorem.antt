@@ -17,26 +17,13 @@ use Rattle.cut.specs.declared.Part.{Part}
 use Rattle.cut.specs.Decision.{both, joins, someFull, Summary, addTo, summary, coreAfter, coreOf, suits, accepts}
 use Rattle.cut.specs.LawsSegment.{Numbered, Same, same-is, sends-same, agree-new, among-numbered}
 use Rattle.cut.specs.LawsDecision.{JoinsAs, SizeIs, EndIs, Clear, both-true, true-both, false-true}
-use Rattle.cut.specs.LawsObject.{Passes, fits-passes, passes-fits, header-bytes, body-bytes}
+use Rattle.cut.specs.LawsObject.{headersWith, bodiesWith, those, Passes, fits-passes, passes-fits, header-bytes, body-bytes}
 
 -- segments fit some object and cut exactly when they agree and the tests on numbers pass
 pub fits-decided : (limit : ℕ) (hs bs : List Segment) → limit ≤ limitMost → Each (λ s. Bytes (s .bytes)) hs → Each (λ s. Bytes (s .bytes)) bs → Fits limit hs bs ↔ Passes limit hs bs
 fits-decided limit hs bs z yh yb = (fits-passes limit hs bs, passes-fits limit hs bs z yh yb)
 
--- ---- a segment more, of the header or of the body
-
-abbrev pub headersWith : Kind → Segment → List Segment → List Segment
-headersWith Header s hs = s ∷ hs
-headersWith Body s hs = hs
-
-abbrev pub bodiesWith : Kind → Segment → List Segment → List Segment
-bodiesWith Header s bs = bs
-bodiesWith Body s bs = s ∷ bs
-
--- those of the part that the segment is of
-abbrev pub those : Kind → List Segment → List Segment → List Segment
-those Header hs bs = hs
-those Body hs bs = bs
+-- ---- a segment of a new number
 
 -- the last one's number is in
 end-step : (b : Bool) (s : Segment) (σ : Summary) (ss : List Segment) (n : ℕ) → s .last ≡ b → (σ .part .end ≡ suc n → Numbered n ss) → addTo s σ .part .end ≡ suc n → Numbered n (s ∷ ss)
