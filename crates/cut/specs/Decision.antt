@@ -140,6 +140,10 @@ settle b full p = record { size = pick full (p .size) (derived b (p .end) (p .ta
 abbrev pub recordOf : Bounds → Summary → Part
 recordOf b σ = settle b (someFull σ) (σ .part)
 
+-- so many numbers are in: every one of them, up to the last
+abbrev pub whole : ℕ → Part → Bool
+whole count p = both (leb 1 (p .end)) (eqb count (p .end))
+
 -- ---- the object
 
 abbrev pub coreAfter : Segment → Core → Core
@@ -160,3 +164,9 @@ suits limit c σ τ = all (suitTests limit c σ τ)
 abbrev pub accepts : Kind → ℕ → Core → Summary → Summary → Segment → Bool
 accepts Header limit c σ τ s = both (joins (someFull σ) (s .last) (length (s .bytes)) (σ .part)) (suits limit (coreAfter s c) (addTo s σ) τ)
 accepts Body limit c σ τ s = both (joins (someFull τ) (s .last) (length (s .bytes)) (τ .part)) (suits limit c σ (addTo s τ))
+
+-- every segment of the object is in: h numbers of the header are, and b of the body, which may have none
+abbrev pub finished : Core → ℕ → Part → ℕ → Part → Bool
+finished Unseen h p b q = false
+finished (Seen zero header) h p b q = whole h p
+finished (Seen (suc body) header) h p b q = both (whole h p) (whole b q)

@@ -9,3 +9,4 @@ pub mod LawsOrder
 pub mod Theorem
 pub mod Finished
 pub mod Known
+pub mod Marks
