@@ -10,3 +10,4 @@ pub mod Theorem
 pub mod Finished
 pub mod Known
 pub mod Marks
+pub mod Sums

@@ -130,6 +130,12 @@ total-none [] e (suc i) = refl
 total-none (m ∷ ms) e zero = omega arith
 total-none (m ∷ ms) e (suc i) = total-none ms (omega arith) i
 
+pub total-some : (l : List ℕ) (i : ℕ) → 0 < getD l i 0 → 0 < total l
+total-some [] zero h = h
+total-some [] (suc i) h = h
+total-some (m ∷ ms) zero h = omega arith
+total-some (m ∷ ms) (suc i) h = omega (arith, total-some ms i h)
+
 -- one mark is set at j: the sum is 1 exactly when no other is
 one-total : (l : List ℕ) (j : ℕ) → Each (λ m. m ≤ 1) l → 0 < getD l j 0 → ((i : ℕ) → 0 < getD l i 0 → i ≡ j) → total l ≡ 1
 one-total [] zero e h f = absurd (omega arith)
