@@ -11,3 +11,4 @@ pub mod Finished
 pub mod Known
 pub mod Marks
 pub mod Sums
+pub mod Cases
