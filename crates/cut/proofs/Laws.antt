@@ -2,7 +2,7 @@
 use mathlib.Core.Path.{_≡_, refl, sym, ap, _∙_}
 use mathlib.Core.Logic.{_≢_}
 use mathlib.Core.Bool.{Bool, true, false}
-use mathlib.Core.List.{List, [], _∷_}
+use mathlib.Core.List.{List}
 use Prim.Native.Nat.{ℕ, zero, suc, _+_, _-_, _*_, _/_, _≤_, _<_, min}
 use native.Mathlib.Nat.{div-lt-iff-lt-mul, le-div-iff-mul-le, zero-div}
 use native.Mathlib.Decide.{decLe}
@@ -11,9 +11,11 @@ use lib.Dec.{leb, ltb, eqb}
 use borrow.Author.Tests.{leb-true, le-leb, lt-leb, lt-ltb, le-ltb, ne-eqb, eq-eqb}
 use Rattle.cut.specs.Lists.{Each}
 use Rattle.cut.specs.Requirement.{sizeLeast, sizeMost}
+use Rattle.cut.specs.declared.Core.{Core}
+use Rattle.cut.specs.declared.Core.the-variants.{Seen}
 use Rattle.cut.specs.declared.Bounds.{Bounds}
 use Rattle.cut.specs.declared.Part.{Part}
-use Rattle.cut.specs.Decision.{pick, all, openTests, endedTests, roomOpen, roomEnded, roomAs, room, laterTests, aloneTests, alone, possible, divided, derived}
+use Rattle.cut.specs.Decision.{pick, both, all, whole, finished, openTests, endedTests, roomOpen, roomEnded, roomAs, room, laterTests, aloneTests, possible, divided, derived}
 use Rattle.cut.specs.LawsDecision.{some-fails, true-all, pick-fails}
 
 pub refused : (bs : List Bool) → ¬ (Each (λ b. b ≡ true) bs) → false ≡ all bs
@@ -91,3 +93,21 @@ divided-nothing b n tail h = go (eqb (b .least) (b .most))
 
 pub divided-unknown : (b : Bounds) (n tail : ℕ) → b .least ≢ b .most → 0 ≡ divided b n tail
 divided-unknown b n tail d = rw (ne-eqb (b .least) (b .most) d) refl
+
+-- whole: the last one is not in, or is
+pub whole-none : (count : ℕ) (p : Part) → p .end ≡ 0 → false ≡ whole count p
+whole-none count p e = rw e refl
+
+pub whole-in : (count : ℕ) (p : Part) → p .end ≢ 0 → eqb count (p .end) ≡ whole count p
+whole-in count p d = rw (le-leb 1 (p .end) (omega arith)) refl
+
+-- finished: there is no body, or some
+pub finished-empty : (c : Core) (B H h b : ℕ) (p q : Part) → c ≡ Seen B H → B ≡ 0 → whole h p ≡ finished c h p b q
+finished-empty c B H h b p q e z = rw (e, z) refl
+
+pub finished-some : (c : Core) (B H h b : ℕ) (p q : Part) → c ≡ Seen B H → B ≢ 0 → both (whole h p) (whole b q) ≡ finished c h p b q
+finished-some c B H h b p q e d = rw e (go B d)
+  where
+    go : (B : ℕ) → B ≢ 0 → both (whole h p) (whole b q) ≡ finished (Seen B H) h p b q
+    go zero d = absurd (d refl)
+    go (suc B) d = refl

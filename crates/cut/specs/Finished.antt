@@ -1,8 +1,8 @@
 -- Finished: when every segment is in, that only one object fits then, and that it is the segments joined by number.
 use mathlib.Core.Path.{_≡_, refl, sym, ap, _∙_, subst}
-use mathlib.Core.Logic.{_⊎_, inl, inr, _↔_}
+use mathlib.Core.Logic.{inl, inr, _↔_}
 use mathlib.Core.Bool.{Bool, true, false}
-use mathlib.Core.List.{List, [], _∷_, _++_}
+use mathlib.Core.List.{List, [], _∷_}
 use Prim.Native.Nat.{ℕ, zero, suc, _+_, _-_, _*_, _/_, _%_, _≤_, _<_}
 use native.Mathlib.Nat.{mul-le-mul-right, lt-of-mul-lt-mul-right, zero-mul, div-add-mod', mod-lt}
 use native.Mathlib.Decide.{ℕ-discrete, decLe}
@@ -10,12 +10,12 @@ use native.Mathlib.Omega.{arith}
 use lib.ListN.{length, take, drop, drop-of-length-le}
 use lib.Seq.{take-add, take-all, take-nil}
 use lib.Dec.{eqb, leb}
-use borrow.Author.Tests.{eq-eqb, ne-eqb, eqb-true, eqb-false, le-leb}
+use borrow.Author.Tests.{ne-eqb, eqb-true, eqb-false, le-leb}
 use Rattle.cut.specs.Lists.{Each, Among, each-map, each-among}
-use Rattle.cut.specs.Requirement.{headerNumbers, bodyNumbers, bodySize, headerSize, IsCut, Segment, Sends, Fits, Whole, Finished, bytesIf, bytesOf, joined}
+use Rattle.cut.specs.Requirement.{headerNumbers, bodyNumbers, IsCut, Segment, Sends, Fits, Whole, Finished, bytesIf, bytesOf, joined}
 use Rattle.cut.specs.declared.Core.{Core}
 use Rattle.cut.specs.declared.Core.the-variants.{Unseen, Seen}
-use Rattle.cut.specs.Decision.{Summary, addTo, addPart, summary, coreOf}
+use Rattle.cut.specs.Decision.{Summary, addPart, summary, coreOf}
 use Rattle.cut.specs.LawsSegment.{Numbered, among-numbered, numbered-among, same-is, sends-same, sends-sits}
 use Rattle.cut.specs.LawsDecision.{EndSits, sits-sum}
 use Rattle.cut.specs.LawsObject.{CoreIs, core-is, core-unseen}

@@ -1,14 +1,14 @@
 -- What is known of a cut. S follows from a full segment, or from the part's length and its last segment; the bounds alone never give it.
-use mathlib.Core.Path.{_≡_, refl, sym, ap, _∙_, subst}
+use mathlib.Core.Path.{_≡_, refl, subst}
 use mathlib.Core.Logic.{_≢_, _⊎_, inl, inr}
-use mathlib.Core.Bool.{Bool, true, false}
+use mathlib.Core.Bool.{true}
 use mathlib.Core.List.{List, [], _∷_}
-use Prim.Native.Nat.{ℕ, zero, suc, _+_, _-_, _*_, _/_, _≤_, _<_}
+use Prim.Native.Nat.{ℕ, zero, suc, _+_, _-_, _*_, _≤_, _<_}
 use native.Mathlib.Nat.{div-eq-of-eq-mul-left, mul-le-mul-right, lt-of-mul-lt-mul-right}
 use native.Mathlib.Decide.{ℕ-discrete}
 use native.Mathlib.Omega.{arith}
 use lib.ListN.{length, replicate}
-use lib.Dec.{leb, eqb}
+use lib.Dec.{leb}
 use borrow.Author.Tests.{leb-true, le-leb, eq-eqb, ne-eqb}
 use Rattle.cut.specs.Lists.{Each}
 use Rattle.cut.specs.Requirement.{limitLeast, limitMost, sizeLeast, sizeMost, Segment, Fits}
@@ -17,10 +17,10 @@ use Rattle.cut.specs.declared.Kind.the-variants.{Header, Body}
 use Rattle.cut.specs.declared.Core.{Core}
 use Rattle.cut.specs.declared.Core.the-variants.{Unseen, Seen}
 use Rattle.cut.specs.declared.Bounds.{Bounds}
-use Rattle.cut.specs.Decision.{pick, boundsOf, derived, settle, Summary, summary, someFull, recordOf, coreOf, coreTests, coreFits}
-use Rattle.cut.specs.LawsSegment.{Within, PartSits, Sits, sends-sits}
+use Rattle.cut.specs.Decision.{pick, boundsOf, derived, settle, summary, recordOf, coreOf, coreTests, coreFits}
+use Rattle.cut.specs.LawsSegment.{PartSits, Sits, sends-sits}
 use Rattle.cut.specs.LawsDecision.{all-true, TopSits, EndSits, SumSits, sits-sum, sum-sits}
-use Rattle.cut.specs.LawsObject.{those, partOf, cutOf, WithinOf, FitsAt, Passes, fits-within, fits-sits, fits-passes, fits-core, sits-object, header-bytes, body-bytes}
+use Rattle.cut.specs.LawsObject.{those, partOf, cutOf, WithinOf, fits-within, fits-sits, fits-passes, fits-core, sits-object, header-bytes, body-bytes}
 
 -- ---- in numbers
 

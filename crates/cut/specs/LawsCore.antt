@@ -1,12 +1,12 @@
 -- The core fields: they read back what was written, and only the first seven bytes play a part.
-use mathlib.Core.Path.{_≡_, refl, sym, ap, _∙_}
+use mathlib.Core.Path.{_≡_}
 use mathlib.Core.List.{List, [], _∷_, _++_}
-use Prim.Native.Nat.{ℕ, zero, suc, _+_, _-_, _*_, _/_, _%_, _≤_, _<_}
+use Prim.Native.Nat.{ℕ, _+_, _-_, _*_, _/_, _%_, _≤_, _<_}
 use native.Mathlib.Nat.{div-div-eq-div-mul}
 use native.Mathlib.Omega.{arith}
-use lib.ListN.{length, take, getD, replicate, length-replicate, length-append}
+use lib.ListN.{take}
 use lib.Seq.{getD-take}
-use Rattle.cut.specs.Lists.{Each, Bytes, bytes-append, bytes-zeros}
+use Rattle.cut.specs.Lists.{Bytes}
 use Rattle.cut.specs.Requirement.{headerLeast, bodySize, headerSize, contentType, contentSubType}
 
 -- the core of a header of H bytes whose body has B, of type T and subtype U

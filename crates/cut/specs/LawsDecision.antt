@@ -1,20 +1,19 @@
 -- What is kept says all that matters: a size and a length suit every segment exactly when they suit the summary, and the tests pass exactly when some size and length within the bounds do.
-use mathlib.Core.Path.{_≡_, refl, sym, ap, _∙_}
+use mathlib.Core.Path.{_≡_, refl, ap}
 use mathlib.Core.Logic.{_↔_}
 use mathlib.Core.Bool.{Bool, true, false}
 use mathlib.Core.List.{List, [], _∷_}
 use Prim.Native.Nat.{ℕ, zero, suc, _+_, _-_, _*_, _/_, _≤_, _<_, min, max}
-use native.Mathlib.Nat.{mul-le-mul-right, mul-le-mul-left, lt-of-mul-lt-mul-right, mul-lt-mul-of-pos-right, le-div-iff-mul-le, mul-div-le, zero-mul}
+use native.Mathlib.Nat.{mul-le-mul-right, mul-le-mul-left, lt-of-mul-lt-mul-right, le-div-iff-mul-le, mul-div-le, zero-mul}
 use native.Mathlib.Decide.{decLe}
 use native.Mathlib.Omega.{arith}
 use lib.ListN.{length}
-use lib.Dec.{eqb, leb}
-use borrow.Author.Tests.{leb-true, le-leb, eqb-true, eq-eqb}
+use borrow.Author.Tests.{leb-true, le-leb}
 use Rattle.cut.specs.Lists.{Each}
-use Rattle.cut.specs.Requirement.{sizeLeast, sizeMost, Segment}
+use Rattle.cut.specs.Requirement.{sizeMost, Segment}
 use Rattle.cut.specs.declared.Bounds.{Bounds}
 use Rattle.cut.specs.declared.Part.{Part}
-use Rattle.cut.specs.Decision.{pick, both, all, openTests, endedTests, roomAs, room, largest, nothingTests, firstTests, laterTests, aloneTests, alone, possible, Summary, addPart, addTop, addTo, summary}
+use Rattle.cut.specs.Decision.{pick, both, all, openTests, endedTests, roomAs, room, largest, nothingTests, firstTests, laterTests, aloneTests, alone, possible, Summary, addPart, addTop, summary}
 use Rattle.cut.specs.LawsSegment.{SitsAs, Sits, Within, PartSits}
 
 -- ---- tests

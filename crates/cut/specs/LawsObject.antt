@@ -2,11 +2,11 @@
 use mathlib.Core.Path.{_≡_, refl, sym, ap, _∙_}
 use mathlib.Core.Bool.{Bool, true, false}
 use mathlib.Core.List.{List, [], _∷_, _++_}
-use Prim.Native.Nat.{ℕ, zero, suc, _+_, _-_, _*_, _≤_, _<_}
+use Prim.Native.Nat.{ℕ, _+_, _-_, _*_, _≤_, _<_}
 use native.Mathlib.Nat.{zero-mul}
 use native.Mathlib.Omega.{arith}
 use lib.ListN.{length, take, drop, replicate, length-replicate, length-append}
-use lib.Dec.{eqb, leb}
+use lib.Dec.{eqb}
 use borrow.Author.Tests.{eqb-true, eqb-false, leb-true, le-leb}
 use Rattle.cut.specs.Lists.{Each, Bytes, each-map, bytes-append, bytes-zeros}
 use Rattle.cut.specs.Requirement.{headerLeast, headerMost, limitMost, sizeLeast, headerNumbers, bodyNumbers, bodySize, headerSize, IsObject, IsCut, Segment, Sends, Fits}
@@ -15,7 +15,7 @@ use Rattle.cut.specs.declared.Kind.the-variants.{Header, Body}
 use Rattle.cut.specs.declared.Core.{Core}
 use Rattle.cut.specs.declared.Core.the-variants.{Unseen, Seen}
 use Rattle.cut.specs.declared.Bounds.{Bounds}
-use Rattle.cut.specs.Decision.{pick, all, boundsOf, coreTests, coreFits, possible, Summary, summary, coreAfter, coreOf, suitTests, suits}
+use Rattle.cut.specs.Decision.{pick, boundsOf, coreTests, coreFits, possible, summary, coreOf, suitTests, suits}
 use Rattle.cut.specs.LawsCore.{coreBytes, core-body, core-header, core-is-bytes, front-body, front-header}
 use Rattle.cut.specs.LawsSegment.{Sits, Agree, Within, PartFits, PartSits, sits-fits, sends-agree, sends-sits, sent-bytes, fill, fill-length, fill-bytes, fill-sends, fill-front}
 use Rattle.cut.specs.LawsDecision.{Clear, all-true, true-all, sits-possible, possible-sits}

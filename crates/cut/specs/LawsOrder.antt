@@ -1,9 +1,9 @@
 -- What is kept is a function of the SET of segments: neither their order nor a repeat matters.
 use mathlib.Core.Path.{_≡_, refl, sym, ap, _∙_}
-use mathlib.Core.Logic.{_⊎_, inl, inr, _↔_}
+use mathlib.Core.Logic.{_⊎_, inl, inr}
 use mathlib.Core.Bool.{Bool, true, false}
 use mathlib.Core.List.{List, [], _∷_}
-use Prim.Native.Nat.{ℕ, zero, suc, _≤_, _<_, max}
+use Prim.Native.Nat.{ℕ, zero, suc, _≤_, max}
 use native.Mathlib.Decide.{decLe}
 use native.Mathlib.Omega.{arith}
 use lib.ListN.{length}
@@ -14,10 +14,10 @@ use Rattle.cut.specs.Requirement.{bodySize, headerSize, Segment, Fits}
 use Rattle.cut.specs.declared.Core.{Core}
 use Rattle.cut.specs.declared.Core.the-variants.{Unseen, Seen}
 use Rattle.cut.specs.declared.Part.{Part}
-use Rattle.cut.specs.Decision.{pick, Summary, addPart, addTop, addTo, summary, coreAfter, coreOf}
-use Rattle.cut.specs.LawsSegment.{Numbered, Same, Agree, same-is, among-numbered, numbered-among}
+use Rattle.cut.specs.Decision.{pick, Summary, addPart, addTop, summary, coreOf}
+use Rattle.cut.specs.LawsSegment.{Numbered, Same, Agree, same-is, among-numbered}
 use Rattle.cut.specs.LawsDecision.{SizeIs, EndIs, JoinsAs, Clear}
-use Rattle.cut.specs.LawsObject.{Passes, fits-passes}
+use Rattle.cut.specs.LawsObject.{fits-passes}
 
 -- ---- what a summary says of a segment that is in
 

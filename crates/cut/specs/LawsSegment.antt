@@ -3,7 +3,7 @@ use mathlib.Core.Path.{_≡_, refl, sym, ap, _∙_}
 use mathlib.Core.Logic.{_⊎_, inl, inr}
 use mathlib.Core.Bool.{Bool, true, false}
 use mathlib.Core.List.{List, [], _∷_}
-use Prim.Native.Nat.{ℕ, zero, suc, _+_, _-_, _*_, _≤_, _<_, min}
+use Prim.Native.Nat.{ℕ, suc, _+_, _-_, _*_, _≤_, _<_, min}
 use native.Mathlib.Nat.{mul-le-mul-right, lt-of-mul-lt-mul-right}
 use native.Mathlib.Decide.{ℕ-discrete, decLe}
 use native.Mathlib.Omega.{arith}
@@ -11,7 +11,7 @@ use lib.ListN.{length, take, drop, replicate, length-replicate, length-take, len
 use lib.Seq.{take-all}
 use lib.Dec.{leb}
 use borrow.Author.Tests.{leb-true, leb-false, le-leb, lt-leb}
-use Rattle.cut.specs.Lists.{Each, Among, Bytes, each-map, each-zip, each-zip3, each-among, bytes-take, bytes-drop, bytes-zeros, over, over-length, over-same, over-after, over-before, over-bytes}
+use Rattle.cut.specs.Lists.{Each, Among, Bytes, each-map, each-zip, each-zip3, bytes-take, bytes-drop, bytes-zeros, over, over-length, over-same, over-after, over-before, over-bytes}
 use Rattle.cut.specs.Requirement.{sizeLeast, sizeMost, IsCut, Segment, Sends}
 
 -- ---- one segment, in numbers

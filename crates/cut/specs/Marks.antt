@@ -1,6 +1,6 @@
 -- Marks: a list of 0 and 1 that says which numbers of a part are in. Nothing has to be looked for in it: each test that the decision asks is a sum over a range of marks.
 use mathlib.Core.Path.{_≡_, refl, sym, ap, _∙_, subst}
-use mathlib.Core.Logic.{_≢_, _⊎_, inl, inr, _↔_}
+use mathlib.Core.Logic.{_≢_, _↔_}
 use mathlib.Core.Bool.{Bool, true, false}
 use mathlib.Core.List.{List, [], _∷_}
 use Prim.Native.Nat.{ℕ, zero, suc, _+_, _-_, _*_, _≤_, _<_, max}
@@ -10,14 +10,14 @@ use native.Mathlib.Omega.{arith}
 use lib.ListN.{length, drop, getD}
 use lib.Seq.{getD-drop}
 use lib.Dec.{eqb, leb}
-use borrow.Author.Tests.{eqb-true, eqb-false, eq-eqb, ne-eqb, leb-true, le-leb}
+use borrow.Author.Tests.{eqb-true, eqb-false, eq-eqb, ne-eqb, le-leb}
 use Rattle.cut.specs.Lists.{Each, Among, each-among, each-drop}
 use Rattle.cut.specs.Requirement.{Segment, Fits, Finished}
 use Rattle.cut.specs.declared.Kind.{Kind}
 use Rattle.cut.specs.declared.Kind.the-variants.{Header, Body}
 use Rattle.cut.specs.declared.Core.{Core}
 use Rattle.cut.specs.declared.Core.the-variants.{Unseen, Seen}
-use Rattle.cut.specs.Decision.{both, Summary, summary, coreOf, whole, finished}
+use Rattle.cut.specs.Decision.{both, summary, coreOf, whole, finished}
 use Rattle.cut.specs.LawsSegment.{Sits, inside, Numbered, Agree, numbered-among, among-numbered}
 use Rattle.cut.specs.LawsDecision.{Clear, EndSits, both-true, true-both, false-true, sits-sum}
 use Rattle.cut.specs.LawsObject.{those, partOf, cutOf, fits-within, fits-sits}

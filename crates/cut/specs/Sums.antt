@@ -1,15 +1,15 @@
 -- The decision as code asks it: of a record and of sums of marks. Each is equal to the decision on what is kept, so the
 -- theorem holds of it.
 use mathlib.Core.Path.{_≡_, refl, sym, ap, _∙_}
-use mathlib.Core.Logic.{_≢_, _↔_}
+use mathlib.Core.Logic.{_↔_}
 use mathlib.Core.Bool.{Bool, true, false}
 use mathlib.Core.List.{List, [], _∷_}
 use Prim.Native.Nat.{ℕ, zero, suc, _≤_, _<_, min, max}
-use native.Mathlib.Decide.{ℕ-discrete, decLe}
+use native.Mathlib.Decide.{decLe}
 use native.Mathlib.Omega.{arith}
 use lib.ListN.{length, drop, getD}
 use lib.Dec.{eqb, leb}
-use borrow.Author.Tests.{eq-eqb, ne-eqb, le-leb, lt-leb, eqb-true, leb-true}
+use borrow.Author.Tests.{eq-eqb, ne-eqb, le-leb, lt-leb, eqb-true}
 use Rattle.cut.specs.Lists.{Each, Bytes}
 use Rattle.cut.specs.Requirement.{limitMost, Segment, Fits}
 use Rattle.cut.specs.declared.Kind.{Kind}
@@ -17,7 +17,7 @@ use Rattle.cut.specs.declared.Kind.the-variants.{Header, Body}
 use Rattle.cut.specs.declared.Core.{Core}
 use Rattle.cut.specs.declared.Bounds.{Bounds}
 use Rattle.cut.specs.declared.Part.{Part}
-use Rattle.cut.specs.Decision.{pick, both, all, boundsOf, coreFits, endedTests, room, alone, possible, addPart, addTop, addTo, summary, joins, someFull, settle, recordOf, coreAfter, coreOf, suits, accepts}
+use Rattle.cut.specs.Decision.{pick, both, all, boundsOf, coreFits, endedTests, room, alone, possible, addPart, addTop, summary, joins, someFull, settle, recordOf, coreAfter, coreOf, suits, accepts}
 use Rattle.cut.specs.LawsSegment.{Numbered, Agree}
 use Rattle.cut.specs.LawsDecision.{Clear}
 use Rattle.cut.specs.LawsObject.{headersWith, bodiesWith, those, Passes, fits-passes}

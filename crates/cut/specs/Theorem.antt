@@ -1,10 +1,10 @@
 -- The theorem: the decision is exact. Given that the held segments fit, it accepts one of a new number exactly when
 -- they and the new one fit some object and cut. One of a number that is in fits exactly when it is the same.
-use mathlib.Core.Path.{_≡_, refl, sym, ap, _∙_}
+use mathlib.Core.Path.{_≡_, refl, ap}
 use mathlib.Core.Logic.{_≢_, _⊎_, inl, inr, _↔_}
 use mathlib.Core.Bool.{Bool, true, false}
 use mathlib.Core.List.{List, [], _∷_}
-use Prim.Native.Nat.{ℕ, zero, suc, _≤_, _<_}
+use Prim.Native.Nat.{ℕ, zero, suc, _≤_}
 use native.Mathlib.Omega.{arith}
 use lib.ListN.{length}
 use lib.Dec.{eqb, leb}
@@ -14,9 +14,9 @@ use Rattle.cut.specs.Requirement.{limitMost, Segment, Sends, Fits}
 use Rattle.cut.specs.declared.Kind.{Kind}
 use Rattle.cut.specs.declared.Kind.the-variants.{Header, Body}
 use Rattle.cut.specs.declared.Part.{Part}
-use Rattle.cut.specs.Decision.{both, joins, someFull, Summary, addTo, summary, coreAfter, coreOf, suits, accepts}
-use Rattle.cut.specs.LawsSegment.{Numbered, Same, same-is, sends-same, agree-new, among-numbered}
-use Rattle.cut.specs.LawsDecision.{JoinsAs, SizeIs, EndIs, Clear, both-true, true-both, false-true}
+use Rattle.cut.specs.Decision.{both, joins, someFull, Summary, addTo, summary, coreOf, accepts}
+use Rattle.cut.specs.LawsSegment.{Numbered, same-is, sends-same, agree-new}
+use Rattle.cut.specs.LawsDecision.{JoinsAs, SizeIs, EndIs, both-true, true-both}
 use Rattle.cut.specs.LawsObject.{headersWith, bodiesWith, those, Passes, fits-passes, passes-fits, header-bytes, body-bytes}
 
 -- segments fit some object and cut exactly when they agree and the tests on numbers pass

@@ -6,7 +6,7 @@ ghost use mathlib.Core.Path.{_≡_};
 ghost use Prim.Native.Nat.{_<_, _≤_, _-_, _*_, min};
 ghost use lib.Dec.{leb};
 ghost use Rattle.cut.specs.Requirement.{sizeLeast, sizeMost};
-ghost use Rattle.cut.specs.Decision.{boundsOf, coreFits, largest, room, roomOpen, roomEnded, all, nothingTests, firstTests, laterTests, alone, possible, addPart, joins, derived, settle};
+ghost use Rattle.cut.specs.Decision.{boundsOf, coreFits, largest, room, roomOpen, roomEnded, all, nothingTests, firstTests, laterTests, alone, possible, addPart, joins, derived, settle, whole, finished};
 
 pub const HEADER_LEAST: usize = 7;
 
@@ -326,4 +326,30 @@ pub fn settle(b: Bounds, full: bool, p: Part) -> Part
         end: p.end,
         tail: p.tail,
     }
+}
+
+// Whether a part is whole, with so many of its numbers in.
+pub fn whole(count: usize, p: Part) -> bool
+    ensures { λ r. ⌜ r ≡ whole count p ⌝ }
+{
+    if p.end == 0 {
+        return false;
+    }
+    count == p.end
+}
+
+// Whether every segment of the object is in: h numbers of the header are, and b of the body, which may have none.
+pub fn finished(core: Core, h: usize, p: Part, b: usize, q: Part) -> bool
+    ensures { λ r. ⌜ r ≡ finished core h p b q ⌝ }
+{
+    let Core::Seen { body, header: _ } = core else {
+        return false;
+    };
+    if body == 0 {
+        return whole(h, p);
+    }
+    if whole(h, p) {
+        return whole(b, q);
+    }
+    false
 }

@@ -1,8 +1,7 @@
 -- `cut::alone` meets its contract. Assumes nothing.
-use mathlib.Core.Path.{refl, sym, ap, _∙_}
+use mathlib.Core.Path.{sym, ap, _∙_}
 use Prim.Native.Nat.{ℕ}
 use native.Mathlib.Omega.{arith}
-use lib.Dec.{leb}
 use Rattle.cut.specs.Decision.{alone, all, aloneTests}
 use Rattle.cut.proofs.Laws.{alone-in}
 use borrow.Author.Needs.{needs}

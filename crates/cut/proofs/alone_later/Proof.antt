@@ -1,5 +1,5 @@
 -- `cut::alone_later` meets its contract: each early return is a test that fails. The product fits, since at the largest size the part keeps within its bounds. Assumes nothing.
-use mathlib.Core.Path.{refl, sym, ap, _∙_}
+use mathlib.Core.Path.{ap}
 use Prim.Native.Nat.{ℕ, _*_}
 use native.Mathlib.Omega.{arith}
 use borrow.Author.Tests.{leb-true, le-leb}

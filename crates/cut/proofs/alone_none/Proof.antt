@@ -1,5 +1,5 @@
 -- `cut::alone_none` meets its contract: each early return is a test that fails. Assumes nothing.
-use mathlib.Core.Path.{refl, sym, ap, _∙_}
+use mathlib.Core.Path.{sym, _∙_}
 use native.Mathlib.Omega.{arith}
 use borrow.Author.Tests.{leb-true, le-leb}
 use Rattle.cut.specs.Decision.{nothingTests}

@@ -1,5 +1,5 @@
 -- `cut::derived` meets its contract. Assumes nothing.
-use mathlib.Core.Path.{refl, sym, ap, _∙_}
+use mathlib.Core.Path.{_∙_}
 use native.Mathlib.Omega.{arith}
 use Rattle.cut.proofs.Laws.{derived-none, derived-in, divided-known, divided-nothing, divided-unknown}
 use borrow.Author.Needs.{needs}

@@ -1,5 +1,5 @@
 -- `cut::joins` meets its contract. Assumes nothing.
-use mathlib.Core.Path.{refl, sym, ap, _∙_}
+use mathlib.Core.Path.{refl}
 use borrow.Author.Needs.{needs}
 use Rattle.cut.proofs.joins.Statement.{statement}
 use Rattle.cut.proofs.joins.Tie as tie

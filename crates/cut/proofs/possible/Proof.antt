@@ -1,7 +1,6 @@
 -- `cut::possible` meets its contract. Assumes nothing.
-use mathlib.Core.Path.{refl, sym, ap, _∙_}
+use mathlib.Core.Path.{sym, ap, _∙_}
 use Prim.Native.Nat.{ℕ}
-use native.Mathlib.Omega.{arith}
 use lib.Dec.{leb}
 use Rattle.cut.specs.Decision.{possible}
 use Rattle.cut.proofs.Laws.{possible-in}

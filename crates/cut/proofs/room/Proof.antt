@@ -1,5 +1,5 @@
 -- `cut::room` meets its contract. Assumes nothing.
-use mathlib.Core.Path.{refl, sym, ap, _∙_}
+use mathlib.Core.Path.{_∙_}
 use native.Mathlib.Omega.{arith}
 use Rattle.cut.proofs.Laws.{room-none, room-not-in, room-in}
 use Rattle.cut.specs.Decision.{room}

@@ -1,5 +1,5 @@
 -- `cut::settle` meets its contract. Assumes nothing.
-use mathlib.Core.Path.{refl, sym, ap, _∙_}
+use mathlib.Core.Path.{refl}
 use Rattle.cut.specs.Decision.{settle}
 use borrow.Author.Needs.{needs}
 use Rattle.cut.proofs.settle.Statement.{statement}
