@@ -1,0 +1,6 @@
+pub mod Core
+pub mod Parameters
+pub mod Names
+pub mod Scan
+pub mod Laws
+pub mod Exact
