@@ -14,7 +14,7 @@ use Rattle.cut.specs.Requirement.{sizeLeast, sizeMost}
 use Rattle.cut.specs.declared.Core.{Core}
 use Rattle.cut.specs.declared.Core.the-variants.{Seen}
 use Rattle.cut.specs.declared.Bounds.{Bounds}
-use Rattle.cut.specs.declared.Part.{Part}
+use Rattle.cut.specs.declared.Record.{Record}
 use Rattle.cut.specs.Decision.{pick, both, all, whole, finished, openTests, endedTests, roomOpen, roomEnded, roomAs, room, laterTests, aloneTests, possible, divided, derived}
 use Rattle.cut.specs.LawsDecision.{some-fails, true-all, pick-fails}
 
@@ -60,12 +60,12 @@ derived-in b (suc zero) tail h = absurd (omega arith)
 derived-in b (suc (suc n)) tail h = let f : suc (suc n) - 1 ≡ suc n = omega arith in ap (λ (m : ℕ). divided b m tail) f
 
 -- some full segment is in
-pub possible-in : (b : Bounds) (top : ℕ) (p : Part) → top ≢ 0 → leb top (room b p) ≡ possible b top p
+pub possible-in : (b : Bounds) (top : ℕ) (p : Record) → top ≢ 0 → leb top (room b p) ≡ possible b top p
 possible-in b zero p d = absurd (d refl)
 possible-in b (suc t) p d = refl
 
 -- the size is out of bounds
-pub room-none : (b : Bounds) (p : Part) → ¬ ((sizeLeast ≤ p .size) × (p .size ≤ sizeMost)) → 0 ≡ room b p
+pub room-none : (b : Bounds) (p : Record) → ¬ ((sizeLeast ≤ p .size) × (p .size ≤ sizeMost)) → 0 ≡ room b p
 unfolding room
 room-none b p h = go (p .end)
   where
@@ -73,7 +73,7 @@ room-none b p h = go (p .end)
     go zero = pick-fails (openTests b (p .size)) (min (b .numbers - 1) ((b .most - 1) / p .size)) (λ r. h (omega (arith, leb-true)))
     go (suc n) = pick-fails (endedTests b (p .size) n (p .tail)) n (λ r. h (omega (arith, leb-true)))
 
-pub room-not-in : (b : Bounds) (p : Part) → p .end ≡ 0 → roomOpen b (p .size) ≡ room b p
+pub room-not-in : (b : Bounds) (p : Record) → p .end ≡ 0 → roomOpen b (p .size) ≡ room b p
 unfolding room
 room-not-in b p e = rw e refl
 
@@ -95,17 +95,17 @@ pub divided-unknown : (b : Bounds) (n tail : ℕ) → b .least ≢ b .most → 0
 divided-unknown b n tail d = rw (ne-eqb (b .least) (b .most) d) refl
 
 -- whole: the last one is not in, or is
-pub whole-none : (count : ℕ) (p : Part) → p .end ≡ 0 → false ≡ whole count p
+pub whole-none : (count : ℕ) (p : Record) → p .end ≡ 0 → false ≡ whole count p
 whole-none count p e = rw e refl
 
-pub whole-in : (count : ℕ) (p : Part) → p .end ≢ 0 → eqb count (p .end) ≡ whole count p
+pub whole-in : (count : ℕ) (p : Record) → p .end ≢ 0 → eqb count (p .end) ≡ whole count p
 whole-in count p d = rw (le-leb 1 (p .end) (omega arith)) refl
 
 -- finished: there is no body, or some
-pub finished-empty : (c : Core) (B H h b : ℕ) (p q : Part) → c ≡ Seen B H → B ≡ 0 → whole h p ≡ finished c h p b q
+pub finished-empty : (c : Core) (B H h b : ℕ) (p q : Record) → c ≡ Seen B H → B ≡ 0 → whole h p ≡ finished c h p b q
 finished-empty c B H h b p q e z = rw (e, z) refl
 
-pub finished-some : (c : Core) (B H h b : ℕ) (p q : Part) → c ≡ Seen B H → B ≢ 0 → both (whole h p) (whole b q) ≡ finished c h p b q
+pub finished-some : (c : Core) (B H h b : ℕ) (p q : Record) → c ≡ Seen B H → B ≢ 0 → both (whole h p) (whole b q) ≡ finished c h p b q
 finished-some c B H h b p q e d = rw e (go B d)
   where
     go : (B : ℕ) → B ≢ 0 → both (whole h p) (whole b q) ≡ finished (Seen B H) h p b q

@@ -11,8 +11,8 @@ use lib.Dec.{eqb, leb}
 use borrow.Author.Tests.{eqb-true, eqb-false, leb-true, not-true}
 use Rattle.cut.specs.Lists.{Each, Bytes}
 use Rattle.cut.specs.Requirement.{bodySize, headerSize, contentType, contentSubType, Segment, Fits, Finished}
-use Rattle.cut.specs.declared.Kind.{Kind}
-use Rattle.cut.specs.declared.Kind.the-variants.{Header, Body}
+use Rattle.answer.specs.declared.Part.{Part}
+use Rattle.answer.specs.declared.Part.the-variants.{Header, Body}
 use Rattle.cut.specs.declared.Core.{Core}
 use Rattle.cut.specs.declared.Core.the-variants.{Unseen, Seen}
 use Rattle.cut.specs.Decision.{both, all, boundsOf, coreFits, room, largest, alone, suits, settle, summary, coreOf, accepts}
@@ -42,14 +42,14 @@ pub data Case : Type 0 where
   -- what the core fields of a header say
   core : (bytes : List ℕ) (body header type subtype : ℕ) → Case
   -- segments are in, and one more comes
-  comes : (held : List (Kind × Segment)) (kind : Kind) (segment : Segment) (verdict : Verdict) → Case
+  comes : (held : List (Part × Segment)) (kind : Part) (segment : Segment) (verdict : Verdict) → Case
 
 -- the segments of a list that are of the header, and of the body; the first one comes first
-abbrev headersIn : List (Kind × Segment) → List Segment → List Segment
+abbrev headersIn : List (Part × Segment) → List Segment → List Segment
 headersIn [] hs = hs
 headersIn (e ∷ es) hs = headersIn es (headersWith (e .0) (e .1) hs)
 
-abbrev bodiesIn : List (Kind × Segment) → List Segment → List Segment
+abbrev bodiesIn : List (Part × Segment) → List Segment → List Segment
 bodiesIn [] bs = bs
 bodiesIn (e ∷ es) bs = bodiesIn es (bodiesWith (e .0) (e .1) bs)
 
@@ -121,13 +121,13 @@ are-bytes [] e = tt
 are-bytes (b ∷ bs) e = let r = both-true (leb (suc b) 256) (areBytes bs) e in (leb-true (suc b) 256 (r .0), are-bytes bs (r .1))
 
 -- a segment of a new number, of bytes: the decision says whether it fits
-abbrev ready : Kind → Segment → List Segment → List Segment → Bool
+abbrev ready : Part → Segment → List Segment → List Segment → Bool
 ready kind s hs bs = both (isNew (s .number) (those kind hs bs)) (areBytes (s .bytes))
 
-abbrev decided : Kind → Segment → List Segment → List Segment → Bool
+abbrev decided : Part → Segment → List Segment → List Segment → Bool
 decided kind s hs bs = accepts kind limit (coreOf hs) (summary hs) (summary bs) s
 
-module _ (kind : Kind) (s : Segment) (hs bs : List Segment) (f : Fits limit hs bs) (r : ready kind s hs bs ≡ true) where
+module _ (kind : Part) (s : Segment) (hs bs : List Segment) (f : Fits limit hs bs) (r : ready kind s hs bs ≡ true) where
   new : ¬ (Numbered (s .number) (those kind hs bs))
   new = is-new (s .number) (those kind hs bs) (both-true (isNew (s .number) (those kind hs bs)) (areBytes (s .bytes)) r .0)
 
@@ -146,11 +146,11 @@ unfolding suits coreFits boundsOf alone
 nothing-fits = passes-fits limit [] [] (omega arith) tt tt (record { headerAgree = tt; headerClear = tt; bodyAgree = tt; bodyClear = tt; suit = refl })
 
 -- segments that come one after the other
-abbrev runs : List (Kind × Segment) → List Segment → List Segment → Bool
+abbrev runs : List (Part × Segment) → List Segment → List Segment → Bool
 runs [] hs bs = true
 runs (e ∷ es) hs bs = both (both (ready (e .0) (e .1) hs bs) (decided (e .0) (e .1) hs bs)) (runs es (headersWith (e .0) (e .1) hs) (bodiesWith (e .0) (e .1) bs))
 
-held-fits : (es : List (Kind × Segment)) (hs bs : List Segment) → Fits limit hs bs → runs es hs bs ≡ true → Fits limit (headersIn es hs) (bodiesIn es bs)
+held-fits : (es : List (Part × Segment)) (hs bs : List Segment) → Fits limit hs bs → runs es hs bs ≡ true → Fits limit (headersIn es hs) (bodiesIn es bs)
 held-fits [] hs bs f r = f
 held-fits (e ∷ es) hs bs f r =
     let t = both-true (both (ready (e .0) (e .1) hs bs) (decided (e .0) (e .1) hs bs)) (runs es (headersWith (e .0) (e .1) hs) (bodiesWith (e .0) (e .1) bs)) r in
@@ -203,7 +203,7 @@ finished-as hs bs (Seen (suc B) H) e t f =
 
 -- ---- each case
 
-module _ (held : List (Kind × Segment)) (kind : Kind) (s : Segment) where
+module _ (held : List (Part × Segment)) (kind : Part) (s : Segment) where
   abbrev testsOf : Bool
   testsOf = both (runs held [] []) (ready kind s (headersIn held []) (bodiesIn held []))
 

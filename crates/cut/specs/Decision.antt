@@ -7,12 +7,12 @@ use Prim.Native.Nat.{ℕ, zero, suc, _+_, _-_, _*_, _/_, min, max}
 use lib.ListN.{length}
 use lib.Dec.{eqb, leb}
 use Rattle.cut.specs.Requirement.{headerLeast, headerMost, sizeLeast, sizeMost, headerNumbers, bodyNumbers, bodySize, headerSize, Segment}
-use Rattle.cut.specs.declared.Kind.{Kind}
-use Rattle.cut.specs.declared.Kind.the-variants.{Header, Body}
+use Rattle.answer.specs.declared.Part.{Part}
+use Rattle.answer.specs.declared.Part.the-variants.{Header, Body}
 use Rattle.cut.specs.declared.Core.{Core}
 use Rattle.cut.specs.declared.Core.the-variants.{Unseen, Seen}
 use Rattle.cut.specs.declared.Bounds.{Bounds}
-use Rattle.cut.specs.declared.Part.{Part}
+use Rattle.cut.specs.declared.Record.{Record}
 
 abbrev pub pick : {A : Type 0} → Bool → A → A → A
 pick true a b = a
@@ -29,7 +29,7 @@ all (b ∷ bs) = both b (all bs)
 
 -- ---- the bounds of a part
 
-unfoldable pub boundsOf : Kind → ℕ → Core → Bounds
+unfoldable pub boundsOf : Part → ℕ → Core → Bounds
 boundsOf Header limit Unseen = record { least = headerLeast; most = headerMost; numbers = headerNumbers }
 boundsOf Header limit (Seen body header) = record { least = header; most = header; numbers = headerNumbers }
 boundsOf Body limit Unseen = record { least = 0; most = limit; numbers = bodyNumbers }
@@ -63,7 +63,7 @@ abbrev pub roomAs : Bounds → ℕ → ℕ → ℕ → ℕ
 roomAs b size zero tail = roomOpen b size
 roomAs b size (suc n) tail = roomEnded b size n tail
 
-unfoldable pub room : Bounds → Part → ℕ
+unfoldable pub room : Bounds → Record → ℕ
 room b p = roomAs b (p .size) (p .end) (p .tail)
 
 -- the largest size at which a part that ends with number n and tail bytes keeps within its bounds
@@ -85,11 +85,11 @@ aloneTests b zero tail = nothingTests b
 aloneTests b (suc zero) tail = firstTests b tail
 aloneTests b (suc (suc n)) tail = laterTests b (suc n) tail
 
-unfoldable pub alone : Bounds → Part → Bool
+unfoldable pub alone : Bounds → Record → Bool
 alone b p = all (aloneTests b (p .end) (p .tail))
 
 -- some length and size within the bounds suit what is in
-abbrev pub possible : Bounds → ℕ → Part → Bool
+abbrev pub possible : Bounds → ℕ → Record → Bool
 possible b zero p = alone b p
 possible b (suc t) p = leb (suc t) (room b p)
 
@@ -97,10 +97,10 @@ possible b (suc t) p = leb (suc t) (room b p)
 
 pub record Summary : Type 0 where
   pub top : ℕ
-  pub part : Part
+  pub part : Record
 
 -- one more: the last one gives end and tail, a full one the size
-abbrev pub addPart : Bool → ℕ → ℕ → Part → Part
+abbrev pub addPart : Bool → ℕ → ℕ → Record → Record
 addPart true n k p = record { size = p .size; end = suc n; tail = k }
 addPart false n k p = record { size = k; end = p .end; tail = p .tail }
 
@@ -116,7 +116,7 @@ summary [] = record { top = 0; part = record { size = 0; end = 0; tail = 0 } }
 summary (s ∷ ss) = addTo s (summary ss)
 
 -- a segment of a new number goes with what is kept: there is one last one, and full ones have one length
-abbrev pub joins : Bool → Bool → ℕ → Part → Bool
+abbrev pub joins : Bool → Bool → ℕ → Record → Bool
 joins full true k p = eqb (p .end) 0
 joins false false k p = true
 joins true false k p = eqb k (p .size)
@@ -133,15 +133,15 @@ derived b zero tail = 0
 derived b (suc zero) tail = 0
 derived b (suc (suc n)) tail = divided b (suc n) tail
 
-unfoldable pub settle : Bounds → Bool → Part → Part
+unfoldable pub settle : Bounds → Bool → Record → Record
 settle b full p = record { size = pick full (p .size) (derived b (p .end) (p .tail)); end = p .end; tail = p .tail }
 
 -- the record that segments give, within the bounds of their part
-abbrev pub recordOf : Bounds → Summary → Part
+abbrev pub recordOf : Bounds → Summary → Record
 recordOf b σ = settle b (someFull σ) (σ .part)
 
 -- so many numbers are in: every one of them, up to the last
-abbrev pub whole : ℕ → Part → Bool
+abbrev pub whole : ℕ → Record → Bool
 whole count p = both (leb 1 (p .end)) (eqb count (p .end))
 
 -- ---- the object
@@ -161,12 +161,12 @@ unfoldable pub suits : ℕ → Core → Summary → Summary → Bool
 suits limit c σ τ = all (suitTests limit c σ τ)
 
 -- THE DECISION: a segment of a new number fits what is kept
-abbrev pub accepts : Kind → ℕ → Core → Summary → Summary → Segment → Bool
+abbrev pub accepts : Part → ℕ → Core → Summary → Summary → Segment → Bool
 accepts Header limit c σ τ s = both (joins (someFull σ) (s .last) (length (s .bytes)) (σ .part)) (suits limit (coreAfter s c) (addTo s σ) τ)
 accepts Body limit c σ τ s = both (joins (someFull τ) (s .last) (length (s .bytes)) (τ .part)) (suits limit c σ (addTo s τ))
 
 -- every segment of the object is in: h numbers of the header are, and b of the body, which may have none
-abbrev pub finished : Core → ℕ → Part → ℕ → Part → Bool
+abbrev pub finished : Core → ℕ → Record → ℕ → Record → Bool
 finished Unseen h p b q = false
 finished (Seen zero header) h p b q = whole h p
 finished (Seen (suc body) header) h p b q = both (whole h p) (whole b q)

@@ -12,8 +12,8 @@ use lib.Dec.{leb}
 use borrow.Author.Tests.{leb-true, le-leb, eq-eqb, ne-eqb}
 use Rattle.cut.specs.Lists.{Each}
 use Rattle.cut.specs.Requirement.{limitLeast, limitMost, sizeLeast, sizeMost, Segment, Fits}
-use Rattle.cut.specs.declared.Kind.{Kind}
-use Rattle.cut.specs.declared.Kind.the-variants.{Header, Body}
+use Rattle.answer.specs.declared.Part.{Part}
+use Rattle.answer.specs.declared.Part.the-variants.{Header, Body}
 use Rattle.cut.specs.declared.Core.{Core}
 use Rattle.cut.specs.declared.Core.the-variants.{Unseen, Seen}
 use Rattle.cut.specs.declared.Bounds.{Bounds}
@@ -54,21 +54,21 @@ size-only b zero size (suc (suc n)) tail d = go (ℕ-discrete (b .least) (b .mos
 -- ---- of an object
 
 -- the bounds meet exactly when segment 0 has said the lengths
-bounds-seen : (kind : Kind) (limit B H : ℕ) → boundsOf kind limit (Seen B H) .least ≡ boundsOf kind limit (Seen B H) .most
+bounds-seen : (kind : Part) (limit B H : ℕ) → boundsOf kind limit (Seen B H) .least ≡ boundsOf kind limit (Seen B H) .most
 unfolding boundsOf
 bounds-seen Header limit B H = refl
 bounds-seen Body limit B H = refl
 
-bounds-unseen : (kind : Kind) (limit : ℕ) → limitLeast ≤ limit → boundsOf kind limit Unseen .least ≢ boundsOf kind limit Unseen .most
+bounds-unseen : (kind : Part) (limit : ℕ) → limitLeast ≤ limit → boundsOf kind limit Unseen .least ≢ boundsOf kind limit Unseen .most
 unfolding boundsOf
 bounds-unseen Header limit h e = omega arith
 bounds-unseen Body limit h e = omega arith
 
 -- the size in the record of a part
-unfoldable pub sizeOf : Kind → ℕ → List Segment → List Segment → ℕ
+unfoldable pub sizeOf : Part → ℕ → List Segment → List Segment → ℕ
 sizeOf kind limit hs bs = recordOf (boundsOf kind limit (coreOf hs)) (summary (those kind hs bs)) .size
 
-module _ (kind : Kind) (limit : ℕ) (hs bs : List Segment) (f : Fits limit hs bs) where
+module _ (kind : Part) (limit : ℕ) (hs bs : List Segment) (f : Fits limit hs bs) where
   sum : SumSits (cutOf kind f) (length (partOf kind f)) (summary (those kind hs bs))
   sum = sits-sum (cutOf kind f) (length (partOf kind f)) (those kind hs bs) (omega (arith, fits-within limit hs bs f kind .low)) (fits-sits limit hs bs f kind) .1
 
@@ -92,7 +92,7 @@ module _ (kind : Kind) (limit : ℕ) (hs bs : List Segment) (f : Fits limit hs b
       go (inr h) = inr ((λ e. bounds-unseen kind limit l (subst (λ (c : Core). boundsOf kind limit c .least ≡ boundsOf kind limit c .most) e (h .0))), h .1)
 
 -- so a size that is known is that of every cut that fits
-pub known-cut : (kind : Kind) (limit : ℕ) (hs bs : List Segment) → limitLeast ≤ limit → sizeOf kind limit hs bs ≢ 0 → (f : Fits limit hs bs) → sizeOf kind limit hs bs ≡ cutOf kind f
+pub known-cut : (kind : Part) (limit : ℕ) (hs bs : List Segment) → limitLeast ≤ limit → sizeOf kind limit hs bs ≢ 0 → (f : Fits limit hs bs) → sizeOf kind limit hs bs ≡ cutOf kind f
 known-cut kind limit hs bs l d f = go (coreOf hs) refl (known-only kind limit hs bs f l d)
   where
     go : (c : Core) → coreOf hs ≡ c → (1 ≤ summary (those kind hs bs) .top) ⊎ ((coreOf hs ≢ Unseen) × (2 ≤ summary (those kind hs bs) .part .end)) → sizeOf kind limit hs bs ≡ cutOf kind f
@@ -107,7 +107,7 @@ part-at : (b : Bounds) (S L : ℕ) (ss : List Segment) → WithinOf b S L → Ea
 part-at b S L ss w s = record { size = S; long = L; within = w; sits = s }
 
 -- every size and length that suits a part is that of some object and cut that fit
-pub size-fits : (kind : Kind) (limit : ℕ) (hs bs : List Segment) → limit ≤ limitMost → Fits limit hs bs → (S L : ℕ) → WithinOf (boundsOf kind limit (coreOf hs)) S L → Each (Sits S L) (those kind hs bs) → (f : Fits limit hs bs) × (cutOf kind f ≡ S)
+pub size-fits : (kind : Part) (limit : ℕ) (hs bs : List Segment) → limit ≤ limitMost → Fits limit hs bs → (S L : ℕ) → WithinOf (boundsOf kind limit (coreOf hs)) S L → Each (Sits S L) (those kind hs bs) → (f : Fits limit hs bs) × (cutOf kind f ≡ S)
 size-fits Header limit hs bs z f S L w s =
     let p = fits-passes limit hs bs f in
     let r = sits-object limit hs bs z (header-bytes limit hs bs f) (body-bytes limit hs bs f) (p .headerAgree) (p .bodyAgree) (coreOf hs) refl (fits-core limit hs bs f) (record { size = S; long = L; within = w; sits = s }) (part-at (boundsOf Body limit (coreOf hs)) (f .bodyCut) (length (f .body)) bs (fits-within limit hs bs f Body) (fits-sits limit hs bs f Body)) in
@@ -118,14 +118,14 @@ size-fits Body limit hs bs z f S L w s =
     (r .0, r .2)
 
 -- nothing of a part is in: any size from 1,024 up fits, so at least two do
-numbers-reach : (kind : Kind) (limit : ℕ) (c : Core) (S L : ℕ) → limit ≤ limitMost → L ≤ boundsOf kind limit c .most → coreFits limit c ≡ true → 1024 ≤ S → L ≤ boundsOf kind limit c .numbers * S
+numbers-reach : (kind : Part) (limit : ℕ) (c : Core) (S L : ℕ) → limit ≤ limitMost → L ≤ boundsOf kind limit c .most → coreFits limit c ≡ true → 1024 ≤ S → L ≤ boundsOf kind limit c .numbers * S
 unfolding boundsOf coreFits
 numbers-reach Header limit Unseen S L z h k g = omega arith
 numbers-reach Header limit (Seen B H) S L z h k g = let t = all-true (coreTests limit (Seen B H)) k in omega (arith, leb-true)
 numbers-reach Body limit Unseen S L z h k g = omega arith
 numbers-reach Body limit (Seen B H) S L z h k g = let t = all-true (coreTests limit (Seen B H)) k in omega (arith, leb-true)
 
-pub nothing-known : (kind : Kind) (limit : ℕ) (hs bs : List Segment) → limit ≤ limitMost → Fits limit hs bs → those kind hs bs ≡ [] → (S : ℕ) → 1024 ≤ S → S ≤ sizeMost → (f : Fits limit hs bs) × (cutOf kind f ≡ S)
+pub nothing-known : (kind : Part) (limit : ℕ) (hs bs : List Segment) → limit ≤ limitMost → Fits limit hs bs → those kind hs bs ≡ [] → (S : ℕ) → 1024 ≤ S → S ≤ sizeMost → (f : Fits limit hs bs) × (cutOf kind f ≡ S)
 nothing-known kind limit hs bs z f e S l m =
     let w = fits-within limit hs bs f kind in
     size-fits kind limit hs bs z f S (length (partOf kind f))
@@ -133,7 +133,7 @@ nothing-known kind limit hs bs z f e S l m =
     (rw e tt)
 
 -- only the last one of a part is in, and the part's length is not known: every size that the bounds leave fits
-pub last-known : (kind : Kind) (limit : ℕ) (hs bs : List Segment) → limit ≤ limitMost → Fits limit hs bs → summary (those kind hs bs) .top ≡ 0 → (n k : ℕ) → summary (those kind hs bs) .part .end ≡ suc n → summary (those kind hs bs) .part .tail ≡ k → (S : ℕ) → sizeLeast ≤ S → S ≤ sizeMost → k ≤ S → boundsOf kind limit (coreOf hs) .least ≤ n * S + k → n * S + k ≤ boundsOf kind limit (coreOf hs) .most → (f : Fits limit hs bs) × (cutOf kind f ≡ S)
+pub last-known : (kind : Part) (limit : ℕ) (hs bs : List Segment) → limit ≤ limitMost → Fits limit hs bs → summary (those kind hs bs) .top ≡ 0 → (n k : ℕ) → summary (those kind hs bs) .part .end ≡ suc n → summary (those kind hs bs) .part .tail ≡ k → (S : ℕ) → sizeLeast ≤ S → S ≤ sizeMost → k ≤ S → boundsOf kind limit (coreOf hs) .least ≤ n * S + k → n * S + k ≤ boundsOf kind limit (coreOf hs) .most → (f : Fits limit hs bs) × (cutOf kind f ≡ S)
 last-known kind limit hs bs z f t n k e g S l m h a b =
     let w = fits-within limit hs bs f kind in
     let s = sum kind limit hs bs f in

@@ -12,7 +12,7 @@ use borrow.Author.Tests.{leb-true, le-leb}
 use Rattle.cut.specs.Lists.{Each}
 use Rattle.cut.specs.Requirement.{sizeMost, Segment}
 use Rattle.cut.specs.declared.Bounds.{Bounds}
-use Rattle.cut.specs.declared.Part.{Part}
+use Rattle.cut.specs.declared.Record.{Record}
 use Rattle.cut.specs.Decision.{pick, both, all, openTests, endedTests, roomAs, room, largest, nothingTests, firstTests, laterTests, aloneTests, alone, possible, Summary, addPart, addTop, summary}
 use Rattle.cut.specs.LawsSegment.{SitsAs, Sits, Within, PartSits}
 
@@ -199,7 +199,7 @@ module _ (b : Bounds) (S L : ℕ) (w : Within (b .least) (b .most) (b .numbers) 
       (true-all (endedTests b S n tail) (let g : n < b .numbers = below S n (b .numbers) (omega (arith, w .enough)) in omega (arith, le-leb, w .long, w .short, w .low, w .high)))
       (let h : t * S < n * S = omega arith in below S t n h)
 
-suits-possible : (b : Bounds) (top : ℕ) (p : Part) → Suits b top (p .size) (p .end) (p .tail) → possible b top p ≡ true
+suits-possible : (b : Bounds) (top : ℕ) (p : Record) → Suits b top (p .size) (p .end) (p .tail) → possible b top p ≡ true
 unfolding alone room
 suits-possible b zero p s = alone-passes b (s .cut) (s .long) (s .within) (p .end) (p .tail) (s .ended)
 suits-possible b (suc t) p s = le-leb (suc t) (roomAs b (p .size) (p .end) (p .tail)) (rw (s .full .0) (room-passes b (s .cut) (s .long) (s .within) t (p .end) (p .tail) (s .full .1) (s .ended)))
@@ -253,13 +253,13 @@ room-suits b t size (suc n) tail h =
       ended = (refl, omega (arith, leb-true), omega (arith, leb-true));
     }
 
-possible-suits : (b : Bounds) (top : ℕ) (p : Part) → possible b top p ≡ true → Suits b top (p .size) (p .end) (p .tail)
+possible-suits : (b : Bounds) (top : ℕ) (p : Record) → possible b top p ≡ true → Suits b top (p .size) (p .end) (p .tail)
 unfolding alone room
 possible-suits b zero p e = alone-suits b (p .size) (p .end) (p .tail) e
 possible-suits b (suc t) p e = room-suits b t (p .size) (p .end) (p .tail) (leb-true (suc t) (roomAs b (p .size) (p .end) (p .tail)) e)
 
 -- THE TESTS pass exactly when some size and length within the bounds suit what is kept
-pub possible-iff : (b : Bounds) (top : ℕ) (p : Part) → (possible b top p ≡ true) ↔ Suits b top (p .size) (p .end) (p .tail)
+pub possible-iff : (b : Bounds) (top : ℕ) (p : Record) → (possible b top p ≡ true) ↔ Suits b top (p .size) (p .end) (p .tail)
 possible-iff b top p = (possible-suits b top p, suits-possible b top p)
 
 -- ---- one part

@@ -10,8 +10,8 @@ use lib.Dec.{eqb}
 use borrow.Author.Tests.{eqb-true, eqb-false, leb-true, le-leb}
 use Rattle.cut.specs.Lists.{Each, Bytes, each-map, bytes-append, bytes-zeros}
 use Rattle.cut.specs.Requirement.{headerLeast, headerMost, limitMost, sizeLeast, headerNumbers, bodyNumbers, bodySize, headerSize, IsObject, IsCut, Segment, Sends, Fits}
-use Rattle.cut.specs.declared.Kind.{Kind}
-use Rattle.cut.specs.declared.Kind.the-variants.{Header, Body}
+use Rattle.answer.specs.declared.Part.{Part}
+use Rattle.answer.specs.declared.Part.the-variants.{Header, Body}
 use Rattle.cut.specs.declared.Core.{Core}
 use Rattle.cut.specs.declared.Core.the-variants.{Unseen, Seen}
 use Rattle.cut.specs.declared.Bounds.{Bounds}
@@ -23,24 +23,24 @@ use Rattle.cut.specs.LawsDecision.{Clear, all-true, true-all, sits-possi
 -- ---- one part or the other
 
 -- a segment more, of the header or of the body
-abbrev pub headersWith : Kind → Segment → List Segment → List Segment
+abbrev pub headersWith : Part → Segment → List Segment → List Segment
 headersWith Header s hs = s ∷ hs
 headersWith Body s hs = hs
 
-abbrev pub bodiesWith : Kind → Segment → List Segment → List Segment
+abbrev pub bodiesWith : Part → Segment → List Segment → List Segment
 bodiesWith Header s bs = bs
 bodiesWith Body s bs = s ∷ bs
 
 -- the segments of a part, and of an object that they fit the part's bytes and its cut
-abbrev pub those : Kind → List Segment → List Segment → List Segment
+abbrev pub those : Part → List Segment → List Segment → List Segment
 those Header hs bs = hs
 those Body hs bs = bs
 
-abbrev pub partOf : (kind : Kind) {limit : ℕ} {hs bs : List Segment} → Fits limit hs bs → List ℕ
+abbrev pub partOf : (kind : Part) {limit : ℕ} {hs bs : List Segment} → Fits limit hs bs → List ℕ
 partOf Header f = f .header
 partOf Body f = f .body
 
-abbrev pub cutOf : (kind : Kind) {limit : ℕ} {hs bs : List Segment} → Fits limit hs bs → ℕ
+abbrev pub cutOf : (kind : Part) {limit : ℕ} {hs bs : List Segment} → Fits limit hs bs → ℕ
 cutOf Header f = f .headerCut
 cutOf Body f = f .bodyCut
 
@@ -97,7 +97,7 @@ module _ (limit : ℕ) (hs bs : List Segment) (f : Fits limit hs bs) where
   o : IsObject limit (f .header) (f .body)
   o = f .object
 
-  within-as : (kind : Kind) (c : Core) → CoreIs (f .header) c → WithinOf (boundsOf kind limit c) (cutOf kind f) (length (partOf kind f))
+  within-as : (kind : Part) (c : Core) → CoreIs (f .header) c → WithinOf (boundsOf kind limit c) (cutOf kind f) (length (partOf kind f))
   unfolding boundsOf
   within-as Header Unseen i = within-of (boundsOf Header limit Unseen) (f .headerCut) (f .header) (o .headerLow) (o .headerHigh) (f .headerCuts)
   within-as Header (Seen B H) i = let h : H ≡ length (f .header) = i .1 ∙ o .saysHeader in within-of (boundsOf Header limit (Seen B H)) (f .headerCut) (f .header) (omega arith) (omega arith) (f .headerCuts)
@@ -107,14 +107,14 @@ module _ (limit : ℕ) (hs bs : List Segment) (f : Fits limit hs bs) where
   core-now : CoreIs (f .header) (coreOf hs)
   core-now = core-is (f .header) (f .headerCut) hs (f .headerCuts .low) (f .headerSent)
 
-  pub fits-within : (kind : Kind) → WithinOf (boundsOf kind limit (coreOf hs)) (cutOf kind f) (length (partOf kind f))
+  pub fits-within : (kind : Part) → WithinOf (boundsOf kind limit (coreOf hs)) (cutOf kind f) (length (partOf kind f))
   fits-within kind = within-as kind (coreOf hs) core-now
 
-  pub fits-sits : (kind : Kind) → Each (Sits (cutOf kind f) (length (partOf kind f))) (those kind hs bs)
+  pub fits-sits : (kind : Part) → Each (Sits (cutOf kind f) (length (partOf kind f))) (those kind hs bs)
   fits-sits Header = each-map (λ s u. sends-sits (f .header) (f .headerCut) s u) hs (f .headerSent)
   fits-sits Body = each-map (λ s u. sends-sits (f .body) (f .bodyCut) s u) bs (f .bodySent)
 
-  fits-possible : (kind : Kind) → Clear (those kind hs bs) × (possible (boundsOf kind limit (coreOf hs)) (summary (those kind hs bs) .top) (summary (those kind hs bs) .part) ≡ true)
+  fits-possible : (kind : Part) → Clear (those kind hs bs) × (possible (boundsOf kind limit (coreOf hs)) (summary (those kind hs bs) .top) (summary (those kind hs bs) .part) ≡ true)
   fits-possible kind = sits-possible (boundsOf kind limit (coreOf hs)) (those kind hs bs) (record { size = cutOf kind f; long = length (partOf kind f); within = fits-within kind; sits = fits-sits kind })
 
   core-sits : (c : Core) → CoreIs (f .header) c → coreFits limit c ≡ true

@@ -13,7 +13,7 @@ use Rattle.cut.specs.Lists.{Each, Among, each-map, each-among, among-eac
 use Rattle.cut.specs.Requirement.{bodySize, headerSize, Segment, Fits}
 use Rattle.cut.specs.declared.Core.{Core}
 use Rattle.cut.specs.declared.Core.the-variants.{Unseen, Seen}
-use Rattle.cut.specs.declared.Part.{Part}
+use Rattle.cut.specs.declared.Record.{Record}
 use Rattle.cut.specs.Decision.{pick, Summary, addPart, addTop, summary, coreOf}
 use Rattle.cut.specs.LawsSegment.{Numbered, Same, Agree, same-is, among-numbered}
 use Rattle.cut.specs.LawsDecision.{SizeIs, EndIs, JoinsAs, Clear}
@@ -85,7 +85,7 @@ top-raise s ss (suc t) size e i h = go (decLe t (s .number))
     go (yes g) = let m : max (suc (s .number)) (suc t) ≡ suc (s .number) = omega arith in rw m (s, inl refl, e, refl, refl)
     go (no g) = let m : max (suc (s .number)) (suc t) ≡ suc t = omega arith in rw m (h .0, inr (h .1), h .2, h .3, h .4 ∙ sym i)
 
-end-step : (b : Bool) (s : Segment) (ss : List Segment) (p : Part) → s .last ≡ b → EndFrom ss (p .end) (p .tail) → EndFrom (s ∷ ss) (addPart b (s .number) (length (s .bytes)) p .end) (addPart b (s .number) (length (s .bytes)) p .tail)
+end-step : (b : Bool) (s : Segment) (ss : List Segment) (p : Record) → s .last ≡ b → EndFrom ss (p .end) (p .tail) → EndFrom (s ∷ ss) (addPart b (s .number) (length (s .bytes)) p .end) (addPart b (s .number) (length (s .bytes)) p .tail)
 end-step true s ss p e h = (s, inl refl, e, refl, refl)
 end-step false s ss p e h = end-weak s ss (p .end) (p .tail) h
 
@@ -132,7 +132,7 @@ none-size : (ss : List Segment) (top size : ℕ) → TopFrom ss top size → top
 none-size ss zero size h e = h
 none-size ss (suc t) size h e = absurd (omega arith)
 
-end-same : (ss ts : List Segment) (p q : Part) → EndFrom ss (p .end) (p .tail) → EndFrom ts (q .end) (q .tail) → (p .end ≡ 0) ⊎ ((q .end ≡ p .end) × (q .tail ≡ p .tail)) → (q .end ≡ 0) ⊎ ((p .end ≡ q .end) × (p .tail ≡ q .tail)) → (p .end ≡ q .end) × (p .tail ≡ q .tail)
+end-same : (ss ts : List Segment) (p q : Record) → EndFrom ss (p .end) (p .tail) → EndFrom ts (q .end) (q .tail) → (p .end ≡ 0) ⊎ ((q .end ≡ p .end) × (q .tail ≡ p .tail)) → (q .end ≡ 0) ⊎ ((p .end ≡ q .end) × (p .tail ≡ q .tail)) → (p .end ≡ q .end) × (p .tail ≡ q .tail)
 end-same ss ts p q a b (inl x) (inr y) = y
 end-same ss ts p q a b (inr x) (inl y) = (sym (x .0), sym (x .1))
 end-same ss ts p q a b (inr x) (inr y) = y

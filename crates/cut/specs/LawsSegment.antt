@@ -11,7 +11,9 @@ use lib.ListN.{length, take, drop, replicate, length-replicate, length-take, len
 use lib.Seq.{take-all}
 use lib.Dec.{leb}
 use borrow.Author.Tests.{leb-true, leb-false, le-leb, lt-leb}
-use Rattle.cut.specs.Lists.{Each, Among, Bytes, each-map, each-zip, each-zip3, bytes-take, bytes-drop, bytes-zeros, over, over-length, over-same, over-after, over-before, over-bytes}
+use Rattle.octets.specs.Octets.{over}
+use Rattle.octets.specs.Over.{over-length, over-inside, over-after, over-before}
+use Rattle.cut.specs.Lists.{Each, Among, Bytes, each-map, each-zip, each-zip3, bytes-take, bytes-drop, bytes-zeros, over-bytes}
 use Rattle.cut.specs.Requirement.{sizeLeast, sizeMost, IsCut, Segment, Sends}
 
 -- ---- one segment, in numbers
@@ -157,19 +159,19 @@ one-stands l S s q z a b e h = go (ℕ-discrete (s .number) (q .number)) (decLe 
     j = inside S (length l) q z b
 
     go : Dec (s .number ≡ q .number) → Dec (s .number ≤ q .number) → Stands (over l (s .number * S) (s .bytes)) S q
-    go (yes f) d = rw (← f, ← (e f .1)) (over-same l (s .number * S) (s .bytes) (omega (arith, i)))
-    go (no f) (yes g) = rw (over-after l (s .number * S) (s .bytes) (q .number * S) (i .ends) (omega (arith, i, mul-le-mul-right S (less g f)))) h
+    go (yes f) d = rw (← f, ← (e f .1)) (over-inside l (s .number * S) (s .bytes) (i .ends))
+    go (no f) (yes g) = rw (over-after l (s .number * S) (s .bytes) (i .ends) (q .number * S) (omega (arith, i, mul-le-mul-right S (less g f)))) h
       where
         less : s .number ≤ q .number → ¬ (s .number ≡ q .number) → s .number < q .number
         less g f = omega arith
-    go (no f) (no g) = rw (over-before l (s .number * S) (s .bytes) (q .number * S) (length (q .bytes)) (omega (arith, i)) (omega (arith, j, mul-le-mul-right S (less g)))) h
+    go (no f) (no g) = rw (over-before l (s .number * S) (s .bytes) (i .ends) (q .number * S) (length (q .bytes)) (omega (arith, j, mul-le-mul-right S (less g)))) h
       where
         less : ¬ (s .number ≤ q .number) → q .number < s .number
         less g = omega arith
 
-stands-new : (l : List ℕ) (S : ℕ) (s : Segment) → s .number * S ≤ length l → Stands (over l (s .number * S) (s .bytes)) S s
+stands-new : (l : List ℕ) (S : ℕ) (s : Segment) → s .number * S + length (s .bytes) ≤ length l → Stands (over l (s .number * S) (s .bytes)) S s
 unfolding Stands
-stands-new l S s h = over-same l (s .number * S) (s .bytes) h
+stands-new l S s h = over-inside l (s .number * S) (s .bytes) h
 
 fill-stands : (base : List ℕ) (S : ℕ) (ss : List Segment) → 0 < S → Each (Sits S (length base)) ss → Agree ss → Each (Stands (fill base S ss) S) ss
 fill-stands base S [] z t a = tt
@@ -202,7 +204,7 @@ fill-front m base S [] z g t h = refl
 fill-front m base S (s ∷ ss) z g t h =
     let e : length (fill base S ss) ≡ length base = fill-length base S ss z (t .1) in
     let b = inside S (length base) s z (t .0) in
-    over-before (fill base S ss) (s .number * S) (s .bytes) 0 m (omega (arith, b .ends)) (omega (arith, mul-le-mul-right S (h .0))) ∙ fill-front m base S ss z g (t .1) (h .1)
+    over-before (fill base S ss) (s .number * S) (s .bytes) (omega (arith, b .ends)) 0 m (omega (arith, mul-le-mul-right S (h .0))) ∙ fill-front m base S ss z g (t .1) (h .1)
 
 -- ---- one part
 

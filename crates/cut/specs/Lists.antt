@@ -1,4 +1,5 @@
 -- Lists, for any use: what holds of each element, what is among them, and a run of bytes written over a list.
+use Rattle.octets.specs.Octets.{over}
 use mathlib.Core.Path.{_≡_, refl, sym, ap, _∙_, subst}
 use mathlib.Core.Logic.{_⊎_, inl, inr}
 use mathlib.Core.List.{List, [], _∷_, _++_, append-assoc}
@@ -92,34 +93,7 @@ front-part l r i j m h g =
     let d3 : take m (take (i - j) (drop j l) ++ r) ≡ take m (take (i - j) (drop j l)) = take-append-le m (take (i - j) (drop j l)) r (simp (length-take, length-drop) (omega arith)) in
     rw (d1, d2, d3) (take-take m (i - j) (drop j l) (omega arith))
 
--- ---- a run of bytes written over a list, from i on
-
-unfoldable pub over : List ℕ → ℕ → List ℕ → List ℕ
-over l i vs = take i l ++ vs ++ drop (i + length vs) l
-
-pub over-length : (l : List ℕ) (i : ℕ) (vs : List ℕ) → i + length vs ≤ length l → length (over l i vs) ≡ length l
-unfolding over
-over-length l i vs h = simp (length-append, length-take, length-drop) (omega arith)
-
--- what was written stands there
-pub over-same : (l : List ℕ) (i : ℕ) (vs : List ℕ) → i ≤ length l → take (length vs) (drop i (over l i vs)) ≡ vs
-unfolding over
-over-same l i vs h = rw (append-assoc, drop-at (take i l) (vs ++ drop (i + length vs) l) i (take-length i l h)) (take-at vs (drop (i + length vs) l) (length vs) refl)
-
--- what follows it stays
-pub over-after : (l : List ℕ) (i : ℕ) (vs : List ℕ) (j : ℕ) → i + length vs ≤ length l → i + length vs ≤ j → drop j (over l i vs) ≡ drop j l
-unfolding over
-over-after l i vs j h g =
-    let e : i + length vs + (j - (i + length vs)) ≡ j = omega arith in
-    let f : length (take i l ++ vs) ≡ i + length vs = simp (length-append, length-take) (omega arith) in
-    let d : drop (i + length vs) (over l i vs) ≡ drop (i + length vs) l = drop-at (take i l ++ vs) (drop (i + length vs) l) (i + length vs) f in
-    subst (λ (k : ℕ). drop k (over l i vs) ≡ drop k l) e
-    (sym (drop-drop (j - (i + length vs)) (i + length vs) (over l i vs)) ∙ ap (drop (j - (i + length vs))) d ∙ drop-drop (j - (i + length vs)) (i + length vs) l)
-
--- what comes before it stays
-pub over-before : (l : List ℕ) (i : ℕ) (vs : List ℕ) (j m : ℕ) → i ≤ length l → j + m ≤ i → take m (drop j (over l i vs)) ≡ take m (drop j l)
-unfolding over
-over-before l i vs j m h g = rw append-assoc (front-part l (vs ++ drop (i + length vs) l) i j m h g)
+-- ---- a run of bytes laid over a list
 
 pub over-bytes : (l : List ℕ) (i : ℕ) (vs : List ℕ) → Bytes l → Bytes vs → Bytes (over l i vs)
 unfolding over

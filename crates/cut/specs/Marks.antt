@@ -11,10 +11,11 @@ use lib.ListN.{length, drop, getD}
 use lib.Seq.{getD-drop}
 use lib.Dec.{eqb, leb}
 use borrow.Author.Tests.{eqb-true, eqb-false, eq-eqb, ne-eqb, le-leb}
+use Rattle.octets.specs.Octets.{sumOf}
 use Rattle.cut.specs.Lists.{Each, Among, each-among, each-drop}
 use Rattle.cut.specs.Requirement.{Segment, Fits, Finished}
-use Rattle.cut.specs.declared.Kind.{Kind}
-use Rattle.cut.specs.declared.Kind.the-variants.{Header, Body}
+use Rattle.answer.specs.declared.Part.{Part}
+use Rattle.answer.specs.declared.Part.the-variants.{Header, Body}
 use Rattle.cut.specs.declared.Core.{Core}
 use Rattle.cut.specs.declared.Core.the-variants.{Unseen, Seen}
 use Rattle.cut.specs.Decision.{both, summary, coreOf, whole, finished}
@@ -23,11 +24,6 @@ use Rattle.cut.specs.LawsDecision.{Clear, EndSits, both-true, true-both,
 use Rattle.cut.specs.LawsObject.{those, partOf, cutOf, fits-within, fits-sits}
 use Rattle.cut.specs.LawsOrder.{Knows, knows-each, knows-last, knows-full, EndFrom, TopFrom, end-from, top-from, agree-same}
 use Rattle.cut.specs.Finished.{Counted, finished-iff, finished-core}
-
--- the sum of marks
-abbrev pub total : List ℕ → ℕ
-total [] = 0
-total (m ∷ ms) = m + total ms
 
 -- 1 + the highest marked number but the last segment's, which is number end - 1, or 0
 abbrev pub topOne : ℕ → Bool → ℕ → ℕ
@@ -120,47 +116,47 @@ module _ (marks : List ℕ) (ss : List Segment) (m : Marked marks ss) (a : Agree
 zero-of : (x : ℕ) → ¬ (0 < x) → x ≡ 0
 zero-of x h = omega arith
 
-none-total : (l : List ℕ) → ((i : ℕ) → getD l i 0 ≡ 0) → total l ≡ 0
+none-total : (l : List ℕ) → ((i : ℕ) → getD l i 0 ≡ 0) → sumOf l ≡ 0
 none-total [] f = refl
 none-total (m ∷ ms) f = let x : m ≡ 0 = f 0 in let r = none-total ms (λ i. f (suc i)) in omega arith
 
-total-none : (l : List ℕ) → total l ≡ 0 → (i : ℕ) → getD l i 0 ≡ 0
+total-none : (l : List ℕ) → sumOf l ≡ 0 → (i : ℕ) → getD l i 0 ≡ 0
 total-none [] e zero = refl
 total-none [] e (suc i) = refl
 total-none (m ∷ ms) e zero = omega arith
 total-none (m ∷ ms) e (suc i) = total-none ms (omega arith) i
 
-pub total-some : (l : List ℕ) (i : ℕ) → 0 < getD l i 0 → 0 < total l
+pub total-some : (l : List ℕ) (i : ℕ) → 0 < getD l i 0 → 0 < sumOf l
 total-some [] zero h = h
 total-some [] (suc i) h = h
 total-some (m ∷ ms) zero h = omega arith
 total-some (m ∷ ms) (suc i) h = omega (arith, total-some ms i h)
 
 -- one mark is set at j: the sum is 1 exactly when no other is
-one-total : (l : List ℕ) (j : ℕ) → Each (λ m. m ≤ 1) l → 0 < getD l j 0 → ((i : ℕ) → 0 < getD l i 0 → i ≡ j) → total l ≡ 1
+one-total : (l : List ℕ) (j : ℕ) → Each (λ m. m ≤ 1) l → 0 < getD l j 0 → ((i : ℕ) → 0 < getD l i 0 → i ≡ j) → sumOf l ≡ 1
 one-total [] zero e h f = absurd (omega arith)
 one-total [] (suc j) e h f = absurd (omega arith)
 one-total (m ∷ ms) zero e h f =
-    let r : total ms ≡ 0 = none-total ms (λ i. zero-of (getD ms i 0) (λ p. let q : suc i ≡ 0 = f (suc i) p in omega arith)) in
+    let r : sumOf ms ≡ 0 = none-total ms (λ i. zero-of (getD ms i 0) (λ p. let q : suc i ≡ 0 = f (suc i) p in omega arith)) in
     omega (arith, e .0)
 one-total (m ∷ ms) (suc j) e h f =
     let z : ¬ (0 < m) = λ p. (let q : 0 ≡ suc j = f 0 p in omega arith) in
-    let r : total ms ≡ 1 = one-total ms j (e .1) h (λ i p. let q : suc i ≡ suc j = f (suc i) p in omega arith) in
+    let r : sumOf ms ≡ 1 = one-total ms j (e .1) h (λ i p. let q : suc i ≡ suc j = f (suc i) p in omega arith) in
     omega arith
 
-rest-one : (m : ℕ) (ms : List ℕ) (j : ℕ) → 0 < getD ms j 0 → m + total ms ≡ 1 → total ms ≡ 1
-rest-one m ms j h e = go (ℕ-discrete (total ms) 0)
+rest-one : (m : ℕ) (ms : List ℕ) (j : ℕ) → 0 < getD ms j 0 → m + sumOf ms ≡ 1 → sumOf ms ≡ 1
+rest-one m ms j h e = go (ℕ-discrete (sumOf ms) 0)
   where
-    go : Dec (total ms ≡ 0) → total ms ≡ 1
+    go : Dec (sumOf ms ≡ 0) → sumOf ms ≡ 1
     go (yes z) = absurd (omega (arith, total-none ms z j))
     go (no z) = omega arith
 
-total-one : (l : List ℕ) (j : ℕ) → 0 < getD l j 0 → total l ≡ 1 → (i : ℕ) → 0 < getD l i 0 → i ≡ j
+total-one : (l : List ℕ) (j : ℕ) → 0 < getD l j 0 → sumOf l ≡ 1 → (i : ℕ) → 0 < getD l i 0 → i ≡ j
 total-one [] zero h e i p = absurd (omega arith)
 total-one [] (suc j) h e i p = absurd (omega arith)
 total-one (m ∷ ms) zero h e zero p = refl
-total-one (m ∷ ms) zero h e (suc i) p = let z : total ms ≡ 0 = omega arith in absurd (omega (arith, total-none ms z i))
-total-one (m ∷ ms) (suc j) h e zero p = let z : total ms ≡ 0 = omega arith in absurd (omega (arith, total-none ms z j))
+total-one (m ∷ ms) zero h e (suc i) p = let z : sumOf ms ≡ 0 = omega arith in absurd (omega (arith, total-none ms z i))
+total-one (m ∷ ms) (suc j) h e zero p = let z : sumOf ms ≡ 0 = omega arith in absurd (omega (arith, total-none ms z j))
 total-one (m ∷ ms) (suc j) h e (suc i) p = let r : i ≡ j = total-one ms j h (rest-one m ms j h e) i p in omega arith
 
 -- no full segment has a number from b on: only the last one may be marked there
@@ -186,7 +182,7 @@ top-below end b marks = (there, back)
             say (no g) r = omega arith
 
 -- the last one is not marked: the sum of the marks from b on is 0
-pub top-open : (end b : ℕ) (marks : List ℕ) → ((n : ℕ) → suc n ≡ end → getD marks n 0 ≡ 0) → (topFrom end 0 marks ≤ b) ↔ (total (drop b marks) ≡ 0)
+pub top-open : (end b : ℕ) (marks : List ℕ) → ((n : ℕ) → suc n ≡ end → getD marks n 0 ≡ 0) → (topFrom end 0 marks ≤ b) ↔ (sumOf (drop b marks) ≡ 0)
 top-open end b marks u = (
   (λ h. none-total (drop b marks) (λ i. zero-of (getD (drop b marks) i 0) (λ p.
       let g : 0 < getD marks (b + i) 0 = rw getD-drop at p in
@@ -196,7 +192,7 @@ top-open end b marks u = (
 )
 
 -- the last one, number j, is marked, from b on: the sum is 1
-pub top-ended : (b j : ℕ) (marks : List ℕ) → Each (λ m. m ≤ 1) marks → b ≤ j → 0 < getD marks j 0 → (topFrom (suc j) 0 marks ≤ b) ↔ (total (drop b marks) ≡ 1)
+pub top-ended : (b j : ℕ) (marks : List ℕ) → Each (λ m. m ≤ 1) marks → b ≤ j → 0 < getD marks j 0 → (topFrom (suc j) 0 marks ≤ b) ↔ (sumOf (drop b marks) ≡ 1)
 top-ended b j marks e g m = (
   (λ h. one-total (drop b marks) (j - b) (each-drop (λ m. m ≤ 1) b marks e) mark (λ i p. let q : suc (b + i) ≡ suc j = top-below (suc j) b marks .0 h (b + i) (omega arith) (rw getD-drop at p) in omega arith)),
   (λ h. top-below (suc j) b marks .1 (λ n l p. let x : n - b ≡ j - b = total-one (drop b marks) (j - b) mark h (n - b) (at n l p) in omega arith)),
@@ -210,33 +206,33 @@ top-ended b j marks e g m = (
 
 -- ---- counting: every number below the end is marked exactly when the sum says so
 
-total-most : (marks : List ℕ) (end : ℕ) → Each (λ m. m ≤ 1) marks → ((i : ℕ) → 0 < getD marks i 0 → i < end) → total marks ≤ end
+total-most : (marks : List ℕ) (end : ℕ) → Each (λ m. m ≤ 1) marks → ((i : ℕ) → 0 < getD marks i 0 → i < end) → sumOf marks ≤ end
 total-most [] end b h = omega arith
 total-most (m ∷ ms) zero b h =
     let z : ¬ (0 < m) = λ p. (let q : 0 < 0 = h 0 p in omega arith) in
-    let r : total ms ≤ 0 = total-most ms zero (b .1) (λ i p. let q : suc i < 0 = h (suc i) p in absurd (omega arith)) in
+    let r : sumOf ms ≤ 0 = total-most ms zero (b .1) (λ i p. let q : suc i < 0 = h (suc i) p in absurd (omega arith)) in
     omega arith
 total-most (m ∷ ms) (suc end) b h =
-    let r : total ms ≤ end = total-most ms end (b .1) (λ i p. let q : suc i < suc end = h (suc i) p in omega arith) in
+    let r : sumOf ms ≤ end = total-most ms end (b .1) (λ i p. let q : suc i < suc end = h (suc i) p in omega arith) in
     omega (arith, b .0)
 
-all-total : (marks : List ℕ) (end : ℕ) → Each (λ m. m ≤ 1) marks → ((i : ℕ) → 0 < getD marks i 0 → i < end) → ((i : ℕ) → i < end → 0 < getD marks i 0) → total marks ≡ end
+all-total : (marks : List ℕ) (end : ℕ) → Each (λ m. m ≤ 1) marks → ((i : ℕ) → 0 < getD marks i 0 → i < end) → ((i : ℕ) → i < end → 0 < getD marks i 0) → sumOf marks ≡ end
 all-total [] zero b h a = refl
 all-total [] (suc end) b h a = let q : 0 < 0 = a 0 (omega arith) in absurd (omega arith)
 all-total (m ∷ ms) zero b h a = let r = total-most (m ∷ ms) zero b h in omega arith
 all-total (m ∷ ms) (suc end) b h a =
-    let r : total ms ≡ end = all-total ms end (b .1) (λ i p. let q : suc i < suc end = h (suc i) p in omega arith) (λ i p. a (suc i) (omega arith)) in
+    let r : sumOf ms ≡ end = all-total ms end (b .1) (λ i p. let q : suc i < suc end = h (suc i) p in omega arith) (λ i p. a (suc i) (omega arith)) in
     let q : 0 < m = a 0 (omega arith) in
     omega (arith, b .0)
 
-total-all : (marks : List ℕ) (end : ℕ) → Each (λ m. m ≤ 1) marks → ((i : ℕ) → 0 < getD marks i 0 → i < end) → total marks ≡ end → (i : ℕ) → i < end → 0 < getD marks i 0
+total-all : (marks : List ℕ) (end : ℕ) → Each (λ m. m ≤ 1) marks → ((i : ℕ) → 0 < getD marks i 0 → i < end) → sumOf marks ≡ end → (i : ℕ) → i < end → 0 < getD marks i 0
 total-all [] end b h t i p = let z : end ≡ 0 = sym t in absurd (omega arith)
 total-all (m ∷ ms) zero b h t i p = absurd (omega arith)
 total-all (m ∷ ms) (suc end) b h t zero p =
-    let r : total ms ≤ end = total-most ms end (b .1) (λ i p. let q : suc i < suc end = h (suc i) p in omega arith) in
+    let r : sumOf ms ≤ end = total-most ms end (b .1) (λ i p. let q : suc i < suc end = h (suc i) p in omega arith) in
     omega arith
 total-all (m ∷ ms) (suc end) b h t (suc i) p =
-    let r : total ms ≤ end = total-most ms end (b .1) (λ i p. let q : suc i < suc end = h (suc i) p in omega arith) in
+    let r : sumOf ms ≤ end = total-most ms end (b .1) (λ i p. let q : suc i < suc end = h (suc i) p in omega arith) in
     total-all ms end (b .1) (λ i p. let q : suc i < suc end = h (suc i) p in omega arith) (omega (arith, b .0)) i (omega arith)
 
 -- every number that is in lies below the end, once there is one
@@ -249,40 +245,40 @@ below-end ss S L (suc m) tail s z e d i n =
     let g : i * S < suc m * S = omega (arith, b .starts) in
     lt-of-mul-lt-mul-right S g
 
-counted-as : (marks : List ℕ) (ss : List Segment) (end tail S L : ℕ) → Marked marks ss → Each (Sits S L) ss → 0 < S → EndSits S L end tail → (both (leb 1 end) (eqb (total marks) end) ≡ true) ↔ Counted end ss
+counted-as : (marks : List ℕ) (ss : List Segment) (end tail S L : ℕ) → Marked marks ss → Each (Sits S L) ss → 0 < S → EndSits S L end tail → (both (leb 1 end) (eqb (sumOf marks) end) ≡ true) ↔ Counted end ss
 counted-as marks ss zero tail S L m s z e = ((λ h. absurd (false-true refl h)), (λ w. absurd w))
 counted-as marks ss (suc n) tail S L m s z e = (
-  (λ h i g. m .marked i .0 (total-all marks (suc n) (m .bits) low (eqb-true (total marks) (suc n) (both-true (leb 1 (suc n)) (eqb (total marks) (suc n)) h .1)) i g)),
-  (λ w. true-both (leb 1 (suc n)) (eqb (total marks) (suc n)) (le-leb 1 (suc n) (omega arith)) (eq-eqb (total marks) (suc n) (all-total marks (suc n) (m .bits) low (λ i g. m .marked i .1 (w i g))))),
+  (λ h i g. m .marked i .0 (total-all marks (suc n) (m .bits) low (eqb-true (sumOf marks) (suc n) (both-true (leb 1 (suc n)) (eqb (sumOf marks) (suc n)) h .1)) i g)),
+  (λ w. true-both (leb 1 (suc n)) (eqb (sumOf marks) (suc n)) (le-leb 1 (suc n) (omega arith)) (eq-eqb (sumOf marks) (suc n) (all-total marks (suc n) (m .bits) low (λ i g. m .marked i .1 (w i g))))),
 )
   where
     low : (i : ℕ) → 0 < getD marks i 0 → i < suc n
     low i p = below-end ss S L (suc n) tail s z e (λ x. omega arith) i (m .marked i .0 p)
 
 -- a part is whole by the sum of its marks
-pub whole-marked : (kind : Kind) (limit : ℕ) (hs bs : List Segment) (f : Fits limit hs bs) (marks : List ℕ) → Marked marks (those kind hs bs) → (whole (total marks) (summary (those kind hs bs) .part) ≡ true) ↔ Counted (summary (those kind hs bs) .part .end) (those kind hs bs)
+pub whole-marked : (kind : Part) (limit : ℕ) (hs bs : List Segment) (f : Fits limit hs bs) (marks : List ℕ) → Marked marks (those kind hs bs) → (whole (sumOf marks) (summary (those kind hs bs) .part) ≡ true) ↔ Counted (summary (those kind hs bs) .part .end) (those kind hs bs)
 whole-marked kind limit hs bs f marks m =
     let z : 0 < cutOf kind f = omega (arith, fits-within limit hs bs f kind .low) in
     let s = fits-sits limit hs bs f kind in
     counted-as marks (those kind hs bs) (summary (those kind hs bs) .part .end) (summary (those kind hs bs) .part .tail) (cutOf kind f) (length (partOf kind f)) m s z (sits-sum (cutOf kind f) (length (partOf kind f)) (those kind hs bs) z s .1 .1)
 
 -- FINISHED, by what is kept: exactly when every segment of the object is in
-pub finished-marked : (limit : ℕ) (hs bs : List Segment) (f : Fits limit hs bs) (headerMarks bodyMarks : List ℕ) → Marked headerMarks hs → Marked bodyMarks bs → (finished (coreOf hs) (total headerMarks) (summary hs .part) (total bodyMarks) (summary bs .part) ≡ true) ↔ Finished f
+pub finished-marked : (limit : ℕ) (hs bs : List Segment) (f : Fits limit hs bs) (headerMarks bodyMarks : List ℕ) → Marked headerMarks hs → Marked bodyMarks bs → (finished (coreOf hs) (sumOf headerMarks) (summary hs .part) (sumOf bodyMarks) (summary bs .part) ≡ true) ↔ Finished f
 finished-marked limit hs bs f headerMarks bodyMarks mh mb = go (coreOf hs) refl
   where
-    h : (whole (total headerMarks) (summary hs .part) ≡ true) ↔ Counted (summary hs .part .end) hs
+    h : (whole (sumOf headerMarks) (summary hs .part) ≡ true) ↔ Counted (summary hs .part .end) hs
     h = whole-marked Header limit hs bs f headerMarks mh
 
-    b : (whole (total bodyMarks) (summary bs .part) ≡ true) ↔ Counted (summary bs .part .end) bs
+    b : (whole (sumOf bodyMarks) (summary bs .part) ≡ true) ↔ Counted (summary bs .part .end) bs
     b = whole-marked Body limit hs bs f bodyMarks mb
 
-    go : (c : Core) → coreOf hs ≡ c → (finished c (total headerMarks) (summary hs .part) (total bodyMarks) (summary bs .part) ≡ true) ↔ Finished f
+    go : (c : Core) → coreOf hs ≡ c → (finished c (sumOf headerMarks) (summary hs .part) (sumOf bodyMarks) (summary bs .part) ≡ true) ↔ Finished f
     go Unseen e = ((λ x. absurd (false-true refl x)), (λ w. let x : Unseen ≡ Seen (length (f .body)) (length (f .header)) = sym e ∙ finished-core limit hs bs f w in let z : _≡_ {A = ℕ} 0 1 = cc in absurd (omega arith)))
     go (Seen zero H) e =
         let r = finished-iff limit hs bs f zero H e in
         ((λ x. r .1 (h .0 x, (λ y. absurd (omega arith)))), (λ w. h .1 (r .0 w .0)))
     go (Seen (suc B) H) e =
         let r = finished-iff limit hs bs f (suc B) H e in (
-          (λ x. let t = both-true (whole (total headerMarks) (summary hs .part)) (whole (total bodyMarks) (summary bs .part)) x in r .1 (h .0 (t .0), (λ y. b .0 (t .1)))),
-          (λ w. let t = r .0 w in true-both (whole (total headerMarks) (summary hs .part)) (whole (total bodyMarks) (summary bs .part)) (h .1 (t .0)) (b .1 (t .1 (omega arith)))),
+          (λ x. let t = both-true (whole (sumOf headerMarks) (summary hs .part)) (whole (sumOf bodyMarks) (summary bs .part)) x in r .1 (h .0 (t .0), (λ y. b .0 (t .1)))),
+          (λ w. let t = r .0 w in true-both (whole (sumOf headerMarks) (summary hs .part)) (whole (sumOf bodyMarks) (summary bs .part)) (h .1 (t .0)) (b .1 (t .1 (omega arith)))),
         )

@@ -10,43 +10,44 @@ use native.Mathlib.Omega.{arith}
 use lib.ListN.{length, drop, getD}
 use lib.Dec.{eqb, leb}
 use borrow.Author.Tests.{eq-eqb, ne-eqb, le-leb, lt-leb, eqb-true}
+use Rattle.octets.specs.Octets.{sumOf}
 use Rattle.cut.specs.Lists.{Each, Bytes}
 use Rattle.cut.specs.Requirement.{limitMost, Segment, Fits}
-use Rattle.cut.specs.declared.Kind.{Kind}
-use Rattle.cut.specs.declared.Kind.the-variants.{Header, Body}
+use Rattle.answer.specs.declared.Part.{Part}
+use Rattle.answer.specs.declared.Part.the-variants.{Header, Body}
 use Rattle.cut.specs.declared.Core.{Core}
 use Rattle.cut.specs.declared.Bounds.{Bounds}
-use Rattle.cut.specs.declared.Part.{Part}
+use Rattle.cut.specs.declared.Record.{Record}
 use Rattle.cut.specs.Decision.{pick, both, all, boundsOf, coreFits, endedTests, room, alone, possible, addPart, addTop, summary, joins, someFull, settle, recordOf, coreAfter, coreOf, suits, accepts}
 use Rattle.cut.specs.LawsSegment.{Numbered, Agree}
 use Rattle.cut.specs.LawsDecision.{Clear}
 use Rattle.cut.specs.LawsObject.{headersWith, bodiesWith, those, Passes, fits-passes}
 use Rattle.cut.specs.Theorem.{end-numbered, accepted}
-use Rattle.cut.specs.Marks.{total, total-some, topFrom, Marked, top-kept, top-open, top-ended}
+use Rattle.cut.specs.Marks.{total-some, topFrom, Marked, top-kept, top-open, top-ended}
 
 -- 1 if the last one is in, else 0
-abbrev pub ended : Part → ℕ
+abbrev pub ended : Record → ℕ
 ended p = min 1 (p .end)
 
 -- what is marked can be: STATE asks this of each part
-unfoldable pub possibleIn : Bounds → Part → List ℕ → Bool
-possibleIn b p marks = pick (eqb (total marks) (ended p)) (alone b p) (eqb (total (drop (room b p) marks)) (ended p))
+unfoldable pub possibleIn : Bounds → Record → List ℕ → Bool
+possibleIn b p marks = pick (eqb (sumOf marks) (ended p)) (alone b p) (eqb (sumOf (drop (room b p) marks)) (ended p))
 
 -- what is marked and one more, number n, can be: p is the record with it, the mark is not set yet
-abbrev pub acceptsIn : Bool → ℕ → Bounds → Part → List ℕ → Bool
-acceptsIn true n b p marks = pick (eqb (total marks) 0) (alone b p) (eqb (total (drop (room b p) marks)) 0)
-acceptsIn false n b p marks = both (leb (suc n) (room b p)) (eqb (total (drop (room b p) marks)) (ended p))
+abbrev pub acceptsIn : Bool → ℕ → Bounds → Record → List ℕ → Bool
+acceptsIn true n b p marks = pick (eqb (sumOf marks) 0) (alone b p) (eqb (sumOf (drop (room b p) marks)) 0)
+acceptsIn false n b p marks = both (leb (suc n) (room b p)) (eqb (sumOf (drop (room b p) marks)) (ended p))
 
 -- what is marked of both parts can be, with what segment 0 says
-unfoldable pub suitsIn : ℕ → Core → Part → List ℕ → Part → List ℕ → Bool
+unfoldable pub suitsIn : ℕ → Core → Record → List ℕ → Record → List ℕ → Bool
 suitsIn limit c p headerMarks q bodyMarks = all (coreFits limit c ∷ possibleIn (boundsOf Header limit c) p headerMarks ∷ possibleIn (boundsOf Body limit c) q bodyMarks ∷ [])
 
 -- a full segment is in
-abbrev pub fullIn : Part → List ℕ → Bool
-fullIn p marks = leb (suc (ended p)) (total marks)
+abbrev pub fullIn : Record → List ℕ → Bool
+fullIn p marks = leb (suc (ended p)) (sumOf marks)
 
 -- THE DECISION, of the records and the marks of both parts: a segment whose number is not marked fits
-abbrev pub takes : Kind → ℕ → Core → Part → List ℕ → Part → List ℕ → Segment → Bool
+abbrev pub takes : Part → ℕ → Core → Record → List ℕ → Record → List ℕ → Segment → Bool
 takes Header limit c p headerMarks q bodyMarks s =
     both (joins (fullIn p headerMarks) (s .last) (length (s .bytes)) p)
     (all (coreFits limit (coreAfter s c) ∷ acceptsIn (s .last) (s .number) (boundsOf Header limit (coreAfter s c)) (addPart (s .last) (s .number) (length (s .bytes)) p) headerMarks ∷ possibleIn (boundsOf Body limit (coreAfter s c)) q bodyMarks ∷ []))
@@ -65,7 +66,7 @@ by-sum t b x y i = go (decLe t b)
     go (no h) = lt-leb t b (omega arith) ∙ sym (ne-eqb x y (λ e. h (i .1 e)))
 
 -- there is no full segment, by a sum
-none-by : (x y t : ℕ) (c d : Bool) (b : Bounds) (p : Part) → (t ≤ 0) ↔ (x ≡ y) → c ≡ alone b p → d ≡ leb t (room b p) → pick (eqb x y) c d ≡ possible b t p
+none-by : (x y t : ℕ) (c d : Bool) (b : Bounds) (p : Record) → (t ≤ 0) ↔ (x ≡ y) → c ≡ alone b p → d ≡ leb t (room b p) → pick (eqb x y) c d ≡ possible b t p
 none-by x y zero c d b p i e f = rw (eq-eqb x y (i .0 (omega arith))) e
 none-by x y (suc t) c d b p i e f = rw (ne-eqb x y (λ z. let h : suc t ≤ 0 = i .1 z in omega arith)) f
 
@@ -74,26 +75,26 @@ room-below : (c : Bool) (n : ℕ) → pick c n 0 ≤ n
 room-below true n = omega arith
 room-below false n = omega arith
 
-room-before : (b : Bounds) (p : Part) (n : ℕ) → p .end ≡ suc n → room b p ≤ n
+room-before : (b : Bounds) (p : Record) (n : ℕ) → p .end ≡ suc n → room b p ≤ n
 unfolding room
 room-before b p n e = rw e (room-below (all (endedTests b (p .size) n (p .tail))) n)
 
-module _ (b : Bounds) (p : Part) (marks : List ℕ) (bits : Each (λ m. m ≤ 1) marks) where
+module _ (b : Bounds) (p : Record) (marks : List ℕ) (bits : Each (λ m. m ≤ 1) marks) where
   -- the highest full number lies below r, by the sum from r on
-  past : (end r : ℕ) → ((n : ℕ) → end ≡ suc n → r ≤ n) → ((n : ℕ) → end ≡ suc n → 0 < getD marks n 0) → (topFrom end 0 marks ≤ r) ↔ (total (drop r marks) ≡ min 1 end)
+  past : (end r : ℕ) → ((n : ℕ) → end ≡ suc n → r ≤ n) → ((n : ℕ) → end ≡ suc n → 0 < getD marks n 0) → (topFrom end 0 marks ≤ r) ↔ (sumOf (drop r marks) ≡ min 1 end)
   past zero r l m = top-open 0 r marks (λ n e. absurd (omega arith))
   past (suc n) r l m = let e : min 1 (suc n) ≡ 1 = omega arith in rw e (top-ended r n marks bits (l n refl) (m n refl))
 
   pub possible-in : ((n : ℕ) → p .end ≡ suc n → 0 < getD marks n 0) → possibleIn b p marks ≡ possible b (topFrom (p .end) 0 marks) p
   unfolding possibleIn
   possible-in m =
-      none-by (total marks) (ended p) (topFrom (p .end) 0 marks) (alone b p) (eqb (total (drop (room b p) marks)) (ended p)) b p
+      none-by (sumOf marks) (ended p) (topFrom (p .end) 0 marks) (alone b p) (eqb (sumOf (drop (room b p) marks)) (ended p)) b p
       (past (p .end) 0 (λ n e. omega arith) m) refl
-      (sym (by-sum (topFrom (p .end) 0 marks) (room b p) (total (drop (room b p) marks)) (ended p) (past (p .end) (room b p) (room-before b p) m)))
+      (sym (by-sum (topFrom (p .end) 0 marks) (room b p) (sumOf (drop (room b p) marks)) (ended p) (past (p .end) (room b p) (room-before b p) m)))
 
   -- a full one more
   pub accepts-full : (n : ℕ) → ((n : ℕ) → p .end ≡ suc n → 0 < getD marks n 0) → acceptsIn false n b p marks ≡ possible b (max (suc n) (topFrom (p .end) 0 marks)) p
-  accepts-full n m = ap (both (leb (suc n) (room b p))) (sym (by-sum (topFrom (p .end) 0 marks) (room b p) (total (drop (room b p) marks)) (ended p) (past (p .end) (room b p) (room-before b p) m))) ∙ higher (suc n) (topFrom (p .end) 0 marks) (room b p) ∙ some n (topFrom (p .end) 0 marks)
+  accepts-full n m = ap (both (leb (suc n) (room b p))) (sym (by-sum (topFrom (p .end) 0 marks) (room b p) (sumOf (drop (room b p) marks)) (ended p) (past (p .end) (room b p) (room-before b p) m))) ∙ higher (suc n) (topFrom (p .end) 0 marks) (room b p) ∙ some n (topFrom (p .end) 0 marks)
     where
       higher : (s t r : ℕ) → both (leb s r) (leb t r) ≡ leb (max s t) r
       higher s t r = go (decLe s r) (decLe t r)
@@ -113,49 +114,49 @@ module _ (b : Bounds) (p : Part) (marks : List ℕ) (bits : Each (λ m. m ≤ 1)
   -- the last one more, where none was in
   pub accepts-last : (n : ℕ) → acceptsIn true n b p marks ≡ possible b (topFrom 0 0 marks) p
   accepts-last n =
-      none-by (total marks) 0 (topFrom 0 0 marks) (alone b p) (eqb (total (drop (room b p) marks)) 0) b p
+      none-by (sumOf marks) 0 (topFrom 0 0 marks) (alone b p) (eqb (sumOf (drop (room b p) marks)) 0) b p
       (top-open 0 0 marks (λ i x. absurd (omega arith))) refl
-      (sym (by-sum (topFrom 0 0 marks) (room b p) (total (drop (room b p) marks)) 0 (top-open 0 (room b p) marks (λ i x. absurd (omega arith)))))
+      (sym (by-sum (topFrom 0 0 marks) (room b p) (sumOf (drop (room b p) marks)) 0 (top-open 0 (room b p) marks (λ i x. absurd (omega arith)))))
 
 -- ---- the size in a record plays no part while no full segment is in
 
-pub possible-settle : (b c : Bounds) (top : ℕ) (p : Part) → possible b top (settle c (leb 1 top) p) ≡ possible b top p
+pub possible-settle : (b c : Bounds) (top : ℕ) (p : Record) → possible b top (settle c (leb 1 top) p) ≡ possible b top p
 unfolding settle alone room
 possible-settle b c zero p = refl
 possible-settle b c (suc t) p = rw (le-leb 1 (suc t) (omega arith)) refl
 
 -- settled again within other bounds, it is settled within those
-pub settle-again : (b c : Bounds) (full : Bool) (p : Part) → settle b full (settle c full p) ≡ settle b full p
+pub settle-again : (b c : Bounds) (full : Bool) (p : Record) → settle b full (settle c full p) ≡ settle b full p
 unfolding settle
 settle-again b c true p = refl
 settle-again b c false p = refl
 
-pub joins-settle : (b : Bounds) (full last : Bool) (k : ℕ) (p : Part) → joins full last k (settle b full p) ≡ joins full last k p
+pub joins-settle : (b : Bounds) (full last : Bool) (k : ℕ) (p : Record) → joins full last k (settle b full p) ≡ joins full last k p
 unfolding settle
 joins-settle b true true k p = refl
 joins-settle b true false k p = refl
 joins-settle b false true k p = refl
 joins-settle b false false k p = refl
 
-pub settle-full : (b c : Bounds) (full : Bool) (n k : ℕ) (p : Part) → settle b true (addPart false n k (settle c full p)) ≡ settle b true (addPart false n k p)
+pub settle-full : (b c : Bounds) (full : Bool) (n k : ℕ) (p : Record) → settle b true (addPart false n k (settle c full p)) ≡ settle b true (addPart false n k p)
 unfolding settle
 settle-full b c full n k p = refl
 
-pub settle-last : (b c : Bounds) (full : Bool) (n k : ℕ) (p : Part) → settle b full (addPart true n k (settle c full p)) ≡ settle b full (addPart true n k p)
+pub settle-last : (b c : Bounds) (full : Bool) (n k : ℕ) (p : Record) → settle b full (addPart true n k (settle c full p)) ≡ settle b full (addPart true n k p)
 unfolding settle
 settle-last b c true n k p = refl
 settle-last b c false n k p = refl
 
-add-settle : (b c : Bounds) (top n k : ℕ) (p : Part) → possible b top (addPart true n k (settle c (leb 1 top) p)) ≡ possible b top (addPart true n k p)
+add-settle : (b c : Bounds) (top n k : ℕ) (p : Record) → possible b top (addPart true n k (settle c (leb 1 top) p)) ≡ possible b top (addPart true n k p)
 unfolding settle alone room
 add-settle b c zero n k p = refl
 add-settle b c (suc t) n k p = rw (le-leb 1 (suc t) (omega arith)) refl
 
-full-settle : (b c : Bounds) (full : Bool) (top n k : ℕ) (p : Part) → possible b top (addPart false n k (settle c full p)) ≡ possible b top (addPart false n k p)
+full-settle : (b c : Bounds) (full : Bool) (top n k : ℕ) (p : Record) → possible b top (addPart false n k (settle c full p)) ≡ possible b top (addPart false n k p)
 unfolding settle
 full-settle b c full top n k p = refl
 
-settle-end : (c : Bounds) (full : Bool) (p : Part) → settle c full p .end ≡ p .end
+settle-end : (c : Bounds) (full : Bool) (p : Record) → settle c full p .end ≡ p .end
 unfolding settle
 settle-end c full p = refl
 
@@ -178,18 +179,18 @@ module _ (b c : Bounds) (marks : List ℕ) (ss : List Segment) (m : Marked marks
   pub full-kept : fullIn (recordOf c (summary ss)) marks ≡ someFull (summary ss)
   full-kept = go (summary ss .top) refl
     where
-      sum : (topFrom (recordOf c (summary ss) .end) 0 marks ≤ 0) ↔ (total marks ≡ ended (recordOf c (summary ss)))
+      sum : (topFrom (recordOf c (summary ss) .end) 0 marks ≤ 0) ↔ (sumOf marks ≡ ended (recordOf c (summary ss)))
       sum = past b (recordOf c (summary ss)) marks (m .bits) (recordOf c (summary ss) .end) 0 (λ n e. omega arith) end-marked
 
-      some : (end : ℕ) → ((n : ℕ) → end ≡ suc n → 0 < getD marks n 0) → min 1 end ≤ total marks
+      some : (end : ℕ) → ((n : ℕ) → end ≡ suc n → 0 < getD marks n 0) → min 1 end ≤ sumOf marks
       some zero h = omega arith
       some (suc n) h = omega (arith, total-some marks n (h n refl))
 
-      go : (t : ℕ) → summary ss .top ≡ t → leb (suc (ended (recordOf c (summary ss)))) (total marks) ≡ leb 1 t
-      go zero e = let x : total marks ≡ ended (recordOf c (summary ss)) = sum .0 (omega (arith, top-record)) in lt-leb (suc (ended (recordOf c (summary ss)))) (total marks) (omega arith)
+      go : (t : ℕ) → summary ss .top ≡ t → leb (suc (ended (recordOf c (summary ss)))) (sumOf marks) ≡ leb 1 t
+      go zero e = let x : sumOf marks ≡ ended (recordOf c (summary ss)) = sum .0 (omega (arith, top-record)) in lt-leb (suc (ended (recordOf c (summary ss)))) (sumOf marks) (omega arith)
       go (suc t) e =
-          let d : ¬ (total marks ≡ ended (recordOf c (summary ss))) = λ x. (let h : topFrom (recordOf c (summary ss) .end) 0 marks ≤ 0 = sum .1 x in omega (arith, top-record)) in
-          le-leb (suc (ended (recordOf c (summary ss)))) (total marks) (omega (arith, some (recordOf c (summary ss) .end) end-marked)) ∙ sym (le-leb 1 (suc t) (omega arith))
+          let d : ¬ (sumOf marks ≡ ended (recordOf c (summary ss))) = λ x. (let h : topFrom (recordOf c (summary ss) .end) 0 marks ≤ 0 = sum .1 x in omega (arith, top-record)) in
+          le-leb (suc (ended (recordOf c (summary ss)))) (sumOf marks) (omega (arith, some (recordOf c (summary ss) .end) end-marked)) ∙ sym (le-leb 1 (suc t) (omega arith))
 
   joins-kept : (last : Bool) (j : ℕ) → joins (fullIn (recordOf c (summary ss)) marks) last j (recordOf c (summary ss)) ≡ joins (someFull (summary ss)) last j (summary ss .part)
   joins-kept last j = ap (λ (x : Bool). joins x last j (recordOf c (summary ss))) full-kept ∙ joins-settle c (someFull (summary ss)) last j (summary ss .part)
@@ -223,7 +224,7 @@ module _ (limit : ℕ) (hs bs : List Segment) (f : Fits limit hs bs) (headerMark
   unfolding suitsIn suits
   suits-kept c = rw (possible-kept (boundsOf Header limit c) (boundsOf Header limit (coreOf hs)) headerMarks hs mh (pass .headerAgree) (pass .headerClear), possible-kept (boundsOf Body limit c) (boundsOf Body limit (coreOf hs)) bodyMarks bs mb (pass .bodyAgree) (pass .bodyClear)) refl
 
-  pub takes-kept : (kind : Kind) (s : Segment) → takes kind limit (coreOf hs) (recordOf (boundsOf Header limit (coreOf hs)) (summary hs)) headerMarks (recordOf (boundsOf Body limit (coreOf hs)) (summary bs)) bodyMarks s ≡ accepts kind limit (coreOf hs) (summary hs) (summary bs) s
+  pub takes-kept : (kind : Part) (s : Segment) → takes kind limit (coreOf hs) (recordOf (boundsOf Header limit (coreOf hs)) (summary hs)) headerMarks (recordOf (boundsOf Body limit (coreOf hs)) (summary bs)) bodyMarks s ≡ accepts kind limit (coreOf hs) (summary hs) (summary bs) s
   unfolding suits
   takes-kept Header s =
       let c : Core = coreAfter s (coreOf hs) in
@@ -237,5 +238,5 @@ module _ (limit : ℕ) (hs bs : List Segment) (f : Fits limit hs bs) (headerMark
       (λ j. rw (accepts-kept (boundsOf Body limit c) (boundsOf Body limit c) bodyMarks bs mb (pass .bodyAgree) (pass .bodyClear) (s .last) (s .number) (length (s .bytes)) j, possible-kept (boundsOf Header limit c) (boundsOf Header limit c) headerMarks hs mh (pass .headerAgree) (pass .headerClear)) refl))
 
   -- so it is exact: the segment is taken exactly when it and those that are in fit some object and cut
-  pub taken : (kind : Kind) (s : Segment) → limit ≤ limitMost → Bytes (s .bytes) → ¬ (Numbered (s .number) (those kind hs bs)) → (takes kind limit (coreOf hs) (recordOf (boundsOf Header limit (coreOf hs)) (summary hs)) headerMarks (recordOf (boundsOf Body limit (coreOf hs)) (summary bs)) bodyMarks s ≡ true) ↔ Fits limit (headersWith kind s hs) (bodiesWith kind s bs)
+  pub taken : (kind : Part) (s : Segment) → limit ≤ limitMost → Bytes (s .bytes) → ¬ (Numbered (s .number) (those kind hs bs)) → (takes kind limit (coreOf hs) (recordOf (boundsOf Header limit (coreOf hs)) (summary hs)) headerMarks (recordOf (boundsOf Body limit (coreOf hs)) (summary bs)) bodyMarks s ≡ true) ↔ Fits limit (headersWith kind s hs) (bodiesWith kind s bs)
   taken kind s z y n = rw (takes-kept kind s) (accepted kind limit s hs bs z y f n)

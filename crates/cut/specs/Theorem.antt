@@ -11,9 +11,9 @@ use lib.Dec.{eqb, leb}
 use borrow.Author.Tests.{eqb-true, eq-eqb, le-leb}
 use Rattle.cut.specs.Lists.{Each, Among, Bytes, each-among, among-each}
 use Rattle.cut.specs.Requirement.{limitMost, Segment, Sends, Fits}
-use Rattle.cut.specs.declared.Kind.{Kind}
-use Rattle.cut.specs.declared.Kind.the-variants.{Header, Body}
-use Rattle.cut.specs.declared.Part.{Part}
+use Rattle.answer.specs.declared.Part.{Part}
+use Rattle.answer.specs.declared.Part.the-variants.{Header, Body}
+use Rattle.cut.specs.declared.Record.{Record}
 use Rattle.cut.specs.Decision.{both, joins, someFull, Summary, addTo, summary, coreOf, accepts}
 use Rattle.cut.specs.LawsSegment.{Numbered, same-is, sends-same, agree-new}
 use Rattle.cut.specs.LawsDecision.{JoinsAs, SizeIs, EndIs, both-true, true-both}
@@ -39,7 +39,7 @@ end-joins : (n k end tail : ℕ) → end ≢ suc n → (eqb end 0 ≡ true) ↔ 
 end-joins n k zero tail d = ((λ e. tt), (λ e. eq-eqb 0 0 refl))
 end-joins n k (suc m) tail d = ((λ e. absurd (omega (arith, eqb-true (suc m) 0 e))), (λ e. absurd (d (omega arith))))
 
-size-joins : (k top : ℕ) (p : Part) → (joins (leb 1 top) false k p ≡ true) ↔ SizeIs k top (p .size)
+size-joins : (k top : ℕ) (p : Record) → (joins (leb 1 top) false k p ≡ true) ↔ SizeIs k top (p .size)
 size-joins k zero p = ((λ e. tt), (λ e. refl))
 size-joins k (suc t) p = rw (le-leb 1 (suc t) (omega arith)) (eqb-true k (p .size), eq-eqb k (p .size))
 
@@ -72,7 +72,7 @@ accepted-body limit s hs bs z y f a =
     (λ g. let t = fits-passes limit hs (s ∷ bs) g in (t .bodyClear .0, t .suit))
 
 -- THE THEOREM: a segment of a new number is accepted exactly when it and the held ones fit some object and cut
-pub accepted : (kind : Kind) (limit : ℕ) (s : Segment) (hs bs : List Segment) → limit ≤ limitMost → Bytes (s .bytes) → Fits limit hs bs → ¬ (Numbered (s .number) (those kind hs bs)) → (accepts kind limit (coreOf hs) (summary hs) (summary bs) s ≡ true) ↔ Fits limit (headersWith kind s hs) (bodiesWith kind s bs)
+pub accepted : (kind : Part) (limit : ℕ) (s : Segment) (hs bs : List Segment) → limit ≤ limitMost → Bytes (s .bytes) → Fits limit hs bs → ¬ (Numbered (s .number) (those kind hs bs)) → (accepts kind limit (coreOf hs) (summary hs) (summary bs) s ≡ true) ↔ Fits limit (headersWith kind s hs) (bodiesWith kind s bs)
 accepted Header limit s hs bs z y f a = accepted-header limit s hs bs z y f a
 accepted Body limit s hs bs z y f a = accepted-body limit s hs bs z y f a
 
@@ -97,16 +97,16 @@ with-one s ss i t (inl e) = rw e at i
 with-one s ss i t (inr j) = j
 
 -- a segment that is in already always fits
-pub repeat-fits : (kind : Kind) (limit : ℕ) (s : Segment) (hs bs : List Segment) → Fits limit hs bs → Among s (those kind hs bs) → Fits limit (headersWith kind s hs) (bodiesWith kind s bs)
+pub repeat-fits : (kind : Part) (limit : ℕ) (s : Segment) (hs bs : List Segment) → Fits limit hs bs → Among s (those kind hs bs) → Fits limit (headersWith kind s hs) (bodiesWith kind s bs)
 repeat-fits Header limit s hs bs f i = fits-among limit hs (s ∷ hs) bs bs (with-one s hs i) (λ t j. j) f
 repeat-fits Body limit s hs bs f i = fits-among limit hs hs bs (s ∷ bs) (λ t j. j) (with-one s bs i) f
 
 -- one of a number that is in fits only if it is the same segment
-pub same-fits : (kind : Kind) (limit : ℕ) (s t : Segment) (hs bs : List Segment) → Fits limit (headersWith kind s hs) (bodiesWith kind s bs) → Among t (those kind hs bs) → s .number ≡ t .number → s ≡ t
+pub same-fits : (kind : Part) (limit : ℕ) (s t : Segment) (hs bs : List Segment) → Fits limit (headersWith kind s hs) (bodiesWith kind s bs) → Among t (those kind hs bs) → s .number ≡ t .number → s ≡ t
 same-fits Header limit s t hs bs f i e = same-is s t (sends-same (f .header) (f .headerCut) s t (f .headerSent .0) (each-among (Sends (f .header) (f .headerCut)) t hs (f .headerSent .1) i)) e
 same-fits Body limit s t hs bs f i e = same-is s t (sends-same (f .body) (f .bodyCut) s t (f .bodySent .0) (each-among (Sends (f .body) (f .bodyCut)) t bs (f .bodySent .1) i)) e
 
 -- with other bytes or another flag it never does
-pub other-never : (kind : Kind) (limit : ℕ) (s t : Segment) (hs bs : List Segment) → Among t (those kind hs bs) → s .number ≡ t .number → (s .last ≢ t .last) ⊎ (s .bytes ≢ t .bytes) → ¬ (Fits limit (headersWith kind s hs) (bodiesWith kind s bs))
+pub other-never : (kind : Part) (limit : ℕ) (s t : Segment) (hs bs : List Segment) → Among t (those kind hs bs) → s .number ≡ t .number → (s .last ≢ t .last) ⊎ (s .bytes ≢ t .bytes) → ¬ (Fits limit (headersWith kind s hs) (bodiesWith kind s bs))
 other-never kind limit s t hs bs i e (inl d) f = d (ap (λ (x : Segment). x .last) (same-fits kind limit s t hs bs f i e))
 other-never kind limit s t hs bs i e (inr d) f = d (ap (λ (x : Segment). x .bytes) (same-fits kind limit s t hs bs f i e))

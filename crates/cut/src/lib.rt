@@ -2,6 +2,7 @@
 // one object within the bounds, cut at one size a part. specs/Requirement.antt says what that means, specs/Decision.antt
 // decides it on numbers, and specs/Theorem.antt proves that decision exact. The functions here compute the decision; they
 // hold no state, see no byte, and take any numbers: what is kept of a damaged slot may be asked about too.
+use answer::Part;
 ghost use mathlib.Core.Path.{_≡_};
 ghost use Prim.Native.Nat.{_<_, _≤_, _-_, _*_, min};
 ghost use lib.Dec.{leb};
@@ -24,12 +25,6 @@ pub const HEADER_NUMBERS: usize = 64;
 
 pub const BODY_NUMBERS: usize = 1024;
 
-// The two parts of an object.
-pub enum Kind {
-    Header,
-    Body,
-}
-
 // What header segment 0 says, once it is in: BodySize and HeaderSize.
 pub enum Core {
     Unseen,
@@ -45,17 +40,17 @@ pub struct Bounds {
 
 // What is kept of a part: the size of its cut, 0 while it isn't known; end, 1 + the number of the last segment, 0 while it
 // isn't in; tail, the length of that one.
-pub struct Part {
+pub struct Record {
     pub size: usize,
     pub end: usize,
     pub tail: usize,
 }
 
-pub fn bounds_of(kind: Kind, limit: usize, core: Core) -> Bounds
-    ensures { λ r. ⌜ r ≡ boundsOf kind limit core ⌝ }
+pub fn bounds_of(part: Part, limit: usize, core: Core) -> Bounds
+    ensures { λ r. ⌜ r ≡ boundsOf part limit core ⌝ }
 {
-    match kind {
-        Kind::Header => match core {
+    match part {
+        Part::Header => match core {
             Core::Unseen => Bounds {
                 least: HEADER_LEAST,
                 most: HEADER_MOST,
@@ -67,7 +62,7 @@ pub fn bounds_of(kind: Kind, limit: usize, core: Core) -> Bounds
                 numbers: HEADER_NUMBERS,
             },
         },
-        Kind::Body => match core {
+        Part::Body => match core {
             Core::Unseen => Bounds {
                 least: 0,
                 most: limit,
@@ -163,7 +158,7 @@ fn room_ended(b: Bounds, size: usize, n: usize, tail: usize) -> usize
 
 // How many numbers a full segment of the part's size may have, from 0: the numbers of all that are in lie below it, or
 // they don't fit. 0 where no full segment of that size does.
-pub fn room(b: Bounds, p: Part) -> usize
+pub fn room(b: Bounds, p: Record) -> usize
     ensures { λ r. ⌜ r ≡ room b p ⌝ }
 {
     if p.size < SIZE_LEAST {
@@ -245,7 +240,7 @@ fn alone_later(b: Bounds, n: usize, tail: usize) -> bool
 }
 
 // Whether what is kept can be while no full segment is in: nothing, or the last one alone.
-pub fn alone(b: Bounds, p: Part) -> bool
+pub fn alone(b: Bounds, p: Record) -> bool
     ensures { λ r. ⌜ r ≡ alone b p ⌝ }
 {
     if p.end == 0 {
@@ -258,7 +253,7 @@ pub fn alone(b: Bounds, p: Part) -> bool
 }
 
 // Whether some length and size within the bounds suit what is in; top is 1 + the highest number of a full segment, or 0.
-pub fn possible(b: Bounds, top: usize, p: Part) -> bool
+pub fn possible(b: Bounds, top: usize, p: Record) -> bool
     ensures { λ r. ⌜ r ≡ possible b top p ⌝ }
 {
     if top == 0 {
@@ -268,7 +263,7 @@ pub fn possible(b: Bounds, top: usize, p: Part) -> bool
 }
 
 // Whether a segment of a new number goes with what is kept: there is one last segment, and full ones have one length.
-pub fn joins(full: bool, last: bool, length: usize, p: Part) -> bool
+pub fn joins(full: bool, last: bool, length: usize, p: Record) -> bool
     ensures { λ r. ⌜ r ≡ joins full last length p ⌝ }
 {
     if last {
@@ -281,18 +276,18 @@ pub fn joins(full: bool, last: bool, length: usize, p: Part) -> bool
 }
 
 // What is kept, with one segment more.
-pub fn add(last: bool, number: usize, length: usize, p: Part) -> Part
+pub fn add(last: bool, number: usize, length: usize, p: Record) -> Record
     requires { ⌜ number < 32768 ⌝ }
     ensures { λ r. ⌜ r ≡ addPart last number length p ⌝ }
 {
     if last {
-        return Part {
+        return Record {
             size: p.size,
             end: number + 1,
             tail: length,
         };
     }
-    Part {
+    Record {
         size: length,
         end: p.end,
         tail: p.tail,
@@ -315,13 +310,13 @@ fn derived(b: Bounds, end: usize, tail: usize) -> usize
 
 // The record under these bounds: without a full segment the size is the one that the part's length and its last segment
 // give, and nothing else gives it.
-pub fn settle(b: Bounds, full: bool, p: Part) -> Part
+pub fn settle(b: Bounds, full: bool, p: Record) -> Record
     ensures { λ r. ⌜ r ≡ settle b full p ⌝ }
 {
     if full {
         return p;
     }
-    Part {
+    Record {
         size: derived(b, p.end, p.tail),
         end: p.end,
         tail: p.tail,
@@ -329,7 +324,7 @@ pub fn settle(b: Bounds, full: bool, p: Part) -> Part
 }
 
 // Whether a part is whole, with so many of its numbers in.
-pub fn whole(count: usize, p: Part) -> bool
+pub fn whole(count: usize, p: Record) -> bool
     ensures { λ r. ⌜ r ≡ whole count p ⌝ }
 {
     if p.end == 0 {
@@ -339,7 +334,7 @@ pub fn whole(count: usize, p: Part) -> bool
 }
 
 // Whether every segment of the object is in: h numbers of the header are, and b of the body, which may have none.
-pub fn finished(core: Core, h: usize, p: Part, b: usize, q: Part) -> bool
+pub fn finished(core: Core, h: usize, p: Record, b: usize, q: Record) -> bool
     ensures { λ r. ⌜ r ≡ finished core h p b q ⌝ }
 {
     let Core::Seen { body, header: _ } = core else {

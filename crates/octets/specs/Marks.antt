@@ -45,7 +45,6 @@ pub summed-part : (l : List ℕ) (a k : ℕ) → k ≤ 65536 → summed (part l 
 summed-part l a k h = summed-short (part l a k) (rw length-take (omega arith))
 
 sum-append : (l m : List ℕ) → sumOf (l ++ m) ≡ sumOf l + sumOf m
-unfolding sumOf
 sum-append [] m = omega arith
 sum-append (b ∷ l) m = omega (arith, sum-append l m)
 
@@ -59,7 +58,6 @@ sum-split l n = sym (sym (sum-append (take n l) (drop n l)) ∙ ap sumOf (take-a
 
 -- no mark is set
 pub sum-none : (l : List ℕ) → (sumOf l ≡ 0) ↔ ((i : ℕ) → getD l i 0 ≡ 0)
-unfolding sumOf
 sum-none l = (there l, back l)
   where
     there : (l : List ℕ) → sumOf l ≡ 0 → (i : ℕ) → getD l i 0 ≡ 0
@@ -73,13 +71,13 @@ sum-none l = (there l, back l)
     back (b ∷ l) f = omega (arith, f 0, back l (λ i. f (suc i)))
 
 pub sum-bound : (l : List ℕ) → largestOf l ≤ 1 → sumOf l ≤ length l
-unfolding sumOf largestOf
+unfolding largestOf
 sum-bound [] h = omega arith
 sum-bound (b ∷ l) h = omega (arith, sum-bound l (omega arith))
 
 -- every mark is set
 pub sum-all : (l : List ℕ) → largestOf l ≤ 1 → (sumOf l ≡ length l) ↔ ((i : ℕ) → i < length l → getD l i 0 ≡ 1)
-unfolding sumOf largestOf
+unfolding largestOf
 sum-all l h = (there l h, back l)
   where
     there : (l : List ℕ) → largestOf l ≤ 1 → sumOf l ≡ length l → (i : ℕ) → i < length l → getD l i 0 ≡ 1
@@ -93,7 +91,6 @@ sum-all l h = (there l h, back l)
 
 -- one byte stored
 pub sum-set : (l : List ℕ) (i v : ℕ) → i < length l → sumOf (set l i v) + getD l i 0 ≡ sumOf l + v
-unfolding sumOf
 sum-set [] i v h = absurd (omega arith)
 sum-set (b ∷ l) zero v h = omega arith
 sum-set (b ∷ l) (suc i) v h = omega (arith, sum-set l i v (omega arith))
@@ -166,7 +163,7 @@ unfolding zeros
 zeros-length n = length-replicate n 0
 
 pub zeros-sum : (n : ℕ) → sumOf (zeros n) ≡ 0
-unfolding zeros sumOf
+unfolding zeros
 zeros-sum zero = refl
 zeros-sum (suc n) = omega (arith, zeros-sum n)
 

@@ -30,7 +30,7 @@ largestOf [] = 0
 largestOf (b ∷ l) = max b (largestOf l)
 
 -- the sum of the bytes
-unfoldable pub sumOf : List ℕ → ℕ
+abbrev pub sumOf : List ℕ → ℕ
 sumOf [] = 0
 sumOf (b ∷ l) = b + sumOf l
 

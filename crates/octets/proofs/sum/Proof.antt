@@ -46,7 +46,6 @@ loop-again c =
     omega (arith, sum-turn l (s .loop .i) (omega arith), c .shared-slice-known .given (s .loop .i))
 
 returns-2 : tie.Need-returns-2 Inv-loop μ-loop
-unfolding sumOf
 returns-2 c =
     let l = c .before .before .before .args .marks .now in
     let e : c .before .loop .i ≡ length l = omega arith in
