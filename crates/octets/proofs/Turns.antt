@@ -19,7 +19,6 @@ module _ (l : List ℕ) (i : ℕ) (h : i < length l) where
   largest-turn = rw (drop-cons l i 0 h, add-one)
 
   pub sum-turn : sumOf (drop i l) ≡ getD l i 0 + sumOf (drop (i + 1) l)
-  unfolding
   sum-turn = rw (drop-cons l i 0 h, add-one)
 
 pub both-false : (t : Bool) {u : Bool} → u ≡ false → both t u ≡ false
