@@ -1,3 +1,4 @@
 pub mod Memory
 pub mod Take
 pub mod Sound
+pub mod Inner

@@ -1,0 +1,62 @@
+-- What the inner functions of a slot give, on plain slices and numbers; each is a piece of the definitions in Take.antt.
+use mathlib.Core.Bool.{Bool, true}
+use mathlib.Core.List.{List}
+use Prim.Native.Nat.{ℕ}
+use lib.Dec.{leb}
+use lib.ListN.{length, take, drop, getD}
+use Rattle.octets.specs.Octets.{over, sumOf}
+use Rattle.answer.specs.declared.Part.{Part}
+use Rattle.answer.specs.declared.Part.the-variants.{Header, Body}
+use Rattle.cut.specs.Requirement.{headerNumbers, bodySize, headerSize}
+use Rattle.cut.specs.declared.Record.{Record}
+use Rattle.cut.specs.declared.Core.{Core}
+use Rattle.cut.specs.declared.Core.the-variants.{Unseen, Seen}
+use Rattle.cut.specs.Decision.{pick, both, boundsOf, coreFits, joins, addPart, settle, finished}
+use Rattle.cut.specs.Sums.{fullIn, acceptsIn, possibleIn}
+use Rattle.slot.specs.declared.Slot.{Slot}
+use Rattle.slot.specs.Memory.{placeOf, movedAs}
+use Rattle.slot.specs.Take.{stageBy}
+
+abbrev pub otherPart : Part → Part
+otherPart Header = Body
+otherPart Body = Header
+
+-- a part's marks, of all the marks of a slot
+unfoldable pub marksOf : Part → List ℕ → List ℕ
+marksOf Header marks = take headerNumbers marks
+marksOf Body marks = drop headerNumbers marks
+
+abbrev pub keptOf : Part → Slot → Record
+keptOf Header slot = slot .header
+keptOf Body slot = slot .body
+
+-- what header segment 0 says, once it is in
+unfoldable pub coreFrom : List ℕ → List ℕ → Core
+coreFrom marks share = pick (leb 1 (getD marks 0 0)) (Seen (bodySize share) (headerSize share)) Unseen
+
+-- the decision for a segment of a part: number n, k bytes
+unfoldable pub takesAs : Part → ℕ → Core → Slot → List ℕ → Bool → ℕ → ℕ → Bool
+takesAs part limit core slot marks last n k =
+    both (joins (fullIn (keptOf part slot) (marksOf part marks)) last k (keptOf part slot))
+    (both (coreFits limit core)
+    (both (acceptsIn last n (boundsOf part limit core) (addPart last n k (keptOf part slot)) (marksOf part marks))
+    (possibleIn (boundsOf (otherPart part) limit core) (keptOf (otherPart part) slot) (marksOf (otherPart part) marks))))
+
+-- the record of the part with the segment
+unfoldable pub recordAs : Part → ℕ → Core → Slot → List ℕ → Bool → ℕ → ℕ → Record
+recordAs part limit core slot marks last n k =
+    settle (boundsOf part limit core) (pick last (fullIn (keptOf part slot) (marksOf part marks)) true) (addPart last n k (keptOf part slot))
+
+-- a segment's bytes in the share, under the new record of its part
+unfoldable pub putIn : Record → Record → Bool → ℕ → List ℕ → List ℕ → List ℕ
+putIn old kept last n bytes share =
+    over (movedAs (old .size) (kept .size) (old .end) (old .tail) share) (placeOf last (kept .size) (length share) n (length bytes)) bytes
+
+-- the slot of these records, by its marks and its share of the header store
+unfoldable pub slotFrom : ℕ → Record → Record → List ℕ → List ℕ → Slot
+slotFrom number header body share marks = record {
+  number = number;
+  stage = stageBy (finished (coreFrom (marksOf Header marks) share) (sumOf (marksOf Header marks)) header (sumOf (marksOf Body marks)) body) (coreFrom (marksOf Header marks) share);
+  header = header;
+  body = body;
+}
