@@ -1,10 +1,11 @@
 -- What the inner functions of a slot give, on plain slices and numbers; each is a piece of the definitions in Take.antt.
+use mathlib.Core.Path.{_≡_}
 use mathlib.Core.Bool.{Bool, true}
 use mathlib.Core.List.{List}
-use Prim.Native.Nat.{ℕ}
-use lib.Dec.{leb}
+use Prim.Native.Nat.{ℕ, suc, _+_, _-_, _*_, _≤_, _<_}
+use lib.Dec.{eqb, leb}
 use lib.ListN.{length, take, drop, getD}
-use Rattle.octets.specs.Octets.{over, sumOf}
+use Rattle.octets.specs.Octets.{over, equal, sumOf}
 use Rattle.answer.specs.declared.Part.{Part}
 use Rattle.answer.specs.declared.Part.the-variants.{Header, Body}
 use Rattle.cut.specs.Requirement.{headerNumbers, bodySize, headerSize}
@@ -14,8 +15,8 @@ use Rattle.cut.specs.declared.Core.the-variants.{Unseen, Seen}
 use Rattle.cut.specs.Decision.{pick, both, boundsOf, coreFits, joins, addPart, settle, finished}
 use Rattle.cut.specs.Sums.{fullIn, acceptsIn, possibleIn}
 use Rattle.slot.specs.declared.Slot.{Slot}
-use Rattle.slot.specs.Memory.{placeOf, movedAs}
-use Rattle.slot.specs.Take.{stageBy}
+use Rattle.slot.specs.Memory.{placeOf, lengthOf, movedAs}
+use Rattle.slot.specs.Take.{stageBy, sameFlag}
 
 abbrev pub otherPart : Part → Part
 otherPart Header = Body
@@ -60,3 +61,22 @@ slotFrom number header body share marks = record {
   header = header;
   body = body;
 }
+
+-- the record of the other part, within bounds that may have met
+unfoldable pub recordStill : Part → ℕ → Core → Slot → List ℕ → Record
+recordStill part limit core slot marks = settle (boundsOf part limit core) (fullIn (keptOf part slot) (marksOf part marks)) (keptOf part slot)
+
+-- a segment is the same as the one that a part holds under its number
+unfoldable pub sameIn : Record → Bool → ℕ → List ℕ → List ℕ → Bool
+sameIn kept last n bytes share =
+    both (sameFlag last (eqb (suc n) (kept .end)))
+    (equal bytes (take (lengthOf last kept) (drop (placeOf last (kept .size) (length share) n (lengthOf last kept)) share)))
+
+-- a last segment at the end of the share can be copied to its place
+pub record CanMove (old : Record) (size : ℕ) (share : List ℕ) : Type 0 where
+  pub inside : old .size ≡ 0 → 0 < size → 2 ≤ old .end → (old .end - 1) * size + old .tail ≤ length share
+
+-- a segment of so many bytes can be written to its place
+pub record CanPut (last : Bool) (size n count : ℕ) (share : List ℕ) : Type 0 where
+  pub placed : placeOf last size (length share) n count + count ≤ length share
+  pub product : n * size ≤ length share

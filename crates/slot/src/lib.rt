@@ -6,14 +6,15 @@ use cut::Bounds;
 use cut::Core;
 use cut::Record;
 ghost use mathlib.Core.Path.{_≡_};
-ghost use mathlib.Core.Bool.{false};
-ghost use Prim.Native.Nat.{_≤_, _<_};
+ghost use Prim.Native.Nat.{_*_, _≤_, _<_};
 ghost use lib.ListN.{length, drop};
 ghost use Rattle.octets.specs.Octets.{sumOf};
 ghost use Rattle.cut.specs.Requirement.{bodySize, headerSize};
 ghost use Rattle.cut.specs.declared.Core.the-variants.{Seen};
 ghost use Rattle.cut.specs.Sums.{ended, possibleIn, acceptsIn, fullIn};
-ghost use Rattle.slot.specs.Inner.{otherPart, marksOf, keptOf, coreFrom};
+ghost use Rattle.slot.specs.Memory.{placeOf, lengthOf, movedAs};
+ghost use Rattle.slot.specs.Take.{stageBy, sameFlag};
+ghost use Rattle.slot.specs.Inner.{otherPart, marksOf, keptOf, coreFrom, takesAs, recordAs, recordStill, putIn, slotFrom, sameIn, CanMove, CanPut};
 
 // Free comes first: a free slot is what an unused one is made of.
 pub enum Stage {
@@ -133,4 +134,175 @@ fn accepts_in(last: bool, number: usize, bounds: Bounds, kept: Record, marks: &[
         return sum_from(marks, room) == ended(kept);
     }
     false
+}
+
+// Whether a segment of a part fits what is held: core is what header segment 0 says with it in.
+fn takes(
+    part: Part,
+    limit: usize,
+    core: Core,
+    slot: Slot,
+    marks: &[u8],
+    last: bool,
+    number: usize,
+    count: usize,
+) -> bool
+    requires { ⌜ (length (now marks) ≡ 1088) × (number < 32768) ⌝ }
+    ensures { λ r. ⌜ r ≡ takesAs part limit core slot (now (marks .entry)) last number count ⌝ }
+{
+    let kept = kept_of(part, slot);
+    let mine = marks_of(part, marks);
+    if !cut::joins(full_in(kept, mine), last, count, kept) {
+        return false;
+    }
+    if !cut::core_fits(limit, core) {
+        return false;
+    }
+    let with = cut::add(last, number, count, kept);
+    if !accepts_in(last, number, cut::bounds_of(part, limit, core), with, mine) {
+        return false;
+    }
+    let other = other_part(part);
+    possible_in(
+        cut::bounds_of(other, limit, core),
+        kept_of(other, slot),
+        marks_of(other, marks),
+    )
+}
+
+// The record of a part with one segment more.
+fn record_as(
+    part: Part,
+    limit: usize,
+    core: Core,
+    slot: Slot,
+    marks: &[u8],
+    last: bool,
+    number: usize,
+    count: usize,
+) -> Record
+    requires { ⌜ (length (now marks) ≡ 1088) × (number < 32768) ⌝ }
+    ensures { λ r. ⌜ r ≡ recordAs part limit core slot (now (marks .entry)) last number count ⌝ }
+{
+    let kept = kept_of(part, slot);
+    let bounds = cut::bounds_of(part, limit, core);
+    let with = cut::add(last, number, count, kept);
+    if last {
+        return cut::settle(bounds, full_in(kept, marks_of(part, marks)), with);
+    }
+    cut::settle(bounds, true, with)
+}
+
+// The record of a part that gets no segment, within bounds that may have met.
+fn record_still(part: Part, limit: usize, core: Core, slot: Slot, marks: &[u8]) -> Record
+    requires { ⌜ length (now marks) ≡ 1088 ⌝ }
+    ensures { λ r. ⌜ r ≡ recordStill part limit core slot (now (marks .entry)) ⌝ }
+{
+    let kept = kept_of(part, slot);
+    cut::settle(
+        cut::bounds_of(part, limit, core),
+        full_in(kept, marks_of(part, marks)),
+        kept,
+    )
+}
+
+fn place_of(last: bool, size: usize, width: usize, number: usize, count: usize) -> usize
+    requires { ⌜ (number * size ≤ width) × (count ≤ width) ⌝ }
+    ensures { λ r. ⌜ r ≡ placeOf last size width number count ⌝ }
+{
+    if !last {
+        return number * size;
+    }
+    if size != 0 {
+        return number * size;
+    }
+    if number == 0 {
+        return 0;
+    }
+    width - count
+}
+
+// A last segment that stands at the end of the share is copied to its place, once the size is known.
+fn move_last(old: Record, size: usize, share: &mut [u8])
+    requires { ⌜ CanMove old size (now share) ⌝ }
+    ensures { λ _. ⌜ now (share .exit) ≡ movedAs (old .size) size (old .end) (old .tail) (now (share .entry)) ⌝ }
+{
+    if old.size != 0 {
+        return;
+    }
+    if size == 0 {
+        return;
+    }
+    if old.end < 2 {
+        return;
+    }
+    let from = share.len() - old.tail;
+    octets::move_down(share, from, (old.end - 1) * size, old.tail);
+}
+
+// A segment is written straight into its place in the share, which is lent to the copier.
+fn put_in(old: Record, kept: Record, last: bool, number: usize, bytes: &[u8], share: &mut [u8])
+    requires { ⌜ CanMove old (kept .size) (now share) ⌝ }
+    requires { ⌜ CanPut last (kept .size) number (length (now bytes)) (now share) ⌝ }
+    ensures { λ _. ⌜ now (share .exit) ≡ putIn old kept last number (now (bytes .entry)) (now (share .entry)) ⌝ }
+{
+    let count = bytes.len();
+    let at = place_of(last, kept.size, share.len(), number, count);
+    move_last(old, kept.size, share);
+    octets::copy_in(&mut share[at..at + count], bytes);
+}
+
+// The slot of these records: its stage follows from its marks and from what header segment 0 says.
+fn slot_from(number: u16, header: Record, body: Record, share: &[u8], marks: &[u8]) -> Slot
+    requires { ⌜ length (now marks) ≡ 1088 ⌝ }
+    ensures { λ r. ⌜ r ≡ slotFrom number header body (now (share .entry)) (now (marks .entry)) ⌝ }
+{
+    let core = core_from(marks_of(Part::Header, marks), share);
+    let headers = sum_from(marks_of(Part::Header, marks), 0) as usize;
+    let bodies = sum_from(marks_of(Part::Body, marks), 0) as usize;
+    let stage = stage_by(cut::finished(core, headers, header, bodies, body), core);
+    Slot {
+        number,
+        stage,
+        header,
+        body,
+    }
+}
+
+fn stage_by(whole: bool, core: Core) -> Stage
+    ensures { λ r. ⌜ r ≡ stageBy whole core ⌝ }
+{
+    if !whole {
+        return Stage::Gathering;
+    }
+    match core {
+        Core::Unseen => Stage::Gathering,
+        Core::Seen { body, header } => Stage::Finished(header, body),
+    }
+}
+
+fn length_of(last: bool, kept: Record) -> usize
+    ensures { λ r. ⌜ r ≡ lengthOf last kept ⌝ }
+{
+    if last { kept.tail } else { kept.size }
+}
+
+fn same_flag(a: bool, b: bool) -> bool
+    ensures { λ r. ⌜ r ≡ sameFlag a b ⌝ }
+{
+    if a { b } else { !b }
+}
+
+// Whether a segment is the one that is held under its number.
+fn same_in(kept: Record, last: bool, number: usize, bytes: &[u8], share: &[u8]) -> bool
+    requires { ⌜ CanPut last (kept .size) number (lengthOf last kept) (now share) ⌝ }
+    requires { ⌜ number < 32768 ⌝ }
+    ensures { λ r. ⌜ r ≡ sameIn kept last number (now (bytes .entry)) (now (share .entry)) ⌝ }
+{
+    if !same_flag(last, number + 1 == kept.end) {
+        return false;
+    }
+    let count = length_of(last, kept);
+    let at = place_of(last, kept.size, share.len(), number, count);
+    octets::same(bytes, &share[at..at + count])
 }
