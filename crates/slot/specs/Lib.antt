@@ -1,3 +1,5 @@
 pub mod Memory
 pub mod Take
 pub mod Sound
+pub mod Shape
+pub mod Inside
