@@ -1,18 +1,19 @@
 -- Everything that is read or written in a share lies inside it: the segments that are marked, one that is taken, and one
 -- that is copied once the size is known.
-use mathlib.Core.Path.{_≡_, refl, sym, ap, _∙_}
+use mathlib.Core.Path.{_≡_, refl, sym, ap, _∙_, subst}
 use mathlib.Core.Logic.{_⊎_, inl, inr, _↔_}
 use mathlib.Core.Bool.{Bool, true, false}
 use mathlib.Core.List.{List, [], _∷_}
 use Prim.Native.Nat.{ℕ, zero, suc, _+_, _-_, _*_, _≤_, _<_, min}
-use native.Mathlib.Nat.{mul-le-mul-right, mul-le-mul-left, lt-of-mul-lt-mul-right, div-eq-of-eq-mul-left, zero-mul}
+use native.Mathlib.Nat.{mul-le-mul-right, lt-of-mul-lt-mul-right, div-eq-of-eq-mul-left, zero-mul}
 use native.Mathlib.Decide.{ℕ-discrete, decLe}
 use native.Mathlib.Omega.{arith}
 use lib.ListN.{length, take, drop, getD, length-take, length-drop}
+use lib.Seq.{take-all}
 use lib.Dec.{eqb, leb}
-use borrow.Author.Tests.{eqb-true, eqb-false, eq-eqb, ne-eqb, leb-true, leb-false, le-leb, lt-leb}
+use borrow.Author.Tests.{eqb-true, eqb-false, eq-eqb, ne-eqb, leb-true, le-leb, lt-leb}
 use Rattle.octets.specs.Octets.{sumOf, largestOf}
-use Rattle.octets.specs.Marks.{sum-split}
+use Rattle.octets.specs.Marks.{sum-split, largest-part}
 use Rattle.answer.specs.declared.Part.{Part}
 use Rattle.answer.specs.declared.Part.the-variants.{Header, Body}
 use Rattle.cut.specs.Lists.{Each}
@@ -21,15 +22,17 @@ use Rattle.cut.specs.declared.Core.{Core}
 use Rattle.cut.specs.declared.Core.the-variants.{Unseen, Seen}
 use Rattle.cut.specs.declared.Bounds.{Bounds}
 use Rattle.cut.specs.declared.Record.{Record}
-use Rattle.cut.specs.Decision.{pick, both, all, boundsOf, coreTests, coreFits, room, alone, possible, addPart, joins, derived, settle, coreAfter}
+use Rattle.cut.specs.Decision.{pick, boundsOf, coreTests, coreFits, room, possible, addPart, joins, derived, settle, coreAfter, finished}
 use Rattle.cut.specs.LawsDecision.{EndSits, TopSits, Suits, both-true, all-true, false-true, possible-iff}
 use Rattle.cut.specs.LawsObject.{WithinOf}
-use Rattle.cut.specs.Marks.{topFrom, top-high, total-some}
-use Rattle.cut.specs.Sums.{ended, possibleIn, acceptsIn, fullIn, takes, suitsIn, possible-in}
+use Rattle.cut.specs.Marks.{topFrom, top-high, top-open, top-ended, total-some}
+use Rattle.cut.specs.LawsSegment.{SitsAs}
+use Rattle.cut.specs.Sums.{ended, possibleIn, acceptsIn, fullIn, suitsIn, possible-in}
 use Rattle.slot.specs.declared.Slot.{Slot}
 use Rattle.slot.specs.declared.Stage.{Stage}
+use Rattle.slot.specs.declared.Stage.the-variants.{Free, Gathering, Finished}
 use Rattle.slot.specs.Memory.{Memory, placeOf, lengthOf}
-use Rattle.slot.specs.Take.{Lent, Parts, partsOf, memoryOf, coreIn, takesIn, recordWith, recordWithin, stageOf}
+use Rattle.slot.specs.Take.{Lent, Parts, partsOf, memoryOf, coreIn, takesIn, recordWith, recordWithin, stageBy, stageOf}
 use Rattle.slot.specs.Sound.{endRight, recordRight, sameStage, soundParts, soundSlot}
 use Rattle.slot.specs.Shape.{widthOf, numbersOf, Shaped, coreWith, recordAfter, Placed, Small, Moves}
 
@@ -283,3 +286,209 @@ body-inside limit s ps h e z g t =
     let c : Core = coreAfter s (coreIn (ps .header)) in
     let w : boundsOf Body limit c .most ≤ length (ps .body .share) = omega (arith, bounds-most Body limit c (passed Header limit s ps e .core), h .bodyShare) in
     within-moves (boundsOf Body limit c) (ps .body .kept) (ps .body .marks) (length (ps .body .share)) w (body-possible limit s ps e) z g t
+
+-- ---- a segment that is marked
+
+pub each-bit : (l : List ℕ) → largestOf l ≤ 1 → Each (λ m. m ≤ 1) l
+unfolding largestOf
+each-bit [] h = tt
+each-bit (m ∷ l) h = (omega arith, each-bit l (omega arith))
+
+-- what a right record says of its last segment
+pub end-right : (end tail : ℕ) (marks : List ℕ) → endRight end tail marks ≡ true → (end ≡ 0 → tail ≡ 0) × ((n : ℕ) → end ≡ suc n → 0 < getD marks n 0)
+end-right zero tail marks e = ((λ z. eqb-true tail 0 e), (λ n z. absurd (omega arith)))
+end-right (suc j) tail marks e = ((λ z. absurd (omega arith)), (λ n z. let y : j ≡ n = omega arith in rw (← y) (leb-true 1 (getD marks j 0) e)))
+
+-- no full segment is marked, by the sum
+sum-top : (marks : List ℕ) (end : ℕ) → Each (λ m. m ≤ 1) marks → ((n : ℕ) → end ≡ suc n → 0 < getD marks n 0) → (topFrom end 0 marks ≤ 0) ↔ (sumOf marks ≡ min 1 end)
+sum-top marks zero b m = top-open 0 0 marks (λ n e. absurd (omega arith))
+sum-top marks (suc n) b m = let e : min 1 (suc n) ≡ 1 = omega arith in rw e (top-ended 0 n marks b (omega arith) (m n refl))
+
+ended-sum : (marks : List ℕ) (end : ℕ) → ((n : ℕ) → end ≡ suc n → 0 < getD marks n 0) → min 1 end ≤ sumOf marks
+ended-sum marks zero m = omega arith
+ended-sum marks (suc n) m = omega (arith, total-some marks n (m n refl))
+
+pub full-top : (p : Record) (marks : List ℕ) → Each (λ m. m ≤ 1) marks → ((n : ℕ) → p .end ≡ suc n → 0 < getD marks n 0) → fullIn p marks ≡ leb 1 (topFrom (p .end) 0 marks)
+full-top p marks b m = go (decLe (topFrom (p .end) 0 marks) 0)
+  where
+    go : Dec (topFrom (p .end) 0 marks ≤ 0) → fullIn p marks ≡ leb 1 (topFrom (p .end) 0 marks)
+    go (yes h) = lt-leb (suc (ended p)) (sumOf marks) (omega (arith, sum-top marks (p .end) b m .0 h)) ∙ sym (lt-leb 1 (topFrom (p .end) 0 marks) (omega arith))
+    go (no h) =
+        let d : ¬ (sumOf marks ≡ ended p) = λ e. h (sum-top marks (p .end) b m .1 e) in
+        le-leb (suc (ended p)) (sumOf marks) (omega (arith, ended-sum marks (p .end) m)) ∙ sym (le-leb 1 (topFrom (p .end) 0 marks) (omega arith))
+
+top-sits : (S L top size n : ℕ) → TopSits S L top size → suc n ≤ top → (size ≡ S) × (suc n * S < L)
+top-sits S L zero size n f h = absurd (omega arith)
+top-sits S L (suc t) size n f h = (f .0, omega (arith, f .1, mul-le-mul-right S h))
+
+-- 1 + the highest marked number of a full segment, or 0
+abbrev pub topIn : Memory → ℕ
+topIn m = topFrom (m .kept .end) 0 (m .marks)
+
+-- the marked segments of a part can be, and its record is right
+module _ (b : Bounds) (m : Memory) (bits : Each (λ x. x ≤ 1) (m .marks)) (right : recordRight b m ≡ true) (can : possibleIn b (m .kept) (m .marks) ≡ true) where
+  pub right-end : (m .kept .end ≡ 0 → m .kept .tail ≡ 0) × ((n : ℕ) → m .kept .end ≡ suc n → 0 < getD (m .marks) n 0)
+  unfolding recordRight
+  right-end = end-right (m .kept .end) (m .kept .tail) (m .marks) (both-true (endRight (m .kept .end) (m .kept .tail) (m .marks)) _ right .0)
+
+  right-full : fullIn (m .kept) (m .marks) ≡ leb 1 (topIn m)
+  right-full = full-top (m .kept) (m .marks) bits (right-end .1)
+
+  -- the size is the one that the last segment gives, unless a full one is in
+  right-size : topIn m ≡ 0 → m .kept .size ≡ derived b (m .kept .end) (m .kept .tail)
+  unfolding recordRight
+  right-size z =
+      let f : fullIn (m .kept) (m .marks) ≡ false = right-full ∙ (rw z refl) in
+      eqb-true (m .kept .size) (derived b (m .kept .end) (m .kept .tail)) (rw f at (both-true (endRight (m .kept .end) (m .kept .tail) (m .marks)) _ right .1))
+
+  pub right-suits : Suits b (topIn m) (m .kept .size) (m .kept .end) (m .kept .tail)
+  right-suits = possible-iff b (topIn m) (m .kept) .0 (sym (possible-in b (m .kept) (m .marks) bits (right-end .1)) ∙ can)
+
+  pub size-known : (m .kept .size ≡ 0) ⊎ (m .kept .size ≡ right-suits .cut)
+  size-known = go (topIn m) refl (right-suits .full)
+    where
+      go : (t : ℕ) → topIn m ≡ t → TopSits (right-suits .cut) (right-suits .long) t (m .kept .size) → (m .kept .size ≡ 0) ⊎ (m .kept .size ≡ right-suits .cut)
+      go (suc t) e f = inr (f .0)
+      go zero e f = by (derived-is b (right-suits .cut) (right-suits .long) (m .kept .end) (m .kept .tail) (right-suits .within) (right-suits .ended))
+        where
+          by : (derived b (m .kept .end) (m .kept .tail) ≡ 0) ⊎ (derived b (m .kept .end) (m .kept .tail) ≡ right-suits .cut) → (m .kept .size ≡ 0) ⊎ (m .kept .size ≡ right-suits .cut)
+          by (inl x) = inl (right-size e ∙ x)
+          by (inr x) = inr (right-size e ∙ x)
+
+  -- a marked number is that of a segment of a part so long, cut so
+  pub marked-sits : (last : Bool) (n : ℕ) → eqb (suc n) (m .kept .end) ≡ last → 0 < getD (m .marks) n 0 → SitsAs last (right-suits .cut) (right-suits .long) n (lengthOf last (m .kept))
+  marked-sits true n e h = subst (λ (x : ℕ). EndSits (right-suits .cut) (right-suits .long) x (m .kept .tail)) (sym (eqb-true (suc n) (m .kept .end) e)) (right-suits .ended)
+  marked-sits false n e h =
+      let g : suc (0 + n) ≤ topIn m = top-high (m .kept .end) 0 n (m .marks) h (λ y. eqb-false (suc n) (m .kept .end) e (omega arith)) in
+      top-sits (right-suits .cut) (right-suits .long) (topIn m) (m .kept .size) n (right-suits .full) (omega (arith, g))
+
+sits-lies : (last : Bool) (b : Bounds) (S L size n k : ℕ) → WithinOf b S L → SitsAs last S L n k → (size ≡ 0) ⊎ (size ≡ S) → (n < b .numbers) × (n * size + k ≤ b .most)
+sits-lies true b S L size n k w t z = let r = last-lies b S L size n k w t z in (r .0, r .1)
+sits-lies false b S L size n k w t (inl z) = rw z (below S n (b .numbers) (omega (arith, w .enough, w .low)), omega (arith, w .short))
+sits-lies false b S L size n k w t (inr z) = rw z (below S n (b .numbers) (omega (arith, w .enough, w .low)), omega (arith, w .short))
+
+-- what a part of a sound slot has passed
+pub record Right (part : Part) (limit : ℕ) (ps : Parts) : Type 0 where
+  pub core : coreFits limit (coreIn (ps .header)) ≡ true
+  pub right : recordRight (boundsOf part limit (coreIn (ps .header))) (memoryOf part ps) ≡ true
+  pub can : possibleIn (boundsOf part limit (coreIn (ps .header))) (memoryOf part ps .kept) (memoryOf part ps .marks) ≡ true
+
+pub sound-right : (part : Part) (limit : ℕ) (stage : Stage) (ps : Parts) → soundParts limit stage ps ≡ true → Right part limit ps
+unfolding soundParts suitsIn
+sound-right part limit stage ps e =
+    let c : Core = coreIn (ps .header) in
+    let t = all-true (recordRight (boundsOf Header limit c) (ps .header) ∷ recordRight (boundsOf Body limit c) (ps .body) ∷ suitsIn limit c (ps .header .kept) (ps .header .marks) (ps .body .kept) (ps .body .marks) ∷ sameStage stage (stageOf ps) ∷ []) e in
+    let u = all-true (coreFits limit c ∷ possibleIn (boundsOf Header limit c) (ps .header .kept) (ps .header .marks) ∷ possibleIn (boundsOf Body limit c) (ps .body .kept) (ps .body .marks) ∷ []) (t .1 .1 .0) in
+    by part (t .0) (t .1 .0) (u .0) (u .1 .0) (u .1 .1 .0)
+  where
+    Tests : Part → Type 0
+    Tests part = recordRight (boundsOf part limit (coreIn (ps .header))) (memoryOf part ps) ≡ true
+
+    Can : Part → Type 0
+    Can part = possibleIn (boundsOf part limit (coreIn (ps .header))) (memoryOf part ps .kept) (memoryOf part ps .marks) ≡ true
+
+    by : (part : Part) → Tests Header → Tests Body → coreFits limit (coreIn (ps .header)) ≡ true → Can Header → Can Body → Right part limit ps
+    by Header r r' k c c' = record { core = k; right = r; can = c }
+    by Body r r' k c c' = record { core = k; right = r'; can = c' }
+
+-- the marks are 0 or 1
+abbrev pub Bits : Parts → Type 0
+Bits ps = (largestOf (ps .header .marks) ≤ 1) × (largestOf (ps .body .marks) ≤ 1)
+
+pub part-bits : (part : Part) (ps : Parts) → Bits ps → Each (λ x. x ≤ 1) (memoryOf part ps .marks)
+part-bits Header ps h = each-bit (ps .header .marks) (h .0)
+part-bits Body ps h = each-bit (ps .body .marks) (h .1)
+
+numbers-most : (part : Part) → numbersOf part ≤ bodyNumbers
+numbers-most Header = omega arith
+numbers-most Body = omega arith
+
+module _ (part : Part) (limit : ℕ) (stage : Stage) (ps : Parts) (h : Shaped limit ps) (bits : Bits ps) (sound : soundParts limit stage ps ≡ true) where
+  b : Bounds
+  b = boundsOf part limit (coreIn (ps .header))
+
+  r : Right part limit ps
+  r = sound-right part limit stage ps sound
+
+  most : b .most ≤ length (memoryOf part ps .share)
+  unfolding b
+  most = omega (arith, bounds-most part limit (coreIn (ps .header)) (r .core), share-width part limit ps h)
+
+  numbers : b .numbers ≡ numbersOf part
+  unfolding b
+  numbers = bounds-numbers part limit (coreIn (ps .header))
+
+  -- a marked segment lies inside the share
+  pub marked-inside : (n : ℕ) → 0 < getD (memoryOf part ps .marks) n 0 → Placed (length (memoryOf part ps .share)) (numbersOf part) (eqb (suc n) (memoryOf part ps .kept .end)) (memoryOf part ps .kept .size) n (lengthOf (eqb (suc n) (memoryOf part ps .kept .end)) (memoryOf part ps .kept))
+  unfolding b
+  marked-inside n g =
+      let m : Memory = memoryOf part ps in
+      let last : Bool = eqb (suc n) (m .kept .end) in
+      let u : Suits b (topIn m) (m .kept .size) (m .kept .end) (m .kept .tail) = right-suits b m (part-bits part ps bits) (r .right) (r .can) in
+      let t = sits-lies last b (u .cut) (u .long) (m .kept .size) n (lengthOf last (m .kept)) (u .within) (marked-sits b m (part-bits part ps bits) (r .right) (r .can) last n refl g) (size-known b m (part-bits part ps bits) (r .right) (r .can)) in
+      placed last (length (m .share)) (numbersOf part) (m .kept .size) n (lengthOf last (m .kept)) (omega (arith, t .0, numbers)) (omega (arith, t .1, most))
+
+  -- and the numbers of its record are small
+  pub record-small : Small (length (memoryOf part ps .share)) (numbersOf part) (memoryOf part ps .kept)
+  unfolding b
+  record-small =
+      let m : Memory = memoryOf part ps in
+      let u : Suits b (topIn m) (m .kept .size) (m .kept .end) (m .kept .tail) = right-suits b m (part-bits part ps bits) (r .right) (r .can) in
+      let s = suited-small b (m .kept) (length (m .share)) (record { cut = u .cut; long = u .long; within = u .within; ended = u .ended; size = size-known b m (part-bits part ps bits) (r .right) (r .can) }) (right-end b m (part-bits part ps bits) (r .right) (r .can) .0) most (omega (arith, numbers, numbers-most part)) in
+      record { size = s .size; end = omega (arith, s .end, numbers); tail = s .tail; product = s .product; last = s .last }
+
+-- ---- of a slot and what is lent for it
+
+pub lent-shaped : (limit : ℕ) (slot : Slot) (lent : Lent) → length (lent .header) ≡ headerMost → length (lent .body) ≡ limit → length (lent .marks) ≡ headerNumbers + bodyNumbers → Shaped limit (partsOf slot lent)
+unfolding partsOf
+lent-shaped limit slot lent h b m = record { headerShare = h; bodyShare = b; headerMarks = simp length-take (omega arith); bodyMarks = simp length-drop (omega arith) }
+
+-- what a sound slot has passed
+pub sound-slot : (limit : ℕ) (slot : Slot) (lent : Lent) → soundSlot limit slot lent ≡ true → (largestOf (lent .marks) ≤ 1) × (1 ≤ sumOf (lent .marks)) × (soundParts limit (slot .stage) (partsOf slot lent) ≡ true)
+unfolding soundSlot
+sound-slot limit slot lent e =
+    let t = all-true (leb (largestOf (lent .marks)) 1 ∷ leb 1 (sumOf (lent .marks)) ∷ soundParts limit (slot .stage) (partsOf slot lent) ∷ []) e in
+    (leb-true (largestOf (lent .marks)) 1 (t .0), leb-true 1 (sumOf (lent .marks)) (t .1 .0), t .1 .1 .0)
+
+pub lent-bits : (slot : Slot) (lent : Lent) → largestOf (lent .marks) ≤ 1 → Bits (partsOf slot lent)
+unfolding partsOf
+lent-bits slot lent h =
+    let n : ℕ = length (drop headerNumbers (lent .marks)) in
+    let e : take n (drop headerNumbers (lent .marks)) ≡ drop headerNumbers (lent .marks) = take-all n (drop headerNumbers (lent .marks)) (omega arith) in
+    (omega (arith, largest-part (lent .marks) 0 headerNumbers), omega (arith, largest-part (lent .marks) headerNumbers n, ap largestOf e))
+
+pub same-stage : (x y : Stage) → sameStage x y ≡ true → x ≡ y
+same-stage Free Free e = refl
+same-stage Free Gathering e = absurd (false-true refl e)
+same-stage Free (Finished h b) e = absurd (false-true refl e)
+same-stage Gathering Free e = absurd (false-true refl e)
+same-stage Gathering Gathering e = refl
+same-stage Gathering (Finished h b) e = absurd (false-true refl e)
+same-stage (Finished h b) Free e = absurd (false-true refl e)
+same-stage (Finished h b) Gathering e = absurd (false-true refl e)
+same-stage (Finished h b) (Finished h' b') e = let r = both-true (eqb h h') (eqb b b') e in rw (eqb-true h h' (r .0), eqb-true b b' (r .1)) refl
+
+-- the stage of a sound slot is the one that its parts give
+pub sound-stage : (limit : ℕ) (stage : Stage) (ps : Parts) → soundParts limit stage ps ≡ true → stage ≡ stageOf ps
+unfolding soundParts
+sound-stage limit stage ps e =
+    let c : Core = coreIn (ps .header) in
+    let t = all-true (recordRight (boundsOf Header limit c) (ps .header) ∷ recordRight (boundsOf Body limit c) (ps .body) ∷ suitsIn limit c (ps .header .kept) (ps .header .marks) (ps .body .kept) (ps .body .marks) ∷ sameStage stage (stageOf ps) ∷ []) e in
+    same-stage stage (stageOf ps) (t .1 .1 .1 .0)
+
+finished-core : (done : Bool) (c : Core) (h b : ℕ) → stageBy done c ≡ Finished h b → c ≡ Seen b h
+finished-core false c h b e = let z : _≡_ {A = ℕ} 0 1 = cc in absurd (omega arith)
+finished-core true Unseen h b e = let z : _≡_ {A = ℕ} 0 1 = cc in absurd (omega arith)
+finished-core true (Seen body header) h b e = let x : header ≡ h = cc in let y : body ≡ b = cc in rw (x, y) refl
+
+core-lengths : (limit h b : ℕ) → coreFits limit (Seen b h) ≡ true → (h ≤ headerMost) × (b ≤ limit)
+unfolding coreFits
+core-lengths limit h b e = let t = all-true (coreTests limit (Seen b h)) e in (leb-true h headerMost (t .1 .0), leb-true b limit (t .1 .1 .0))
+
+-- the two lengths of a finished object lie inside the shares
+pub finished-inside : (limit h b : ℕ) (ps : Parts) → soundParts limit (Finished h b) ps ≡ true → (h ≤ headerMost) × (b ≤ limit)
+unfolding stageOf
+finished-inside limit h b ps e =
+    let d : Bool = finished (coreIn (ps .header)) (sumOf (ps .header .marks)) (ps .header .kept) (sumOf (ps .body .marks)) (ps .body .kept) in
+    let c : coreIn (ps .header) ≡ Seen b h = finished-core d (coreIn (ps .header)) h b (sym (sound-stage limit (Finished h b) ps e)) in
+    core-lengths limit h b (rw c at (sound-right Header limit (Finished h b) ps e .core))

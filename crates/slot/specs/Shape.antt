@@ -9,7 +9,7 @@ use Rattle.cut.specs.Requirement.{headerMost, sizeMost, headerNumbers, bodyNumb
 use Rattle.cut.specs.declared.Core.{Core}
 use Rattle.cut.specs.declared.Record.{Record}
 use Rattle.cut.specs.Decision.{coreAfter, boundsOf}
-use Rattle.slot.specs.Memory.{Memory, placeOf}
+use Rattle.slot.specs.Memory.{placeOf}
 use Rattle.slot.specs.Take.{Parts, memoryOf, coreIn, recordWith}
 
 -- how many bytes a part's share has, and how many marks

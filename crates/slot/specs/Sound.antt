@@ -6,7 +6,6 @@ use lib.Dec.{eqb, leb}
 use lib.ListN.{getD}
 use Rattle.octets.specs.Octets.{sumOf, largestOf}
 use Rattle.answer.specs.declared.Part.the-variants.{Header, Body}
-use Rattle.cut.specs.declared.Record.{Record}
 use Rattle.cut.specs.declared.Bounds.{Bounds}
 use Rattle.cut.specs.Decision.{pick, both, all, boundsOf, derived}
 use Rattle.cut.specs.Sums.{fullIn, suitsIn}
