@@ -1,4 +1,6 @@
 pub mod Memory
 pub mod Take
 pub mod Sound
+pub mod Shape
+pub mod Inside
 pub mod Inner
