@@ -2,9 +2,9 @@
 use mathlib.Core.Path.{_≡_}
 use mathlib.Core.Bool.{Bool, true}
 use mathlib.Core.List.{List}
-use Prim.Native.Nat.{ℕ, suc, _+_, _-_, _*_, _≤_, _<_}
-use lib.Dec.{eqb, leb}
-use lib.ListN.{length, take, drop, getD}
+use Prim.Native.Nat.{ℕ, _+_, _-_, _*_, _≤_, _<_}
+use lib.Dec.{leb}
+use lib.ListN.{length, take, drop, getD, set}
 use Rattle.octets.specs.Octets.{over, equal, sumOf}
 use Rattle.answer.specs.declared.Part.{Part}
 use Rattle.answer.specs.declared.Part.the-variants.{Header, Body}
@@ -16,7 +16,8 @@ use Rattle.cut.specs.Decision.{pick, both, boundsOf, coreFits, joins, addPart, 
 use Rattle.cut.specs.Sums.{fullIn, acceptsIn, possibleIn}
 use Rattle.slot.specs.declared.Slot.{Slot}
 use Rattle.slot.specs.Memory.{placeOf, lengthOf, movedAs}
-use Rattle.slot.specs.Take.{stageBy, sameFlag}
+use Rattle.slot.specs.Take.{Lent, stageBy, sameFlag}
+use Rattle.slot.specs.Shape.{numbersOf}
 
 abbrev pub otherPart : Part → Part
 otherPart Header = Body
@@ -66,11 +67,10 @@ slotFrom number header body share marks = record {
 unfoldable pub recordStill : Part → ℕ → Core → Slot → List ℕ → Record
 recordStill part limit core slot marks = settle (boundsOf part limit core) (fullIn (keptOf part slot) (marksOf part marks)) (keptOf part slot)
 
--- a segment is the same as the one that a part holds under its number
-unfoldable pub sameIn : Record → Bool → ℕ → List ℕ → List ℕ → Bool
-sameIn kept last n bytes share =
-    both (sameFlag last (eqb (suc n) (kept .end)))
-    (equal bytes (take (lengthOf last kept) (drop (placeOf last (kept .size) (length share) n (lengthOf last kept)) share)))
+-- a segment is the same as the one that a part holds under its number; held says whether that one is the last
+unfoldable pub sameAs : Bool → Record → Bool → ℕ → List ℕ → List ℕ → Bool
+sameAs held kept last n bytes share =
+    both (sameFlag last held) (equal bytes (take (lengthOf held kept) (drop (placeOf held (kept .size) (length share) n (lengthOf held kept)) share)))
 
 -- a last segment at the end of the share can be copied to its place
 pub record CanMove (old : Record) (size : ℕ) (share : List ℕ) : Type 0 where
@@ -80,3 +80,46 @@ pub record CanMove (old : Record) (size : ℕ) (share : List ℕ) : Type 0 where
 pub record CanPut (last : Bool) (size n count : ℕ) (share : List ℕ) : Type 0 where
   pub placed : placeOf last size (length share) n count + count ≤ length share
   pub product : n * size ≤ length share
+
+-- ---- what storing a segment leaves
+
+pub record Left : Type 0 where
+  pub slot : Slot
+  pub lent : Lent
+
+unfoldable pub headerStored : ℕ → Core → Slot → Lent → Bool → ℕ → List ℕ → Left
+headerStored limit core slot lent last n bytes = leftBy (recordAs Header limit core slot (lent .marks) last n (length bytes)) (recordStill Body limit core slot (lent .marks))
+  where
+    leftBy : Record → Record → Left
+    leftBy kept still = record {
+      slot = slotFrom (slot .number) kept still (putIn (slot .header) kept last n bytes (lent .header)) (set (lent .marks) n 1);
+      lent = record {
+        header = putIn (slot .header) kept last n bytes (lent .header);
+        body = movedAs (slot .body .size) (still .size) (slot .body .end) (slot .body .tail) (lent .body);
+        marks = set (lent .marks) n 1;
+      };
+    }
+
+unfoldable pub bodyStored : ℕ → Core → Slot → Lent → Bool → ℕ → List ℕ → Left
+bodyStored limit core slot lent last n bytes = leftBy (recordAs Body limit core slot (lent .marks) last n (length bytes))
+  where
+    leftBy : Record → Left
+    leftBy kept = record {
+      slot = slotFrom (slot .number) (slot .header) kept (lent .header) (set (lent .marks) (headerNumbers + n) 1);
+      lent = record {
+        header = lent .header;
+        body = putIn (slot .body) kept last n bytes (lent .body);
+        marks = set (lent .marks) (headerNumbers + n) 1;
+      };
+    }
+
+abbrev pub shareOf : Part → Lent → List ℕ
+shareOf Header lent = lent .header
+shareOf Body lent = lent .body
+
+-- a segment that fits can be stored: its number has a mark, and its place lies inside the share
+pub record Ready (part : Part) (limit : ℕ) (core : Core) (slot : Slot) (lent : Lent) (last : Bool) (n count : ℕ) : Type 0 where
+  pub marks : length (lent .marks) ≡ 1088
+  pub number : n < numbersOf part
+  pub move : CanMove (keptOf part slot) (recordAs part limit core slot (lent .marks) last n count .size) (shareOf part lent)
+  pub put : CanPut last (recordAs part limit core slot (lent .marks) last n count .size) n count (shareOf part lent)

@@ -6,7 +6,8 @@ use cut::Bounds;
 use cut::Core;
 use cut::Record;
 ghost use mathlib.Core.Path.{_≡_};
-ghost use Prim.Native.Nat.{_*_, _≤_, _<_};
+ghost use Prim.Native.Nat.{suc, _*_, _≤_, _<_};
+ghost use lib.Dec.{eqb};
 ghost use lib.ListN.{length, drop};
 ghost use Rattle.octets.specs.Octets.{sumOf};
 ghost use Rattle.cut.specs.Requirement.{bodySize, headerSize};
@@ -14,7 +15,7 @@ ghost use Rattle.cut.specs.declared.Core.the-variants.{Seen};
 ghost use Rattle.cut.specs.Sums.{ended, possibleIn, acceptsIn, fullIn};
 ghost use Rattle.slot.specs.Memory.{placeOf, lengthOf, movedAs};
 ghost use Rattle.slot.specs.Take.{stageBy, sameFlag};
-ghost use Rattle.slot.specs.Inner.{otherPart, marksOf, keptOf, coreFrom, takesAs, recordAs, recordStill, putIn, slotFrom, sameIn, CanMove, CanPut};
+ghost use Rattle.slot.specs.Inner.{otherPart, marksOf, keptOf, coreFrom, takesAs, recordAs, recordStill, putIn, slotFrom, sameAs, CanMove, CanPut, headerStored, bodyStored, Ready};
 
 // Free comes first: a free slot is what an unused one is made of.
 pub enum Stage {
@@ -295,14 +296,81 @@ fn same_flag(a: bool, b: bool) -> bool
 
 // Whether a segment is the one that is held under its number.
 fn same_in(kept: Record, last: bool, number: usize, bytes: &[u8], share: &[u8]) -> bool
-    requires { ⌜ CanPut last (kept .size) number (lengthOf last kept) (now share) ⌝ }
+    requires { ⌜ CanPut (eqb (suc number) (kept .end)) (kept .size) number (lengthOf (eqb (suc number) (kept .end)) kept) (now share) ⌝ }
     requires { ⌜ number < 32768 ⌝ }
-    ensures { λ r. ⌜ r ≡ sameIn kept last number (now (bytes .entry)) (now (share .entry)) ⌝ }
+    ensures { λ r. ⌜ r ≡ sameAs (eqb (suc number) (kept .end)) kept last number (now (bytes .entry)) (now (share .entry)) ⌝ }
 {
-    if !same_flag(last, number + 1 == kept.end) {
+    let held = number + 1 == kept.end;
+    if !same_flag(last, held) {
         return false;
     }
-    let count = length_of(last, kept);
-    let at = place_of(last, kept.size, share.len(), number, count);
+    let count = length_of(held, kept);
+    let at = place_of(held, kept.size, share.len(), number, count);
     octets::same(bytes, &share[at..at + count])
+}
+
+// A header segment is stored; with segment 0 the body's size may follow too.
+fn store_header(
+    slot: Slot,
+    limit: usize,
+    core: Core,
+    last: bool,
+    number: usize,
+    bytes: &[u8],
+    header: &mut [u8],
+    body: &mut [u8],
+    marks: &mut [u8],
+) -> Slot
+    requires { ⌜ Ready Part.Header limit core slot (record { header = now header; body = now body; marks = now marks }) last number (length (now bytes)) ⌝ }
+    requires { ⌜ CanMove (slot .body) (recordStill Part.Body limit core slot (now marks) .size) (now body) ⌝ }
+    ensures { λ r. ⌜ record { slot = r; lent = record { header = now (header .exit); body = now (body .exit); marks = now (marks .exit) } } ≡ headerStored limit core slot (record { header = now (header .entry); body = now (body .entry); marks = now (marks .entry) }) last number (now (bytes .entry)) ⌝ }
+{
+    let old = slot.header;
+    let old_body = slot.body;
+    let kept = record_as(
+        Part::Header,
+        limit,
+        core,
+        slot,
+        marks,
+        last,
+        number,
+        bytes.len(),
+    );
+    let still = record_still(Part::Body, limit, core, slot, marks);
+    put_in(old, kept, last, number, bytes, header);
+    move_last(old_body, still.size, body);
+    marks[number] = 1;
+    slot_from(slot.number, kept, still, header, marks)
+}
+
+fn store_body(
+    slot: Slot,
+    limit: usize,
+    core: Core,
+    last: bool,
+    number: usize,
+    bytes: &[u8],
+    header: &[u8],
+    body: &mut [u8],
+    marks: &mut [u8],
+) -> Slot
+    requires { ⌜ Ready Part.Body limit core slot (record { header = now header; body = now body; marks = now marks }) last number (length (now bytes)) ⌝ }
+    ensures { λ r. ⌜ record { slot = r; lent = record { header = now (header .entry); body = now (body .exit); marks = now (marks .exit) } } ≡ bodyStored limit core slot (record { header = now (header .entry); body = now (body .entry); marks = now (marks .entry) }) last number (now (bytes .entry)) ⌝ }
+{
+    let old = slot.body;
+    let kept_header = slot.header;
+    let kept = record_as(
+        Part::Body,
+        limit,
+        core,
+        slot,
+        marks,
+        last,
+        number,
+        bytes.len(),
+    );
+    put_in(old, kept, last, number, bytes, body);
+    marks[64 + number] = 1;
+    slot_from(slot.number, kept_header, kept, header, marks)
 }
