@@ -16,7 +16,7 @@ use Rattle.cut.specs.Decision.{pick, both, boundsOf, coreFits, joins, addPart, 
 use Rattle.cut.specs.Sums.{fullIn, acceptsIn, possibleIn}
 use Rattle.slot.specs.declared.Slot.{Slot}
 use Rattle.slot.specs.Memory.{placeOf, lengthOf, movedAs}
-use Rattle.slot.specs.Take.{Lent, stageBy, sameFlag}
+use Rattle.slot.specs.Take.{Lent, Parts, lentOf, slotWith, stageBy, sameFlag}
 use Rattle.slot.specs.Shape.{numbersOf}
 
 abbrev pub otherPart : Part → Part
@@ -86,6 +86,10 @@ pub record CanPut (last : Bool) (size n count : ℕ) (share : List ℕ) : Type 0
 pub record Left : Type 0 where
   pub slot : Slot
   pub lent : Lent
+
+-- two parts that have changed, as the slot and its shares
+abbrev pub leftOf : ℕ → Parts → Left
+leftOf number ps = record { slot = slotWith number ps; lent = lentOf ps }
 
 unfoldable pub headerStored : ℕ → Core → Slot → Lent → Bool → ℕ → List ℕ → Left
 headerStored limit core slot lent last n bytes = leftBy (recordAs Header limit core slot (lent .marks) last n (length bytes)) (recordStill Body limit core slot (lent .marks))

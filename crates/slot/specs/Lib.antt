@@ -4,3 +4,4 @@ pub mod Sound
 pub mod Shape
 pub mod Inside
 pub mod Inner
+pub mod Meets

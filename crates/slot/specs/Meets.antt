@@ -1,0 +1,118 @@
+-- The inner functions give what the definitions in Take.antt say.
+use mathlib.Core.Path.{_≡_, refl}
+use mathlib.Core.Bool.{Bool, true, false}
+use mathlib.Core.List.{List, _++_}
+use Prim.Native.Nat.{ℕ, zero, suc, _+_, _-_, _*_, _≤_, _<_}
+use native.Mathlib.Omega.{arith}
+use lib.Dec.{eqb}
+use lib.ListN.{length, take, drop, set, length-take, length-drop}
+use lib.ListN.{take-append-drop}
+use lib.Seq.{take-set-lt, take-set-le, drop-set-lt, drop-set-add}
+use Rattle.octets.specs.Over.{over-length}
+use Rattle.answer.specs.declared.Part.{Part}
+use Rattle.answer.specs.declared.Part.the-variants.{Header, Body}
+use Rattle.cut.specs.Requirement.{headerNumbers, Segment}
+use Rattle.cut.specs.declared.Core.{Core}
+use Rattle.cut.specs.Decision.{both, boundsOf, coreAfter}
+use Rattle.slot.specs.declared.Slot.{Slot}
+use Rattle.slot.specs.Memory.{movedAs, settled, put, segmentAt}
+use Rattle.slot.specs.Take.{Lent, partsOf, memoryOf, coreIn, takesIn, recordWith, recordWithin, partsWith, lentOf, slotWith, stageOf, sameSegment}
+use Rattle.slot.specs.Shape.{coreWith, recordAfter}
+use Rattle.slot.specs.Inner.{marksOf, keptOf, coreFrom, takesAs, recordAs, recordStill, sameAs, shareOf, CanMove, putIn, slotFrom, headerStored, bodyStored, leftOf}
+
+-- a last test, and two tests the other way round
+both-only : (a : Bool) → both a true ≡ a
+both-only true = refl
+both-only false = refl
+
+both-either : (a b : Bool) → both a (both b true) ≡ both b a
+both-either true true = refl
+both-either true false = refl
+both-either false true = refl
+both-either false false = refl
+
+module _ (slot : Slot) (lent : Lent) where
+  pub core-meets : coreFrom (marksOf Header (lent .marks)) (lent .header) ≡ coreIn (partsOf slot lent .header)
+  unfolding coreFrom coreIn partsOf marksOf
+  core-meets = refl
+
+  pub kept-meets : (part : Part) → keptOf part slot ≡ memoryOf part (partsOf slot lent) .kept
+  unfolding partsOf
+  kept-meets Header = refl
+  kept-meets Body = refl
+
+  pub marks-meets : (part : Part) → marksOf part (lent .marks) ≡ memoryOf part (partsOf slot lent) .marks
+  unfolding partsOf marksOf
+  marks-meets Header = refl
+  marks-meets Body = refl
+
+  pub share-meets : (part : Part) → shareOf part lent ≡ memoryOf part (partsOf slot lent) .share
+  unfolding partsOf
+  share-meets Header = refl
+  share-meets Body = refl
+
+  -- the decision
+  pub takes-meets : (part : Part) (limit : ℕ) (s : Segment) → takesAs part limit (coreWith part s (coreIn (partsOf slot lent .header))) slot (lent .marks) (s .last) (s .number) (length (s .bytes)) ≡ takesIn part limit s (partsOf slot lent)
+  unfolding takesAs takesIn partsOf marksOf
+  takes-meets Header limit s = simp both-only
+  takes-meets Body limit s = simp both-either
+
+  -- the records
+  pub record-meets : (part : Part) (limit : ℕ) (s : Segment) → recordAs part limit (coreWith part s (coreIn (partsOf slot lent .header))) slot (lent .marks) (s .last) (s .number) (length (s .bytes)) ≡ recordAfter part limit s (partsOf slot lent)
+  unfolding recordAs recordWith partsOf marksOf
+  record-meets Header limit s = refl
+  record-meets Body limit s = refl
+
+  pub still-meets : (limit : ℕ) (core : Core) → recordStill Body limit core slot (lent .marks) ≡ recordWithin (boundsOf Body limit core) (partsOf slot lent .body)
+  unfolding recordStill recordWithin partsOf marksOf
+  still-meets limit core = refl
+
+  -- a segment compared with the one that is held
+  pub same-meets : (part : Part) (s : Segment) → sameAs (eqb (suc (s .number)) (keptOf part slot .end)) (keptOf part slot) (s .last) (s .number) (s .bytes) (shareOf part lent) ≡ sameSegment s (segmentAt (memoryOf part (partsOf slot lent)) (s .number))
+  unfolding sameAs sameSegment segmentAt partsOf
+  same-meets Header s = refl
+  same-meets Body s = refl
+
+-- ---- a segment stored
+
+-- a last segment that is copied leaves the share as long as it was
+pub moved-length : (size size' end tail : ℕ) (share : List ℕ) → (size ≡ 0 → 0 < size' → 2 ≤ end → (end - 1) * size' + tail ≤ length share) → length (movedAs size size' end tail share) ≡ length share
+moved-length (suc size) size' end tail share h = refl
+moved-length zero zero end tail share h = refl
+moved-length zero (suc size) zero tail share h = refl
+moved-length zero (suc size) (suc zero) tail share h = refl
+moved-length zero (suc size) (suc (suc n)) tail share h =
+    let fits : (suc (suc n) - 1) * suc size + tail ≤ length share = h refl (omega arith) (omega arith) in
+    let e : suc (suc n) - 1 ≡ suc n = omega arith in
+    let f : suc n * suc size + tail ≤ length share = rw e at fits in
+    over-length share (suc n * suc size) (take tail (drop (length share - tail) share)) (rw (length-take, length-drop) (omega arith))
+
+-- one mark set among the first, or among the rest
+marks-first : (n m : ℕ) (marks : List ℕ) → n < m → set (take m marks) n 1 ++ drop m marks ≡ set marks n 1
+marks-first n m marks h = rw (← take-set-lt m marks n 1 h, ← drop-set-lt m marks n 1 h) (take-append-drop m (set marks n 1))
+
+marks-rest : (n m : ℕ) (marks : List ℕ) → take m marks ++ set (drop m marks) n 1 ≡ set marks (m + n) 1
+marks-rest n m marks = rw (← take-set-le m marks (m + n) 1 (omega arith), ← drop-set-add m marks n 1) (take-append-drop m (set marks (m + n) 1))
+
+module _ (limit : ℕ) (s : Segment) (slot : Slot) (lent : Lent) where
+  pub header-meets : s .number < headerNumbers → CanMove (slot .header) (recordAfter Header limit s (partsOf slot lent) .size) (lent .header)
+      → headerStored limit (coreAfter s (coreIn (partsOf slot lent .header))) slot lent (s .last) (s .number) (s .bytes) ≡ leftOf (slot .number) (partsWith Header limit s (partsOf slot lent))
+  unfolding headerStored slotFrom coreFrom marksOf putIn recordAs recordStill partsWith put settled partsOf slotWith lentOf stageOf coreIn recordWith recordWithin
+  header-meets h m =
+      rw (
+        take-set-lt headerNumbers (lent .marks) (s .number) 1 h,
+        drop-set-lt headerNumbers (lent .marks) (s .number) 1 h,
+        marks-first (s .number) headerNumbers (lent .marks) h,
+        moved-length (slot .header .size) (recordAfter Header limit s (partsOf slot lent) .size) (slot .header .end) (slot .header .tail) (lent .header) (m .inside),
+      )
+
+  pub body-meets : CanMove (slot .body) (recordAfter Body limit s (partsOf slot lent) .size) (lent .body)
+      → bodyStored limit (coreIn (partsOf slot lent .header)) slot lent (s .last) (s .number) (s .bytes) ≡ leftOf (slot .number) (partsWith Body limit s (partsOf slot lent))
+  unfolding bodyStored slotFrom coreFrom marksOf putIn recordAs partsWith put settled partsOf slotWith lentOf stageOf coreIn recordWith
+  body-meets m =
+      rw (
+        take-set-le headerNumbers (lent .marks) (headerNumbers + s .number) 1 (omega arith),
+        drop-set-add headerNumbers (lent .marks) (s .number) 1,
+        marks-rest (s .number) headerNumbers (lent .marks),
+        moved-length (slot .body .size) (recordAfter Body limit s (partsOf slot lent) .size) (slot .body .end) (slot .body .tail) (lent .body) (m .inside),
+      )
