@@ -4,9 +4,10 @@ use mathlib.Core.Path.{_≡_, refl, sym, ap, ap₂, _∙_}
 use mathlib.Core.Logic.{_≢_}
 use mathlib.Core.Bool.{Bool, true, false}
 use mathlib.Core.List.{List}
-use Prim.Native.Nat.{ℕ, zero, suc, _-_, _*_, _/_, _≤_, _<_, min}
+use Prim.Native.Nat.{ℕ, zero, suc, _+_, _-_, _*_, _/_, _≤_, _<_, min}
 use native.Mathlib.Omega.{arith}
-use lib.ListN.{length, take, drop, length-take, length-drop}
+use lib.ListN.{length, take, drop, getD, length-take, length-drop}
+use lib.Seq.{getD-take, getD-drop}
 use borrow.Author.Tests.{leb-true}
 use Rattle.octets.specs.Octets.{over}
 use Rattle.answer.specs.declared.Part.{Part}
@@ -107,3 +108,11 @@ through₃ g {c = c} {c' = c'} e f h i = e ∙ ap₂ (λ x y. g x y c) f h ∙ a
 pub accepted-as : (last : Bool) (n : ℕ) {r : Bool} {b b' : Bounds} {p p' : Record} {marks marks' : List ℕ}
     → r ≡ acceptsIn last n b p marks → b ≡ b' → p ≡ p' → marks ≡ marks' → r ≡ acceptsIn last n b' p' marks'
 accepted-as last n e f g h = through₃ (acceptsIn last n) e f g h
+
+pub header-mark : (marks : List ℕ) (n : ℕ) → n < 64 → getD (marksOf Header marks) n 0 ≡ getD marks n 0
+unfolding marksOf
+header-mark marks n h = getD-take 64 marks n 0 h
+
+pub body-mark : (marks : List ℕ) (n : ℕ) → getD (marksOf Body marks) n 0 ≡ getD marks (64 + n) 0
+unfolding marksOf
+body-mark marks n = getD-drop 64 marks n 0

@@ -5,10 +5,10 @@ use mathlib.Core.List.{List}
 use Prim.Native.Nat.{ℕ, _+_, _-_, _*_, _≤_, _<_}
 use lib.Dec.{leb}
 use lib.ListN.{length, take, drop, getD, set}
-use Rattle.octets.specs.Octets.{over, equal, sumOf}
+use Rattle.octets.specs.Octets.{over, equal, sumOf, largestOf}
 use Rattle.answer.specs.declared.Part.{Part}
 use Rattle.answer.specs.declared.Part.the-variants.{Header, Body}
-use Rattle.cut.specs.Requirement.{headerNumbers, bodySize, headerSize}
+use Rattle.cut.specs.Requirement.{headerMost, headerNumbers, bodySize, headerSize}
 use Rattle.cut.specs.declared.Record.{Record}
 use Rattle.cut.specs.declared.Core.{Core}
 use Rattle.cut.specs.declared.Core.the-variants.{Unseen, Seen}
@@ -16,7 +16,8 @@ use Rattle.cut.specs.Decision.{pick, both, boundsOf, coreFits, joins, addPart, 
 use Rattle.cut.specs.Sums.{fullIn, acceptsIn, possibleIn}
 use Rattle.slot.specs.declared.Slot.{Slot}
 use Rattle.slot.specs.Memory.{placeOf, lengthOf, movedAs}
-use Rattle.slot.specs.Take.{Lent, Parts, lentOf, slotWith, stageBy, sameFlag}
+use Rattle.slot.specs.Take.{Lent, Parts, partsOf, lentOf, slotWith, stageBy, sameFlag}
+use Rattle.slot.specs.Sound.{soundParts}
 use Rattle.slot.specs.Shape.{numbersOf}
 
 abbrev pub otherPart : Part → Part
@@ -127,3 +128,14 @@ pub record Ready (part : Part) (limit : ℕ) (core : Core) (slot : Slot) (lent :
   pub number : n < numbersOf part
   pub move : CanMove (keptOf part slot) (recordAs part limit core slot (lent .marks) last n count .size) (shareOf part lent)
   pub put : CanPut last (recordAs part limit core slot (lent .marks) last n count .size) n count (shareOf part lent)
+
+-- ---- a segment offered to a slot
+
+-- the slot's shares have their sizes, each mark is 0 or 1, and its record and stage are those that its marked segments
+-- give, or it holds none yet
+pub record Offered (limit : ℕ) (slot : Slot) (lent : Lent) : Type 0 where
+  pub header : length (lent .header) ≡ headerMost
+  pub body : length (lent .body) ≡ limit
+  pub marks : length (lent .marks) ≡ 1088
+  pub bits : largestOf (lent .marks) ≤ 1
+  pub sound : soundParts limit (slot .stage) (partsOf slot lent) ≡ true

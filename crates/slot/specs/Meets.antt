@@ -1,12 +1,12 @@
 -- The inner functions give what the definitions in Take.antt say.
-use mathlib.Core.Path.{_≡_, refl}
+use mathlib.Core.Path.{_≡_, refl, sym, ap, _∙_}
 use mathlib.Core.Bool.{Bool, true, false}
 use mathlib.Core.List.{List, _++_}
 use Prim.Native.Nat.{ℕ, zero, suc, _+_, _-_, _*_, _≤_, _<_}
 use native.Mathlib.Omega.{arith}
 use lib.Dec.{eqb}
 use lib.ListN.{length, take, drop, set, length-take, length-drop}
-use lib.ListN.{take-append-drop}
+use lib.ListN.{getD, take-append-drop, List·getD-eq-default}
 use lib.Seq.{take-set-lt, take-set-le, drop-set-lt, drop-set-add}
 use Rattle.octets.specs.Over.{over-length}
 use Rattle.answer.specs.declared.Part.{Part}
@@ -15,10 +15,13 @@ use Rattle.cut.specs.Requirement.{headerNumbers, Segment}
 use Rattle.cut.specs.declared.Core.{Core}
 use Rattle.cut.specs.Decision.{both, boundsOf, coreAfter}
 use Rattle.slot.specs.declared.Slot.{Slot}
-use Rattle.slot.specs.Memory.{movedAs, settled, put, segmentAt}
-use Rattle.slot.specs.Take.{Lent, partsOf, memoryOf, coreIn, takesIn, recordWith, recordWithin, partsWith, lentOf, slotWith, stageOf, sameSegment}
-use Rattle.slot.specs.Shape.{coreWith, recordAfter}
-use Rattle.slot.specs.Inner.{marksOf, keptOf, coreFrom, takesAs, recordAs, recordStill, sameAs, shareOf, CanMove, putIn, slotFrom, headerStored, bodyStored, leftOf}
+use Rattle.slot.specs.Memory.{lengthOf, movedAs, settled, put, segmentAt}
+use Rattle.slot.specs.declared.Outcome.{Outcome}
+use Rattle.slot.specs.declared.Outcome.the-variants.{Conflict}
+use Rattle.slot.specs.Take.{Lent, Parts, partsOf, memoryOf, coreIn, takesIn, recordWith, recordWithin, partsWith, lentOf, slotWith, stageOf, sameSegment, unchanged, outcomeBy, storedAs, ifNew, ifHeld, byMark, takeInto}
+use Rattle.slot.specs.Shape.{numbersOf, Shaped, coreWith, recordAfter}
+use Rattle.slot.specs.Inside.{takes-beyond, takes-inside, settled-inside, body-inside, marked-inside, lent-shaped, lent-bits}
+use Rattle.slot.specs.Inner.{marksOf, keptOf, coreFrom, takesAs, recordAs, recordStill, sameAs, shareOf, CanMove, CanPut, putIn, slotFrom, Left, headerStored, bodyStored, leftOf, Ready, Offered}
 
 -- a last test, and two tests the other way round
 both-only : (a : Bool) → both a true ≡ a
@@ -116,3 +119,77 @@ module _ (limit : ℕ) (s : Segment) (slot : Slot) (lent : Lent) where
         marks-rest (s .number) headerNumbers (lent .marks),
         moved-length (slot .body .size) (recordAfter Body limit s (partsOf slot lent) .size) (slot .body .end) (slot .body .tail) (lent .body) (m .inside),
       )
+
+-- ---- a segment offered
+
+module _ (part : Part) (limit : ℕ) (s : Segment) (slot : Slot) (lent : Lent) where
+  by-mark : (mark : ℕ) → getD (marksOf part (lent .marks)) (s .number) 0 ≡ mark → takeInto part limit s slot lent ≡ byMark mark part limit s slot lent
+  unfolding takeInto
+  by-mark mark e = ap (λ (m : ℕ). byMark m part limit s slot lent) (ap (λ (l : List ℕ). getD l (s .number) 0) (sym (marks-meets slot lent part)) ∙ e)
+
+  -- a number that is marked
+  pub take-held : (same : Bool) → 0 < getD (marksOf part (lent .marks)) (s .number) 0
+      → same ≡ sameAs (eqb (suc (s .number)) (keptOf part slot .end)) (keptOf part slot) (s .last) (s .number) (s .bytes) (shareOf part lent)
+      → takeInto part limit s slot lent ≡ ifHeld same slot lent
+  take-held same h e = go (getD (marksOf part (lent .marks)) (s .number) 0) refl h
+    where
+      go : (mark : ℕ) → getD (marksOf part (lent .marks)) (s .number) 0 ≡ mark → 0 < mark → takeInto part limit s slot lent ≡ ifHeld same slot lent
+      go zero f h = absurd (omega arith)
+      go (suc mark) f h = by-mark (suc mark) f ∙ ap (λ (b : Bool). ifHeld b slot lent) (sym (e ∙ same-meets slot lent part s))
+
+  -- one that is not
+  pub take-new : (fits : Bool) → getD (marksOf part (lent .marks)) (s .number) 0 ≡ 0
+      → fits ≡ takesAs part limit (coreWith part s (coreIn (partsOf slot lent .header))) slot (lent .marks) (s .last) (s .number) (length (s .bytes))
+      → takeInto part limit s slot lent ≡ ifNew fits part limit s slot lent
+  take-new fits h e = by-mark 0 h ∙ ap (λ (b : Bool). ifNew b part limit s slot lent) (sym (e ∙ takes-meets slot lent part limit s))
+
+  -- one that its part does not have
+  pub take-beyond : length (marksOf part (lent .marks)) ≡ numbersOf part → numbersOf part ≤ s .number → takeInto part limit s slot lent ≡ unchanged Conflict slot lent
+  take-beyond m h =
+      by-mark 0 (List·getD-eq-default (marksOf part (lent .marks)) 0 (omega arith))
+      ∙ ap (λ (b : Bool). ifNew b part limit s slot lent) (takes-beyond part limit s (partsOf slot lent) h)
+
+-- what storing leaves is what is taken
+pub taken-as : (number : ℕ) (ps : Parts) (left : Left) (outcome : Outcome) → left ≡ leftOf number ps → outcome ≡ outcomeBy (left .slot .stage) → record { outcome = outcome; slot = left .slot; lent = left .lent } ≡ storedAs number ps
+unfolding slotWith
+taken-as number ps left outcome e f =
+    rw (f ∙ ap (λ (l : Left). outcomeBy (l .slot .stage)) e) (ap (λ (l : Left). record { outcome = outcomeBy (stageOf ps); slot = l .slot; lent = l .lent }) e)
+
+-- ---- what a slot that is offered a segment has
+
+module _ (limit : ℕ) (slot : Slot) (lent : Lent) (offered : Offered limit slot lent) where
+  pub offered-shaped : Shaped limit (partsOf slot lent)
+  offered-shaped = lent-shaped limit slot lent (offered .header) (offered .body) (offered .marks)
+
+  pub marks-long : (part : Part) → length (marksOf part (lent .marks)) ≡ numbersOf part
+  marks-long Header = ap length (marks-meets slot lent Header) ∙ offered-shaped .headerMarks
+  marks-long Body = ap length (marks-meets slot lent Body) ∙ offered-shaped .bodyMarks
+
+  -- a marked segment can be compared
+  pub held-inside : (part : Part) (n : ℕ) → 0 < getD (marksOf part (lent .marks)) n 0
+      → CanPut (eqb (suc n) (keptOf part slot .end)) (keptOf part slot .size) n (lengthOf (eqb (suc n) (keptOf part slot .end)) (keptOf part slot)) (shareOf part lent)
+  held-inside part n h =
+      let m = marked-inside part limit (slot .stage) (partsOf slot lent) offered-shaped (lent-bits slot lent (offered .bits)) (offered .sound) n (rw (marks-meets slot lent part) at h) in
+      rw (kept-meets slot lent part, share-meets slot lent part) (record { placed = m .place; product = omega (arith, m .product) })
+
+  -- one that fits can be stored
+  pub fits-ready : (part : Part) (s : Segment) → true ≡ takesAs part limit (coreWith part s (coreIn (partsOf slot lent .header))) slot (lent .marks) (s .last) (s .number) (length (s .bytes))
+      → Ready part limit (coreWith part s (coreIn (partsOf slot lent .header))) slot lent (s .last) (s .number) (length (s .bytes))
+  fits-ready part s e =
+      let taken : takesIn part limit s (partsOf slot lent) ≡ true = sym (e ∙ takes-meets slot lent part limit s) in
+      let placed = takes-inside part limit s (partsOf slot lent) offered-shaped taken in
+      record {
+        marks = offered .marks;
+        number = placed .number;
+        move = rw (record-meets slot lent part limit s, kept-meets slot lent part, share-meets slot lent part)
+            (record { inside = λ unknown known later. settled-inside part limit s (partsOf slot lent) offered-shaped taken later .place });
+        put = rw (record-meets slot lent part limit s, share-meets slot lent part) (record { placed = placed .place; product = omega (arith, placed .product) });
+      }
+
+  pub still-ready : (s : Segment) → true ≡ takesAs Header limit (coreAfter s (coreIn (partsOf slot lent .header))) slot (lent .marks) (s .last) (s .number) (length (s .bytes))
+      → CanMove (slot .body) (recordStill Body limit (coreAfter s (coreIn (partsOf slot lent .header))) slot (lent .marks) .size) (lent .body)
+  unfolding partsOf
+  still-ready s e =
+      let taken : takesIn Header limit s (partsOf slot lent) ≡ true = sym (e ∙ takes-meets slot lent Header limit s) in
+      rw (still-meets slot lent limit (coreAfter s (coreIn (partsOf slot lent .header))))
+      (record { inside = λ unknown known later. body-inside limit s (partsOf slot lent) offered-shaped taken unknown known later .place })

@@ -12,10 +12,11 @@ ghost use lib.ListN.{length, drop};
 ghost use Rattle.octets.specs.Octets.{sumOf};
 ghost use Rattle.cut.specs.Requirement.{bodySize, headerSize};
 ghost use Rattle.cut.specs.declared.Core.the-variants.{Seen};
+ghost use Rattle.cut.specs.Decision.{pick};
 ghost use Rattle.cut.specs.Sums.{ended, possibleIn, acceptsIn, fullIn};
 ghost use Rattle.slot.specs.Memory.{placeOf, lengthOf, movedAs};
-ghost use Rattle.slot.specs.Take.{stageBy, sameFlag};
-ghost use Rattle.slot.specs.Inner.{otherPart, marksOf, keptOf, coreFrom, takesAs, recordAs, recordStill, putIn, slotFrom, sameAs, CanMove, CanPut, headerStored, bodyStored, Ready};
+ghost use Rattle.slot.specs.Take.{stageBy, sameFlag, outcomeBy, takeInto};
+ghost use Rattle.slot.specs.Inner.{otherPart, marksOf, keptOf, coreFrom, takesAs, recordAs, recordStill, putIn, slotFrom, sameAs, CanMove, CanPut, headerStored, bodyStored, Ready, Offered};
 
 // Free comes first: a free slot is what an unused one is made of.
 pub enum Stage {
@@ -373,4 +374,167 @@ fn store_body(
     put_in(old, kept, last, number, bytes, body);
     marks[64 + number] = 1;
     slot_from(slot.number, kept_header, kept, header, marks)
+}
+
+// What comes of a segment, and the slot afterwards.
+pub struct Took {
+    pub outcome: Outcome,
+    pub slot: Slot,
+}
+
+fn outcome_by(stage: Stage) -> Outcome
+    ensures { λ r. ⌜ r ≡ outcomeBy stage ⌝ }
+{
+    match stage {
+        Stage::Free => Outcome::Stored,
+        Stage::Gathering => Outcome::Stored,
+        Stage::Finished(_, _) => Outcome::Complete,
+    }
+}
+
+// What header segment 0 says, with a header segment of this number in.
+fn core_with(number: usize, bytes: &[u8], core: Core) -> Core
+    ensures { λ r. ⌜ r ≡ pick (eqb number 0) (Seen (bodySize (now (bytes .entry))) (headerSize (now (bytes .entry)))) core ⌝ }
+{
+    if number == 0 {
+        return core_of(bytes);
+    }
+    core
+}
+
+fn take_header(
+    slot: Slot,
+    limit: usize,
+    last: bool,
+    number: usize,
+    bytes: &[u8],
+    header: &mut [u8],
+    body: &mut [u8],
+    marks: &mut [u8],
+) -> Took
+    requires { ⌜ Offered limit slot (record { header = now header; body = now body; marks = now marks }) ⌝ }
+    ensures { λ r. ⌜ record { outcome = r .outcome; slot = r .slot; lent = record { header = now (header .exit); body = now (body .exit); marks = now (marks .exit) } } ≡ takeInto Part.Header limit (record { number = number; last = last; bytes = now (bytes .entry) }) slot (record { header = now (header .entry); body = now (body .entry); marks = now (marks .entry) }) ⌝ }
+{
+    if 64 <= number {
+        return Took {
+            outcome: Outcome::Conflict,
+            slot,
+        };
+    }
+    if marks[number] != 0 {
+        let kept = slot.header;
+        if same_in(kept, last, number, bytes, header) {
+            return Took {
+                outcome: Outcome::Repeat,
+                slot,
+            };
+        }
+        return Took {
+            outcome: Outcome::Conflict,
+            slot,
+        };
+    }
+    let core = core_with(
+        number,
+        bytes,
+        core_from(marks_of(Part::Header, marks), header),
+    );
+    if !takes(
+        Part::Header,
+        limit,
+        core,
+        slot,
+        marks,
+        last,
+        number,
+        bytes.len(),
+    ) {
+        return Took {
+            outcome: Outcome::Conflict,
+            slot,
+        };
+    }
+    let stored = store_header(slot, limit, core, last, number, bytes, header, body, marks);
+    let stage = stored.stage;
+    Took {
+        outcome: outcome_by(stage),
+        slot: stored,
+    }
+}
+
+fn take_body(
+    slot: Slot,
+    limit: usize,
+    last: bool,
+    number: usize,
+    bytes: &[u8],
+    header: &[u8],
+    body: &mut [u8],
+    marks: &mut [u8],
+) -> Took
+    requires { ⌜ Offered limit slot (record { header = now header; body = now body; marks = now marks }) ⌝ }
+    ensures { λ r. ⌜ record { outcome = r .outcome; slot = r .slot; lent = record { header = now (header .entry); body = now (body .exit); marks = now (marks .exit) } } ≡ takeInto Part.Body limit (record { number = number; last = last; bytes = now (bytes .entry) }) slot (record { header = now (header .entry); body = now (body .entry); marks = now (marks .entry) }) ⌝ }
+{
+    if 1024 <= number {
+        return Took {
+            outcome: Outcome::Conflict,
+            slot,
+        };
+    }
+    if marks[64 + number] != 0 {
+        let kept = slot.body;
+        if same_in(kept, last, number, bytes, body) {
+            return Took {
+                outcome: Outcome::Repeat,
+                slot,
+            };
+        }
+        return Took {
+            outcome: Outcome::Conflict,
+            slot,
+        };
+    }
+    let core = core_from(marks_of(Part::Header, marks), header);
+    if !takes(
+        Part::Body,
+        limit,
+        core,
+        slot,
+        marks,
+        last,
+        number,
+        bytes.len(),
+    ) {
+        return Took {
+            outcome: Outcome::Conflict,
+            slot,
+        };
+    }
+    let stored = store_body(slot, limit, core, last, number, bytes, header, body, marks);
+    let stage = stored.stage;
+    Took {
+        outcome: outcome_by(stage),
+        slot: stored,
+    }
+}
+
+// A segment is offered to a slot.
+pub fn take(
+    slot: Slot,
+    limit: usize,
+    part: Part,
+    last: bool,
+    number: usize,
+    bytes: &[u8],
+    header: &mut [u8],
+    body: &mut [u8],
+    marks: &mut [u8],
+) -> Took
+    requires { ⌜ Offered limit slot (record { header = now header; body = now body; marks = now marks }) ⌝ }
+    ensures { λ r. ⌜ record { outcome = r .outcome; slot = r .slot; lent = record { header = now (header .exit); body = now (body .exit); marks = now (marks .exit) } } ≡ takeInto part limit (record { number = number; last = last; bytes = now (bytes .entry) }) slot (record { header = now (header .entry); body = now (body .entry); marks = now (marks .entry) }) ⌝ }
+{
+    match part {
+        Part::Header => take_header(slot, limit, last, number, bytes, header, body, marks),
+        Part::Body => take_body(slot, limit, last, number, bytes, header, body, marks),
+    }
 }
