@@ -6,19 +6,21 @@ use mathlib.Core.Bool.{Bool, true, false}
 use mathlib.Core.List.{List}
 use Prim.Native.Nat.{ℕ, zero, suc, _+_, _-_, _*_, _/_, _≤_, _<_, min}
 use native.Mathlib.Omega.{arith}
-use lib.ListN.{length, take, drop, getD, length-take, length-drop}
+use lib.ListN.{length, take, drop, getD, length-take, length-drop, List·getD-eq-default}
 use lib.Seq.{getD-take, getD-drop}
-use borrow.Author.Tests.{leb-true}
-use Rattle.octets.specs.Octets.{over}
+use lib.Dec.{leb, ltb}
+use borrow.Author.Tests.{leb-true, le-leb}
+use Rattle.octets.specs.Octets.{over, sumOf}
 use Rattle.answer.specs.declared.Part.{Part}
 use Rattle.answer.specs.declared.Part.the-variants.{Header, Body}
 use Rattle.cut.specs.declared.Core.{Core}
 use Rattle.cut.specs.declared.Core.the-variants.{Unseen, Seen}
 use Rattle.cut.specs.declared.Bounds.{Bounds}
 use Rattle.cut.specs.declared.Record.{Record}
-use Rattle.cut.specs.Decision.{pick, all, boundsOf, room, roomAs, openTests, endedTests}
+use Rattle.cut.specs.Decision.{pick, both, all, boundsOf, room, roomAs, openTests, endedTests}
 use Rattle.cut.specs.Sums.{acceptsIn}
 use Rattle.slot.specs.Memory.{placeOf, movedAs}
+use Rattle.slot.specs.Sound.{endRight}
 use Rattle.slot.specs.Inner.{marksOf}
 use Rattle.cut.specs.LawsDecision.{all-true}
 
@@ -116,3 +118,23 @@ header-mark marks n h = getD-take 64 marks n 0 h
 pub body-mark : (marks : List ℕ) (n : ℕ) → getD (marksOf Body marks) n 0 ≡ getD marks (64 + n) 0
 unfolding marksOf
 body-mark marks n = getD-drop 64 marks n 0
+
+-- ---- the last one that a record tells of
+
+beyond : (marks : List ℕ) (n : ℕ) → length marks ≤ n → getD marks n 0 ≡ 0
+beyond marks n h = List·getD-eq-default marks 0 h
+
+pub end-beyond : (end tail : ℕ) (marks : List ℕ) → length marks < end → false ≡ endRight end tail marks
+end-beyond zero tail marks h = absurd (omega arith)
+end-beyond (suc n) tail marks h = rw (beyond marks n (omega arith)) refl
+
+pub end-marked : (end tail : ℕ) (marks : List ℕ) → end ≢ 0 → ltb 0 (getD marks (end - 1) 0) ≡ endRight end tail marks
+end-marked zero tail marks h = absurd (h refl)
+end-marked (suc n) tail marks h = let e : suc n - 1 ≡ n = omega arith in rw e refl
+
+pub both-only : (a : Bool) → both a true ≡ a
+both-only true = refl
+both-only false = refl
+
+pub some-sum : (marks : List ℕ) → sumOf marks ≢ 0 → leb 1 (sumOf marks) ≡ true
+some-sum marks h = le-leb 1 (sumOf marks) (omega arith)

@@ -1,9 +1,9 @@
 -- What the inner functions of a slot give, on plain slices and numbers; each is a piece of the definitions in Take.antt.
 use mathlib.Core.Path.{_≡_}
 use mathlib.Core.Bool.{Bool, true}
-use mathlib.Core.List.{List}
+use mathlib.Core.List.{List, []}
 use Prim.Native.Nat.{ℕ, _+_, _-_, _*_, _≤_, _<_}
-use lib.Dec.{leb}
+use lib.Dec.{eqb, leb}
 use lib.ListN.{length, take, drop, getD, set}
 use Rattle.octets.specs.Octets.{over, equal, sumOf, largestOf}
 use Rattle.answer.specs.declared.Part.{Part}
@@ -12,12 +12,12 @@ use Rattle.cut.specs.Requirement.{headerMost, headerNumbers, bodySize, headerSi
 use Rattle.cut.specs.declared.Record.{Record}
 use Rattle.cut.specs.declared.Core.{Core}
 use Rattle.cut.specs.declared.Core.the-variants.{Unseen, Seen}
-use Rattle.cut.specs.Decision.{pick, both, boundsOf, coreFits, joins, addPart, settle, finished}
+use Rattle.cut.specs.Decision.{pick, both, boundsOf, coreFits, joins, addPart, settle, finished, derived}
 use Rattle.cut.specs.Sums.{fullIn, acceptsIn, possibleIn}
 use Rattle.slot.specs.declared.Slot.{Slot}
 use Rattle.slot.specs.Memory.{placeOf, lengthOf, movedAs}
 use Rattle.slot.specs.Take.{Lent, Parts, partsOf, lentOf, slotWith, stageBy, sameFlag}
-use Rattle.slot.specs.Sound.{soundParts}
+use Rattle.slot.specs.Sound.{endRight, soundParts, soundSlot}
 use Rattle.slot.specs.Shape.{numbersOf}
 
 abbrev pub otherPart : Part → Part
@@ -139,3 +139,15 @@ pub record Offered (limit : ℕ) (slot : Slot) (lent : Lent) : Type 0 where
   pub marks : length (lent .marks) ≡ 1088
   pub bits : largestOf (lent .marks) ≤ 1
   pub sound : soundParts limit (slot .stage) (partsOf slot lent) ≡ true
+
+-- ---- whether a slot is sound
+
+-- of a part: the record is the one that its marks give
+unfoldable pub rightAs : Part → ℕ → Core → Slot → List ℕ → Bool
+rightAs part limit core slot marks =
+    both (endRight (keptOf part slot .end) (keptOf part slot .tail) (marksOf part marks))
+    (pick (fullIn (keptOf part slot) (marksOf part marks)) true (eqb (keptOf part slot .size) (derived (boundsOf part limit core) (keptOf part slot .end) (keptOf part slot .tail))))
+
+-- the body's bytes play no part in it
+unfoldable pub soundBy : ℕ → Slot → List ℕ → List ℕ → Bool
+soundBy limit slot header marks = soundSlot limit slot (record { header = header; body = []; marks = marks })

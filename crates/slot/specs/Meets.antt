@@ -1,10 +1,10 @@
 -- The inner functions give what the definitions in Take.antt say.
 use mathlib.Core.Path.{_≡_, refl, sym, ap, _∙_}
 use mathlib.Core.Bool.{Bool, true, false}
-use mathlib.Core.List.{List, _++_}
+use mathlib.Core.List.{List, [], _∷_, _++_}
 use Prim.Native.Nat.{ℕ, zero, suc, _+_, _-_, _*_, _≤_, _<_}
 use native.Mathlib.Omega.{arith}
-use lib.Dec.{eqb}
+use lib.Dec.{eqb, leb}
 use lib.ListN.{length, take, drop, set, length-take, length-drop}
 use lib.ListN.{getD, take-append-drop, List·getD-eq-default}
 use lib.Seq.{take-set-lt, take-set-le, drop-set-lt, drop-set-add}
@@ -13,15 +13,18 @@ use Rattle.answer.specs.declared.Part.{Part}
 use Rattle.answer.specs.declared.Part.the-variants.{Header, Body}
 use Rattle.cut.specs.Requirement.{headerNumbers, Segment}
 use Rattle.cut.specs.declared.Core.{Core}
-use Rattle.cut.specs.Decision.{both, boundsOf, coreAfter}
+use Rattle.cut.specs.Decision.{both, boundsOf, coreAfter, all}
+use Rattle.cut.specs.Sums.{suitsIn}
+use Rattle.octets.specs.Octets.{sumOf, largestOf}
 use Rattle.slot.specs.declared.Slot.{Slot}
 use Rattle.slot.specs.Memory.{lengthOf, movedAs, settled, put, segmentAt}
 use Rattle.slot.specs.declared.Outcome.{Outcome}
 use Rattle.slot.specs.declared.Outcome.the-variants.{Conflict}
 use Rattle.slot.specs.Take.{Lent, Parts, partsOf, memoryOf, coreIn, takesIn, recordWith, recordWithin, partsWith, lentOf, slotWith, stageOf, sameSegment, unchanged, outcomeBy, storedAs, ifNew, ifHeld, byMark, takeInto}
+use Rattle.slot.specs.Sound.{recordRight, sameStage, soundParts, soundSlot}
 use Rattle.slot.specs.Shape.{numbersOf, Shaped, coreWith, recordAfter}
 use Rattle.slot.specs.Inside.{takes-beyond, takes-inside, settled-inside, body-inside, marked-inside, lent-shaped, lent-bits}
-use Rattle.slot.specs.Inner.{marksOf, keptOf, coreFrom, takesAs, recordAs, recordStill, sameAs, shareOf, CanMove, CanPut, putIn, slotFrom, Left, headerStored, bodyStored, leftOf, Ready, Offered}
+use Rattle.slot.specs.Inner.{marksOf, keptOf, coreFrom, takesAs, recordAs, recordStill, sameAs, shareOf, CanMove, CanPut, putIn, slotFrom, Left, headerStored, bodyStored, leftOf, Ready, Offered, rightAs, soundBy}
 
 -- a last test, and two tests the other way round
 both-only : (a : Bool) → both a true ≡ a
@@ -193,3 +196,32 @@ module _ (limit : ℕ) (slot : Slot) (lent : Lent) (offered : Offered limit slot
       let taken : takesIn Header limit s (partsOf slot lent) ≡ true = sym (e ∙ takes-meets slot lent Header limit s) in
       rw (still-meets slot lent limit (coreAfter s (coreIn (partsOf slot lent .header))))
       (record { inside = λ unknown known later. body-inside limit s (partsOf slot lent) offered-shaped taken unknown known later .place })
+
+-- ---- a sound slot
+
+pub right-meets : (slot : Slot) (lent : Lent) (part : Part) (limit : ℕ) (core : Core) → rightAs part limit core slot (lent .marks) ≡ recordRight (boundsOf part limit core) (memoryOf part (partsOf slot lent))
+unfolding rightAs recordRight partsOf marksOf
+right-meets slot lent Header limit core = refl
+right-meets slot lent Body limit core = refl
+
+pub sound-meets : (limit : ℕ) (slot : Slot) (lent : Lent) → soundSlot limit slot lent ≡ soundBy limit slot (lent .header) (lent .marks)
+unfolding soundBy soundSlot soundParts recordRight partsOf coreIn stageOf
+sound-meets limit slot lent = refl
+
+within-all : (a b c : Bool) → both a (both b (both c true)) ≡ both a (both b c)
+within-all a b c = ap (λ (x : Bool). both a (both b x)) (both-only c)
+
+-- the tests one after the other, as they are asked
+abbrev pub soundTests : ℕ → Slot → List ℕ → List ℕ → Core → List Bool
+soundTests limit slot header marks core =
+    leb (largestOf marks) 1
+    ∷ leb 1 (sumOf marks)
+    ∷ rightAs Header limit core slot marks
+    ∷ rightAs Body limit core slot marks
+    ∷ suitsIn limit core (slot .header) (marksOf Header marks) (slot .body) (marksOf Body marks)
+    ∷ sameStage (slot .stage) (slotFrom (slot .number) (slot .header) (slot .body) header marks .stage)
+    ∷ []
+
+pub sound-tests : (limit : ℕ) (slot : Slot) (header marks : List ℕ) → soundBy limit slot header marks ≡ all (soundTests limit slot header marks (coreFrom (marksOf Header marks) header))
+unfolding soundBy soundSlot soundParts rightAs recordRight slotFrom partsOf marksOf coreFrom coreIn stageOf
+sound-tests limit slot header marks = within-all (leb (largestOf marks) 1) (leb 1 (sumOf marks)) (soundParts limit (slot .stage) (partsOf slot (record { header = header; body = []; marks = marks })))

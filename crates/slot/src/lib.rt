@@ -13,10 +13,11 @@ ghost use Rattle.octets.specs.Octets.{sumOf};
 ghost use Rattle.cut.specs.Requirement.{bodySize, headerSize};
 ghost use Rattle.cut.specs.declared.Core.the-variants.{Seen};
 ghost use Rattle.cut.specs.Decision.{pick};
-ghost use Rattle.cut.specs.Sums.{ended, possibleIn, acceptsIn, fullIn};
+ghost use Rattle.cut.specs.Sums.{ended, possibleIn, acceptsIn, fullIn, suitsIn};
 ghost use Rattle.slot.specs.Memory.{placeOf, lengthOf, movedAs};
 ghost use Rattle.slot.specs.Take.{stageBy, sameFlag, outcomeBy, takeInto};
-ghost use Rattle.slot.specs.Inner.{otherPart, marksOf, keptOf, coreFrom, takesAs, recordAs, recordStill, putIn, slotFrom, sameAs, CanMove, CanPut, headerStored, bodyStored, Ready, Offered};
+ghost use Rattle.slot.specs.Sound.{endRight, sameStage};
+ghost use Rattle.slot.specs.Inner.{otherPart, marksOf, keptOf, coreFrom, takesAs, recordAs, recordStill, putIn, slotFrom, sameAs, CanMove, CanPut, headerStored, bodyStored, Ready, Offered, rightAs, soundBy};
 
 // Free comes first: a free slot is what an unused one is made of.
 pub enum Stage {
@@ -537,4 +538,113 @@ pub fn take(
         Part::Header => take_header(slot, limit, last, number, bytes, header, body, marks),
         Part::Body => take_body(slot, limit, last, number, bytes, header, body, marks),
     }
+}
+
+// Whether the last segment that a record tells of is marked.
+fn end_right(end: usize, tail: usize, marks: &[u8]) -> bool
+    ensures { λ r. ⌜ r ≡ endRight end tail (now (marks .entry)) ⌝ }
+{
+    if end == 0 {
+        return tail == 0;
+    }
+    if marks.len() < end {
+        return false;
+    }
+    0 < marks[end - 1]
+}
+
+fn record_right(part: Part, limit: usize, core: Core, slot: Slot, marks: &[u8]) -> bool
+    requires { ⌜ length (now marks) ≡ 1088 ⌝ }
+    ensures { λ r. ⌜ r ≡ rightAs part limit core slot (now (marks .entry)) ⌝ }
+{
+    let kept = kept_of(part, slot);
+    let mine = marks_of(part, marks);
+    if !end_right(kept.end, kept.tail, mine) {
+        return false;
+    }
+    if full_in(kept, mine) {
+        return true;
+    }
+    let settled = cut::settle(cut::bounds_of(part, limit, core), false, kept);
+    kept.size == settled.size
+}
+
+fn same_stage(a: Stage, b: Stage) -> bool
+    ensures { λ r. ⌜ r ≡ sameStage a b ⌝ }
+{
+    match a {
+        Stage::Free => match b {
+            Stage::Free => true,
+            Stage::Gathering => false,
+            Stage::Finished(_, _) => false,
+        },
+        Stage::Gathering => match b {
+            Stage::Free => false,
+            Stage::Gathering => true,
+            Stage::Finished(_, _) => false,
+        },
+        Stage::Finished(header, body) => match b {
+            Stage::Free => false,
+            Stage::Gathering => false,
+            Stage::Finished(other_header, other_body) => {
+                if header == other_header {
+                    return body == other_body;
+                }
+                false
+            }
+        },
+    }
+}
+
+fn suits_in(limit: usize, core: Core, slot: Slot, marks: &[u8]) -> bool
+    requires { ⌜ length (now marks) ≡ 1088 ⌝ }
+    ensures { λ r. ⌜ r ≡ suitsIn limit core (slot .header) (marksOf Part.Header (now (marks .entry))) (slot .body) (marksOf Part.Body (now (marks .entry))) ⌝ }
+{
+    let header = slot.header;
+    let body = slot.body;
+    if !cut::core_fits(limit, core) {
+        return false;
+    }
+    if !possible_in(
+        cut::bounds_of(Part::Header, limit, core),
+        header,
+        marks_of(Part::Header, marks),
+    ) {
+        return false;
+    }
+    possible_in(
+        cut::bounds_of(Part::Body, limit, core),
+        body,
+        marks_of(Part::Body, marks),
+    )
+}
+
+// Whether a held slot is sound: its marks are 0 or 1 and some are set, and its record and its stage are those that the
+// marked segments give, which fit some object and cut.
+pub fn is_sound(slot: Slot, limit: usize, header: &[u8], marks: &[u8]) -> bool
+    requires { ⌜ length (now marks) ≡ 1088 ⌝ }
+    ensures { λ r. ⌜ r ≡ soundBy limit slot (now (header .entry)) (now (marks .entry)) ⌝ }
+{
+    if 1 < octets::largest(marks) {
+        return false;
+    }
+    if octets::sum(marks) == 0 {
+        return false;
+    }
+    let core = core_from(marks_of(Part::Header, marks), header);
+    if !record_right(Part::Header, limit, core, slot, marks) {
+        return false;
+    }
+    if !record_right(Part::Body, limit, core, slot, marks) {
+        return false;
+    }
+    if !suits_in(limit, core, slot, marks) {
+        return false;
+    }
+    let kept = slot.header;
+    let other = slot.body;
+    let given = slot_from(slot.number, kept, other, header, marks);
+    let stage = given.stage;
+    let claimed = slot.stage;
+    same_stage(claimed, stage)
 }
