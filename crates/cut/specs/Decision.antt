@@ -140,6 +140,18 @@ settle b full p = record { size = pick full (p .size) (derived b (p .end) (p .ta
 abbrev pub recordOf : Bounds → Summary → Part
 recordOf b σ = settle b (someFull σ) (σ .part)
 
+-- a record is one that segments give: no last one, no tail; no full one, the size that the part's length gives
+abbrev pub tailFollows : ℕ → ℕ → Bool
+tailFollows zero tail = eqb tail 0
+tailFollows (suc n) tail = true
+
+abbrev pub sizeFollows : Bool → ℕ → ℕ → Bool
+sizeFollows true size given = true
+sizeFollows false size given = eqb size given
+
+unfoldable pub follows : Bounds → Bool → Part → Bool
+follows b full p = both (sizeFollows full (p .size) (derived b (p .end) (p .tail))) (tailFollows (p .end) (p .tail))
+
 -- so many numbers are in: every one of them, up to the last
 abbrev pub whole : ℕ → Part → Bool
 whole count p = both (leb 1 (p .end)) (eqb count (p .end))

@@ -127,6 +127,7 @@ module _ (xs : List ℕ) (S : ℕ) (ss : List Segment) (t : Each (Sends xs S) ss
       go (no h) = bytes-out n ss (λ i. h (numbered-starts n ss xs S t i)) ∙ sym (ap (take S) (drop-of-length-le xs {i = n * S} (omega arith)) ∙ take-nil S)
 
   joined-front : (n : ℕ) → joined n ss ≡ take (n * S) xs
+  unfolding joined
   joined-front zero = let z : 0 * S ≡ 0 = zero-mul S in rw z refl
   joined-front (suc n) =
       let e : n * S + S ≡ suc n * S = omega arith in

@@ -120,6 +120,6 @@ bytesOf n [] = []
 bytesOf n (s ∷ segments) = bytesIf (eqb (s .number) n) (s .bytes) (bytesOf n segments)
 
 -- the bytes of all segments of a number below n, joined by number
-abbrev pub joined : ℕ → List Segment → List ℕ
+unfoldable pub joined : ℕ → List Segment → List ℕ
 joined zero segments = []
 joined (suc n) segments = joined n segments ++ bytesOf n segments

@@ -6,7 +6,7 @@ ghost use mathlib.Core.Path.{_≡_};
 ghost use Prim.Native.Nat.{_<_, _≤_, _-_, _*_, min};
 ghost use lib.Dec.{leb};
 ghost use Rattle.cut.specs.Requirement.{sizeLeast, sizeMost};
-ghost use Rattle.cut.specs.Decision.{boundsOf, coreFits, largest, room, roomOpen, roomEnded, all, nothingTests, firstTests, laterTests, alone, possible, addPart, joins, derived, settle, whole, finished};
+ghost use Rattle.cut.specs.Decision.{boundsOf, coreFits, largest, room, roomOpen, roomEnded, all, nothingTests, firstTests, laterTests, alone, possible, addPart, joins, derived, settle, tailFollows, follows, whole, finished};
 
 pub const HEADER_LEAST: usize = 7;
 
@@ -326,6 +326,28 @@ pub fn settle(b: Bounds, full: bool, p: Part) -> Part
         end: p.end,
         tail: p.tail,
     }
+}
+
+fn tail_follows(end: usize, tail: usize) -> bool
+    ensures { λ r. ⌜ r ≡ tailFollows end tail ⌝ }
+{
+    if end == 0 {
+        return tail == 0;
+    }
+    true
+}
+
+// Whether a record is one that segments give: no tail without a last one, and without a full one the size that settle gives.
+pub fn follows(b: Bounds, full: bool, p: Part) -> bool
+    ensures { λ r. ⌜ r ≡ follows b full p ⌝ }
+{
+    if full {
+        return tail_follows(p.end, p.tail);
+    }
+    if p.size == derived(b, p.end, p.tail) {
+        return tail_follows(p.end, p.tail);
+    }
+    false
 }
 
 // Whether a part is whole, with so many of its numbers in.
