@@ -2,10 +2,8 @@
 // the decision of crate `cut`, and its verdict is written. What must be written was found by a search over every length and
 // every size.
 use cut::Core;
-use cut::Kind;
 use cut::Part;
 ghost use mathlib.Core.Path.{_≡_};
-ghost use Rattle.cases.specs.Held.{heldFits};
 
 const LIMIT: usize = 12288;
 
@@ -17,22 +15,6 @@ fn nothing() -> Part
         end: 0,
         tail: 0,
     }
-}
-
-// h and b are 1 + the highest number of a full segment of the header and of the body, or 0.
-fn fits(limit: usize, core: Core, h: usize, p: Part, b: usize, q: Part) -> bool
-    ensures { λ r. ⌜ r ≡ heldFits limit core h p b q ⌝ }
-{
-    if !cut::core_fits(limit, core) {
-        return false;
-    }
-    if !cut::possible(cut::bounds_of(Kind::Header, limit, core), h, p) {
-        return false;
-    }
-    if !cut::possible(cut::bounds_of(Kind::Body, limit, core), b, q) {
-        return false;
-    }
-    true
 }
 
 fn say(name: &[u8], verdict: bool) {
@@ -50,7 +32,7 @@ fn header_alone(name: &[u8], last: bool, number: usize, length: usize) {
     if number < 32768 {
         let q = cut::add(last, number, length, p);
         let top = if last { 0 } else { number + 1 };
-        say(name, fits(LIMIT, Core::Unseen, top, q, 0, p));
+        say(name, cut::suits(LIMIT, Core::Unseen, top, q, 0, p));
     }
 }
 
@@ -60,7 +42,7 @@ fn body_alone(name: &[u8], limit: usize, last: bool, number: usize, length: usiz
     if number < 32768 {
         let q = cut::add(last, number, length, p);
         let top = if last { 0 } else { number + 1 };
-        say(name, fits(limit, Core::Unseen, 0, p, top, q));
+        say(name, cut::suits(limit, Core::Unseen, 0, p, top, q));
     }
 }
 
@@ -71,9 +53,9 @@ fn sized(name: &[u8], limit: usize, body: usize, length: usize) {
     let h = cut::add(true, 0, 7, p);
     let q = cut::add(false, 0, length, p);
     if length == 0 {
-        say(name, fits(limit, core, 0, h, 0, p));
+        say(name, cut::suits(limit, core, 0, h, 0, p));
     } else {
-        say(name, fits(limit, core, 0, h, 1, q));
+        say(name, cut::suits(limit, core, 0, h, 1, q));
     }
 }
 

@@ -9,13 +9,13 @@ use native.Mathlib.Decide.{decLe}
 use native.Mathlib.Omega.{arith}
 use lib.Dec.{leb, ltb, eqb}
 use borrow.Author.Tests.{leb-true, le-leb, lt-leb, lt-ltb, le-ltb, ne-eqb, eq-eqb}
-use Rattle.cut.specs.Lists.{Each}
+use Rattle.cut.specs.Lists.{pick, Each}
 use Rattle.cut.specs.Requirement.{sizeLeast, sizeMost}
 use Rattle.cut.specs.declared.Core.{Core}
 use Rattle.cut.specs.declared.Core.the-variants.{Seen}
 use Rattle.cut.specs.declared.Bounds.{Bounds}
 use Rattle.cut.specs.declared.Part.{Part}
-use Rattle.cut.specs.Decision.{pick, both, all, whole, finished, openTests, endedTests, roomOpen, roomEnded, roomAs, room, laterTests, aloneTests, possible, divided, derived, tailFollows, follows}
+use Rattle.cut.specs.Decision.{both, all, whole, finished, openTests, endedTests, roomOpen, roomEnded, roomAs, room, laterTests, aloneTests, possible, divided, derived, tailFollows, follows}
 use Rattle.cut.specs.LawsDecision.{some-fails, true-all, pick-fails}
 
 pub refused : (bs : List Bool) → ¬ (Each (λ b. b ≡ true) bs) → false ≡ all bs

@@ -10,14 +10,14 @@ use native.Mathlib.Omega.{arith}
 use lib.ListN.{length, replicate}
 use lib.Dec.{leb}
 use borrow.Author.Tests.{leb-true, le-leb, eq-eqb, ne-eqb}
-use Rattle.cut.specs.Lists.{Each, bytes-zeros}
+use Rattle.cut.specs.Lists.{pick, Each, bytes-zeros}
 use Rattle.cut.specs.Requirement.{limitLeast, limitMost, sizeLeast, sizeMost, Segment, Fits}
 use Rattle.cut.specs.declared.Kind.{Kind}
 use Rattle.cut.specs.declared.Kind.the-variants.{Header, Body}
 use Rattle.cut.specs.declared.Core.{Core}
 use Rattle.cut.specs.declared.Core.the-variants.{Unseen, Seen}
 use Rattle.cut.specs.declared.Bounds.{Bounds}
-use Rattle.cut.specs.Decision.{pick, boundsOf, derived, settle, summary, recordOf, coreOf, coreTests, coreFits, alone, largest, suits}
+use Rattle.cut.specs.Decision.{boundsOf, derived, settle, summary, recordOf, coreOf, coreTests, coreFits, alone, largest, suits}
 use Rattle.cut.specs.LawsSegment.{PartSits, Sits, sends-sits}
 use Rattle.cut.specs.LawsDecision.{all-true, TopSits, EndSits, SumSits, sits-sum, sum-sits}
 use Rattle.cut.specs.LawsObject.{those, partOf, cutOf, WithinOf, fits-within, fits-sits, fits-passes, fits-core, sits-object, header-bytes, body-bytes, passes-fits}

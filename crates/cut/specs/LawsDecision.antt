@@ -9,11 +9,11 @@ use native.Mathlib.Decide.{decLe}
 use native.Mathlib.Omega.{arith}
 use lib.ListN.{length}
 use borrow.Author.Tests.{leb-true, le-leb, eqb-true, eq-eqb}
-use Rattle.cut.specs.Lists.{Each}
+use Rattle.cut.specs.Lists.{pick, Each}
 use Rattle.cut.specs.Requirement.{sizeMost, Segment}
 use Rattle.cut.specs.declared.Bounds.{Bounds}
 use Rattle.cut.specs.declared.Part.{Part}
-use Rattle.cut.specs.Decision.{pick, both, all, openTests, endedTests, roomAs, room, largest, nothingTests, firstTests, laterTests, aloneTests, alone, possible, Summary, addPart, addTop, summary, derived, settle, tailFollows, sizeFollows, follows}
+use Rattle.cut.specs.Decision.{both, all, openTests, endedTests, roomAs, room, largest, nothingTests, firstTests, laterTests, aloneTests, alone, possible, Summary, addPart, addTop, summary, derived, settle, tailFollows, sizeFollows, follows}
 use Rattle.cut.specs.LawsSegment.{SitsAs, Sits, Within, PartSits}
 
 -- ---- tests

@@ -10,14 +10,14 @@ use native.Mathlib.Omega.{arith}
 use lib.ListN.{length, drop, getD}
 use lib.Dec.{eqb, leb}
 use borrow.Author.Tests.{eq-eqb, ne-eqb, le-leb, lt-leb, eqb-true}
-use Rattle.cut.specs.Lists.{Each, Bytes}
+use Rattle.cut.specs.Lists.{pick, Each, Bytes}
 use Rattle.cut.specs.Requirement.{limitMost, Segment, Fits}
 use Rattle.cut.specs.declared.Kind.{Kind}
 use Rattle.cut.specs.declared.Kind.the-variants.{Header, Body}
 use Rattle.cut.specs.declared.Core.{Core}
 use Rattle.cut.specs.declared.Bounds.{Bounds}
 use Rattle.cut.specs.declared.Part.{Part}
-use Rattle.cut.specs.Decision.{pick, both, all, boundsOf, coreFits, endedTests, room, alone, possible, addPart, addTop, summary, joins, someFull, settle, recordOf, coreAfter, coreOf, suits, accepts}
+use Rattle.cut.specs.Decision.{both, all, boundsOf, coreFits, endedTests, room, alone, possible, addPart, addTop, summary, joins, someFull, settle, recordOf, coreAfter, coreOf, suits, suitsBoth, accepts}
 use Rattle.cut.specs.LawsSegment.{Numbered, Agree}
 use Rattle.cut.specs.LawsDecision.{Clear}
 use Rattle.cut.specs.LawsObject.{headersWith, bodiesWith, those, Passes, fits-passes}
@@ -219,7 +219,7 @@ module _ (limit : ℕ) (hs bs : List Segment) (f : Fits limit hs bs) (headerMark
   pass : Passes limit hs bs
   pass = fits-passes limit hs bs f
 
-  pub suits-kept : (c : Core) → suitsIn limit c (recordOf (boundsOf Header limit (coreOf hs)) (summary hs)) headerMarks (recordOf (boundsOf Body limit (coreOf hs)) (summary bs)) bodyMarks ≡ suits limit c (summary hs) (summary bs)
+  pub suits-kept : (c : Core) → suitsIn limit c (recordOf (boundsOf Header limit (coreOf hs)) (summary hs)) headerMarks (recordOf (boundsOf Body limit (coreOf hs)) (summary bs)) bodyMarks ≡ suitsBoth limit c (summary hs) (summary bs)
   unfolding suitsIn suits
   suits-kept c = rw (possible-kept (boundsOf Header limit c) (boundsOf Header limit (coreOf hs)) headerMarks hs mh (pass .headerAgree) (pass .headerClear), possible-kept (boundsOf Body limit c) (boundsOf Body limit (coreOf hs)) bodyMarks bs mb (pass .bodyAgree) (pass .bodyClear)) refl
 

@@ -6,7 +6,7 @@ ghost use mathlib.Core.Path.{_≡_};
 ghost use Prim.Native.Nat.{_<_, _≤_, _-_, _*_, min};
 ghost use lib.Dec.{leb};
 ghost use Rattle.cut.specs.Requirement.{sizeLeast, sizeMost};
-ghost use Rattle.cut.specs.Decision.{boundsOf, coreFits, largest, room, roomOpen, roomEnded, all, nothingTests, firstTests, laterTests, alone, possible, addPart, joins, derived, settle, tailFollows, follows, whole, finished};
+ghost use Rattle.cut.specs.Decision.{boundsOf, coreFits, largest, room, roomOpen, roomEnded, all, nothingTests, firstTests, laterTests, alone, possible, suits, addPart, joins, derived, settle, tailFollows, follows, whole, finished};
 
 pub const HEADER_LEAST: usize = 7;
 
@@ -265,6 +265,22 @@ pub fn possible(b: Bounds, top: usize, p: Part) -> bool
         return alone(b, p);
     }
     top <= room(b, p)
+}
+
+// Whether what is kept of the header, its top h and its record p, and of the body, b and q, suits some object and cut.
+pub fn suits(limit: usize, core: Core, h: usize, p: Part, b: usize, q: Part) -> bool
+    ensures { λ r. ⌜ r ≡ suits limit core h p b q ⌝ }
+{
+    if !core_fits(limit, core) {
+        return false;
+    }
+    if !possible(bounds_of(Kind::Header, limit, core), h, p) {
+        return false;
+    }
+    if !possible(bounds_of(Kind::Body, limit, core), b, q) {
+        return false;
+    }
+    true
 }
 
 // Whether a segment of a new number goes with what is kept: there is one last segment, and full ones have one length.

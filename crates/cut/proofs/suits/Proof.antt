@@ -1,12 +1,12 @@
--- `cases::fits` meets its contract: each early return is a test that fails. Assumes nothing.
+-- `cut::suits` meets its contract: each early return is a test that fails. Assumes nothing.
 use mathlib.Core.Path.{_≡_, refl, sym, ap, _∙_}
 use mathlib.Core.Bool.{Bool, true, false, not}
 use borrow.Author.Needs.{needs}
 use borrow.Author.Tests.{not-true, not-false}
 use Rattle.cut.specs.declared.Bounds.{Bounds}
 use Rattle.cut.specs.Decision.{possible, suits}
-use Rattle.cases.proofs.fits.Statement.{statement}
-use Rattle.cases.proofs.fits.Tie as tie
+use Rattle.cut.proofs.suits.Statement.{statement}
+use Rattle.cut.proofs.suits.Tie as tie
 
 -- what a test gave, of what its callee ensures
 failed : {r x : Bool} → r ≡ x → not r ≡ true → x ≡ false
@@ -52,8 +52,8 @@ returns-4 c =
     let a = c .before .before .before .before .before .before .before .before .args in
     rw (passed (c .before .before .before .before .before .before .before .core-fits .ensures) (c .before .before .before .before .before .before .if1 .left), passed (c .before .before .before .before .possible .ensures ∙ ap (λ (b : Bounds). possible b (a .h) (a .p)) (c .before .before .before .before .before .bounds-of .ensures)) (c .before .before .before .if2 .left), passed (c .before .possible2 .ensures ∙ ap (λ (b : Bounds). possible b (a .b) (a .q)) (c .before .before .bounds-of2 .ensures)) (c .if3 .left)) refl
 
-pub fits-spec : {M : Type 1} → statement M
-fits-spec =
+pub suits-spec : {M : Type 1} → statement M
+suits-spec =
     tie.close
     (tie.spec
     core-fits-requires
