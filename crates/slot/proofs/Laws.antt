@@ -17,7 +17,8 @@ use Rattle.cut.specs.declared.Core.{Core}
 use Rattle.cut.specs.declared.Core.the-variants.{Unseen, Seen}
 use Rattle.cut.specs.declared.Bounds.{Bounds}
 use Rattle.cut.specs.declared.Record.{Record}
-use Rattle.cut.specs.Decision.{pick, both, all, boundsOf, room, roomAs, openTests, endedTests}
+use Rattle.cut.specs.Lists.{pick}
+use Rattle.cut.specs.Decision.{both, all, boundsOf, room, roomAs, openTests, endedTests}
 use Rattle.cut.specs.Sums.{acceptsIn}
 use Rattle.slot.specs.Memory.{placeOf, movedAs}
 use Rattle.slot.specs.Sound.{endRight}

@@ -12,7 +12,8 @@ use Rattle.cut.specs.Requirement.{headerMost, headerNumbers, bodySize, headerSi
 use Rattle.cut.specs.declared.Record.{Record}
 use Rattle.cut.specs.declared.Core.{Core}
 use Rattle.cut.specs.declared.Core.the-variants.{Unseen, Seen}
-use Rattle.cut.specs.Decision.{pick, both, boundsOf, coreFits, joins, addPart, settle, finished, derived}
+use Rattle.cut.specs.Lists.{pick}
+use Rattle.cut.specs.Decision.{both, boundsOf, coreFits, joins, addPart, settle, finished, derived}
 use Rattle.cut.specs.Sums.{fullIn, acceptsIn, possibleIn}
 use Rattle.slot.specs.declared.Slot.{Slot}
 use Rattle.slot.specs.Memory.{placeOf, lengthOf, movedAs}

@@ -12,7 +12,7 @@ ghost use lib.ListN.{length, drop};
 ghost use Rattle.octets.specs.Octets.{sumOf};
 ghost use Rattle.cut.specs.Requirement.{bodySize, headerSize};
 ghost use Rattle.cut.specs.declared.Core.the-variants.{Seen};
-ghost use Rattle.cut.specs.Decision.{pick};
+ghost use Rattle.cut.specs.Lists.{pick};
 ghost use Rattle.cut.specs.Sums.{ended, possibleIn, acceptsIn, fullIn, suitsIn};
 ghost use Rattle.slot.specs.Memory.{placeOf, lengthOf, movedAs};
 ghost use Rattle.slot.specs.Take.{stageBy, sameFlag, outcomeBy, takeInto};
