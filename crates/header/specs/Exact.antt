@@ -101,11 +101,11 @@ note-all-is (p ∷ ps) seen n = go (widthFits (p .identifier) (p .size)) (note-a
 Again : (ℕ → ℕ) → List Parameter → Type 0
 Again mark ps = (k : ℕ) × (single k ≡ true) × (1 < mark k + count k ps)
 
-count-same : (p : Parameter) (ps : List Parameter) (k : ℕ) → p .identifier ≡ k → count k (p ∷ ps) ≡ suc (count k ps)
+pub count-same : (p : Parameter) (ps : List Parameter) (k : ℕ) → p .identifier ≡ k → count k (p ∷ ps) ≡ suc (count k ps)
 unfolding count
 count-same p ps k e = rw (eq-eqb (p .identifier) k e)
 
-count-other : (p : Parameter) (ps : List Parameter) (k : ℕ) → (p .identifier ≡ k → ⊥) → count k (p ∷ ps) ≡ count k ps
+pub count-other : (p : Parameter) (ps : List Parameter) (k : ℕ) → (p .identifier ≡ k → ⊥) → count k (p ∷ ps) ≡ count k ps
 unfolding count
 count-other p ps k e = rw (ne-eqb (p .identifier) k e)
 
@@ -176,7 +176,7 @@ repeats-back (p ∷ ps) seen l f m a = go (both (eqb (getD seen i 0) 1) (single 
             omega (arith, again-same p ps seen l (f .0) (a .0) d, a .2, m i, eqb-false (getD seen i 0) 1 u, ap (λ (k : ℕ). getD seen k 0) d)
         on (no d) = omega (arith, again-other p ps seen l (f .0) (a .0) d, a .2)
 
-twice-there : (is : List ℕ) (ps : List Parameter) → twice is ps ≡ true → (k : ℕ) × (among k is ≡ true) × (1 < count k ps)
+pub twice-there : (is : List ℕ) (ps : List Parameter) → twice is ps ≡ true → (k : ℕ) × (among k is ≡ true) × (1 < count k ps)
 unfolding twice
 twice-there [] ps e = let z : _≡_ {A = ℕ} 0 1 = cc in absurd (omega arith)
 twice-there (i ∷ is) ps e = go (ltb 1 (count i ps)) refl (twice-there is ps)
@@ -185,7 +185,7 @@ twice-there (i ∷ is) ps e = go (ltb 1 (count i ps)) refl (twice-there is ps)
     go true x r = (i, rw (eq-eqb i i refl), ltb-true 1 (count i ps) x)
     go false x r = let a = r (rw x at e) in (a .0, rw (a .1) (pick-same (eqb (a .0) i) true), a .2)
 
-twice-back : (is : List ℕ) (ps : List Parameter) (k : ℕ) → among k is ≡ true → 1 < count k ps → twice is ps ≡ true
+pub twice-back : (is : List ℕ) (ps : List Parameter) (k : ℕ) → among k is ≡ true → 1 < count k ps → twice is ps ≡ true
 unfolding twice
 twice-back [] ps k e g = let z : _≡_ {A = ℕ} 0 1 = cc in absurd (omega arith)
 twice-back (i ∷ is) ps k e g = go (ℕ-discrete k i) (twice-back is ps k)

@@ -4,3 +4,5 @@ pub mod Names
 pub mod Scan
 pub mod Laws
 pub mod Exact
+pub mod Build
+pub mod Theorems
