@@ -9,6 +9,7 @@ use borrow.Author.Tests.{lt-ltb, le-ltb, eq-eqb, ne-eqb, eqb-true, eqb-false, lt
 use lib.Dec.{eqb, ltb}
 use lib.ListN.{length, getD, set, length-set, getD-replicate, List·getD-eq-default}
 use lib.Seq.{getD-set-same, getD-set-other}
+use Rattle.octets.specs.Octets.{both}
 use Rattle.header.specs.declared.Parameter.{Parameter}
 use Rattle.header.specs.declared.Found.{Found}
 use Rattle.header.specs.declared.Found.the-variants.{Nothing, One}
@@ -19,7 +20,7 @@ use Rattle.header.specs.declared.Refusal.the-variants.{Core, Header, Dup
 use Rattle.header.specs.declared.Reading.{Reading}
 use Rattle.header.specs.declared.Reading.the-variants.{Refused, Read}
 use Rattle.header.specs.Parameters.{pick, Listed, broken, listed, put, foundAt, parameters, parametersFrom, widthFits, allFit, singles, among, single, count, twice, orElse, find, fieldsOf, judged, readHeader}
-use Rattle.header.specs.Scan.{either, both, note, noteAll, scanned, unmarked, unnoted, scanHeader, Inside}
+use Rattle.header.specs.Scan.{either, note, noteAll, scanned, unmarked, unnoted, scanHeader, Inside}
 use Rattle.header.specs.Laws.{from-end, from-step, Known, Each, EachListed, from-known, priority-inside}
 
 pick-same : {A : Type 0} (t : Bool) (a : A) → pick t a a ≡ a
