@@ -225,7 +225,7 @@ named : (h : List ℕ) (ps : List Parameter) → Each (Known h) ps → Named ps
 named h [] k = tt
 named h (p ∷ ps) k = (k .0 .named, named h ps (k .1))
 
-orElse-nothing : (f : Found) → orElse f Nothing ≡ f
+pub orElse-nothing : (f : Found) → orElse f Nothing ≡ f
 orElse-nothing Nothing = refl
 orElse-nothing (One p) = refl
 

@@ -6,3 +6,4 @@ pub mod Laws
 pub mod Exact
 pub mod Build
 pub mod Theorems
+pub mod Search

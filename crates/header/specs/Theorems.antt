@@ -145,7 +145,7 @@ each-among (q ∷ qs) = (inl refl, later qs (each-among qs))
     later [] k = tt
     later (p ∷ ps) k = (inr (k .0), later ps (k .1))
 
-find-none : (i : ℕ) (ps : List Parameter) → count i ps ≡ 0 → find i ps ≡ Nothing
+pub find-none : (i : ℕ) (ps : List Parameter) → count i ps ≡ 0 → find i ps ≡ Nothing
 unfolding find
 find-none i [] e = refl
 find-none i (q ∷ qs) e = go (ℕ-discrete (q .identifier) i) (find-none i qs)
