@@ -4,3 +4,6 @@ pub mod Names
 pub mod Scan
 pub mod Laws
 pub mod Exact
+pub mod Build
+pub mod Theorems
+pub mod Search

@@ -7,10 +7,11 @@ ghost use mathlib.Core.Path.{_≡_};
 ghost use Prim.Native.Nat.{_≤_, _<_};
 ghost use lib.ListN.{length};
 ghost use lib.Dec.{eqb};
+ghost use Rattle.octets.specs.Octets.{both};
 ghost use Rattle.header.specs.Core.{bodySize, headerSize, contentType, contentSubType};
 ghost use Rattle.header.specs.Parameters.{lengthAt, within, foundAt, widthFits, single, priorityOf, nameOf, fieldsOf, readHeader, nameIn};
 ghost use Rattle.header.specs.Names.{unslashed, nameMatches};
-ghost use Rattle.header.specs.Scan.{either, both, note, scanHeader, Inside};
+ghost use Rattle.header.specs.Scan.{either, note, scanHeader, Inside};
 
 // Bytes of the core, before the first parameter.
 pub const CORE: usize = 7;
@@ -22,6 +23,7 @@ pub struct Parameter {
     pub size: usize,
 }
 
+// A parameter, or none.
 pub enum Found {
     Nothing,
     One(Parameter),
@@ -39,6 +41,7 @@ pub enum Name {
     Data(usize, usize),
 }
 
+// What a header says.
 pub struct Fields {
     pub body_size: u32,
     pub header_size: u16,
@@ -55,6 +58,7 @@ pub enum Refusal {
     Duplicate,
 }
 
+// What reading a header gives.
 pub enum Reading {
     Refused(Refusal),
     Read(Fields),
@@ -67,6 +71,7 @@ struct Notes {
     name: Found,
 }
 
+// What one pass comes to.
 enum Scan {
     Broken,
     Whole(Notes),
@@ -214,6 +219,7 @@ fn note_all(header: &[u8]) -> Scan
     Scan::Whole(notes)
 }
 
+// Priority's byte: its data is one byte, which lies inside the header.
 fn priority_of(header: &[u8], found: Found) -> Priority
     requires { ⌜ Inside (length (now header)) found ⌝ }
     ensures { λ r. ⌜ r ≡ priorityOf (now (header .entry)) found ⌝ }
@@ -227,6 +233,7 @@ fn priority_of(header: &[u8], found: Found) -> Priority
     }
 }
 
+// Where ContentName's data stands.
 fn name_from(found: Found) -> Name
     ensures { λ r. ⌜ r ≡ nameOf found ⌝ }
 {
@@ -236,6 +243,7 @@ fn name_from(found: Found) -> Name
     }
 }
 
+// A byte as a wider number, with its bound, from which the sums of the core fields are seen to fit.
 fn wide(byte: u8) -> u32
     ensures { λ r. ⌜ (r ≡ byte) × (r < 256) ⌝ }
 {
@@ -248,6 +256,7 @@ fn half_wide(byte: u8) -> u16
     byte as u16
 }
 
+// The four core fields.
 fn body_size(header: &[u8]) -> u32
     requires { ⌜ 7 ≤ length (now header) ⌝ }
     ensures { λ r. ⌜ r ≡ bodySize (now (header .entry)) ⌝ }
