@@ -24,20 +24,20 @@ pub fn body_size(bytes: &[u8]) -> u32
         + octet(bytes, 3) / 0x10
 }
 
-pub fn header_size(bytes: &[u8]) -> u32
+pub fn header_size(bytes: &[u8]) -> u16
     ensures { λ r. ⌜ r ≡ headerSize (now (bytes .entry)) ⌝ }
 {
-    octet(bytes, 3) % 0x10 * 0x200 + octet(bytes, 4) * 2 + octet(bytes, 5) / 0x80
+    (octet(bytes, 3) % 0x10 * 0x200 + octet(bytes, 4) * 2 + octet(bytes, 5) / 0x80) as u16
 }
 
-pub fn content_type(bytes: &[u8]) -> u32
+pub fn content_type(bytes: &[u8]) -> u8
     ensures { λ r. ⌜ r ≡ contentType (now (bytes .entry)) ⌝ }
 {
-    octet(bytes, 5) % 0x80 / 2
+    (octet(bytes, 5) % 0x80 / 2) as u8
 }
 
-pub fn content_sub_type(bytes: &[u8]) -> u32
+pub fn content_sub_type(bytes: &[u8]) -> u16
     ensures { λ r. ⌜ r ≡ contentSubType (now (bytes .entry)) ⌝ }
 {
-    octet(bytes, 5) % 2 * 0x100 + octet(bytes, 6)
+    (octet(bytes, 5) % 2 * 0x100 + octet(bytes, 6)) as u16
 }

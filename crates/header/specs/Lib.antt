@@ -1,4 +1,3 @@
-pub mod Core
 pub mod Parameters
 pub mod Names
 pub mod Scan

@@ -17,10 +17,13 @@ octet-requires-2 c κs = search needs
 add-result : tie.Need-add-result
 add-result c = search needs
 
+cast-result : tie.Need-cast-result
+cast-result c = search needs
+
 returns : tie.Need-returns
 unfolding contentSubType
 returns c = simp (c .before .octet .ensures .0, c .octet2 .ensures .0)
 
 pub content-sub-type-spec : {M : Type 1} → statement M
 content-sub-type-spec =
-    tie.close (tie.spec octet-requires mul-result octet-requires-2 add-result returns)
+    tie.close (tie.spec octet-requires mul-result octet-requires-2 add-result cast-result returns)

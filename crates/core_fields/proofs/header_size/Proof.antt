@@ -26,6 +26,9 @@ octet-requires-3 c κs = search needs
 add-result-2 : tie.Need-add-result-2
 add-result-2 c = search needs
 
+cast-result : tie.Need-cast-result
+cast-result c = search needs
+
 returns : tie.Need-returns
 unfolding headerSize
 returns c = simp (c .before .before .octet .ensures .0, c .before .octet2 .ensures .0, c .octet3 .ensures .0)
@@ -41,4 +44,5 @@ header-size-spec =
     add-result
     octet-requires-3
     add-result-2
+    cast-result
     returns)
