@@ -1,0 +1,56 @@
+-- The sizes of what is lent for a slot, and where in a share its bytes lie: all that code needs to stay inside.
+use mathlib.Core.Path.{_≡_}
+use mathlib.Core.Bool.{Bool}
+use Prim.Native.Nat.{ℕ, _+_, _-_, _*_, _≤_, _<_}
+use lib.ListN.{length}
+use Rattle.answer.specs.declared.Part.{Part}
+use Rattle.answer.specs.declared.Part.the-variants.{Header, Body}
+use Rattle.cut.specs.Requirement.{headerMost, sizeMost, headerNumbers, bodyNumbers, Segment}
+use Rattle.cut.specs.declared.Core.{Core}
+use Rattle.cut.specs.declared.Record.{Record}
+use Rattle.cut.specs.Decision.{coreAfter, boundsOf}
+use Rattle.slot.specs.Memory.{placeOf}
+use Rattle.slot.specs.Take.{Parts, memoryOf, coreIn, recordWith}
+
+-- how many bytes a part's share has, and how many marks
+abbrev pub widthOf : Part → ℕ → ℕ
+widthOf Header limit = headerMost
+widthOf Body limit = limit
+
+abbrev pub numbersOf : Part → ℕ
+numbersOf Header = headerNumbers
+numbersOf Body = bodyNumbers
+
+pub record Shaped (limit : ℕ) (ps : Parts) : Type 0 where
+  pub headerShare : length (ps .header .share) ≡ headerMost
+  pub bodyShare : length (ps .body .share) ≡ limit
+  pub headerMarks : length (ps .header .marks) ≡ headerNumbers
+  pub bodyMarks : length (ps .body .marks) ≡ bodyNumbers
+
+-- what header segment 0 says once a segment of a part is in
+abbrev pub coreWith : Part → Segment → Core → Core
+coreWith Header s c = coreAfter s c
+coreWith Body s c = c
+
+-- the record of the part that gets a segment
+abbrev pub recordAfter : Part → ℕ → Segment → Parts → Record
+recordAfter part limit s ps = recordWith (boundsOf part limit (coreWith part s (coreIn (ps .header)))) s (memoryOf part ps)
+
+-- a segment of k bytes lies inside its share, both at its number times the size and where it stands
+pub record Placed (width numbers : ℕ) (last : Bool) (size n k : ℕ) : Type 0 where
+  pub number : n < numbers
+  pub product : n * size + k ≤ width
+  pub place : placeOf last size width n k + k ≤ width
+
+-- the numbers of a record: the size, the last segment, and their products
+pub record Small (width numbers : ℕ) (p : Record) : Type 0 where
+  pub size : p .size ≤ sizeMost
+  pub end : p .end ≤ numbers
+  pub tail : p .tail ≤ sizeMost
+  pub product : p .end * p .size ≤ bodyNumbers * sizeMost
+  pub last : (p .end - 1) * p .size + p .tail ≤ width
+
+-- a last segment that is copied from the end of the share to its place, once the size is known
+pub record Moves (width : ℕ) (old new : Record) : Type 0 where
+  pub tail : old .tail ≤ width
+  pub place : (old .end - 1) * new .size + old .tail ≤ width
