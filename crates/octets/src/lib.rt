@@ -1,0 +1,98 @@
+// Bytes moved and looked over: what is written into a store, copied down inside it, compared with what is there, and the
+// arrival marks, cleared and counted. Each function works on the part that its caller lends. What a write leaves is always
+// `over`, a run of bytes laid over a list, so that one set of laws (specs/Over.antt) says what stands before, inside and
+// after it and how it reads on the whole store; what marks add up to is in specs/Marks.antt. This is how document 01
+// stores a segment ("One object, one cut"). No loop here leaves early: a pass over all bytes is the faster one.
+ghost use mathlib.Core.Path.{_≡_};
+ghost use Prim.Native.Nat.{_+_, _≤_};
+ghost use lib.ListN.{length, take, drop};
+ghost use Rattle.octets.specs.Octets.{over, zeros, equal, largestOf, summed};
+
+// The most bytes that are summed: with this many a sum fits a u32 whatever the bytes are.
+pub const SUMMED: usize = 65_536;
+
+// `src` over the start of `dst`; the rest of `dst` stays.
+pub fn copy_in(dst: &mut [u8], src: &[u8])
+    requires { ⌜ length (now src) ≤ length (now dst) ⌝ }
+    ensures { λ r. ⌜ now (dst .exit) ≡ over (now (dst .entry)) 0 (now (src .entry)) ⌝ }
+{
+    let mut i = 0;
+    while i < src.len() {
+        dst[i] = src[i];
+        i += 1;
+    }
+}
+
+// The `count` bytes that stood at `from` stand at `to`, which is no higher; the two places may overlap, so the copy goes
+// upward from the start. All other bytes stay.
+pub fn move_down(bytes: &mut [u8], from: usize, to: usize, count: usize)
+    requires { ⌜ (to ≤ from) × (from + count ≤ length (now bytes)) ⌝ }
+    ensures { λ r. ⌜ now (bytes .exit) ≡ over (now (bytes .entry)) to (take count (drop from (now (bytes .entry)))) ⌝ }
+{
+    let mut i = 0;
+    while i < count {
+        bytes[to + i] = bytes[from + i];
+        i += 1;
+    }
+}
+
+// Every byte is 0.
+pub fn clear(marks: &mut [u8])
+    ensures { λ r. ⌜ now (marks .exit) ≡ zeros (length (now (marks .entry))) ⌝ }
+{
+    let mut i = 0;
+    while i < marks.len() {
+        marks[i] = 0;
+        i += 1;
+    }
+}
+
+// Whether the two hold the same bytes.
+pub fn same(a: &[u8], b: &[u8]) -> bool
+    ensures { λ r. ⌜ r ≡ equal (now (a .entry)) (now (b .entry)) ⌝ }
+{
+    if a.len() != b.len() {
+        return false;
+    }
+    let mut alike = true;
+    let mut i = 0;
+    while i < a.len() {
+        if a[i] != b[i] {
+            alike = false;
+        }
+        i += 1;
+    }
+    alike
+}
+
+// The largest byte, 0 where there is none.
+pub fn largest(marks: &[u8]) -> u8
+    ensures { λ r. ⌜ r ≡ largestOf (now (marks .entry)) ⌝ }
+{
+    let mut top = 0;
+    let mut i = 0;
+    while i < marks.len() {
+        if top < marks[i] {
+            top = marks[i];
+        }
+        i += 1;
+    }
+    top
+}
+
+// The sum of the bytes. A slice of more than `SUMMED` bytes is not summed and gives the largest u32, so that no slice of
+// any length makes the sum wrap.
+pub fn sum(marks: &[u8]) -> u32
+    ensures { λ r. ⌜ r ≡ summed (now (marks .entry)) ⌝ }
+{
+    if SUMMED < marks.len() {
+        return 4_294_967_295;
+    }
+    let mut total: u32 = 0;
+    let mut i = 0;
+    while i < marks.len() {
+        total += marks[i] as u32;
+        i += 1;
+    }
+    total
+}
