@@ -5,7 +5,7 @@ use mathlib.Core.Bool.{true, false}
 use mathlib.Core.List.{List, _++_}
 use Prim.Native.Nat.{ℕ, _≤_, _<_}
 use native.Mathlib.Omega.{arith}
-use borrow.Author.Tests.{ne-eqb, le-leb, lt-leb}
+use borrow.Author.Tests.{ne-eqb, le-leb}
 use lib.ListN.{length, drop, getD, List·getD-eq-default}
 use Rattle.lines.specs.Hex.{isHex, bytesOf}
 use Rattle.lines.specs.Line.{taking, dropping, neither, checkOf, wordOf, askedBy, askedOf}
@@ -32,10 +32,6 @@ module _ (letter : ℕ) (digits : List ℕ) where
   asks-other-letter g b d = rw (ne-eqb letter 0x47 g, ne-eqb letter 0x42 b, ne-eqb letter 0x44 d)
 
 module _ (line : List ℕ) where
-  pub too-long : 16432 < length line → askedOf line ≡ neither
-  unfolding askedOf
-  too-long h = rw (lt-leb (length line) 16432 h)
-
   pub no-tab : length line ≤ 16432 → (getD line 1 0 ≡ 0x09 → ⊥) → askedOf line ≡ neither
   unfolding askedOf
   no-tab h t = rw (le-leb (length line) 16432 h, ne-eqb (getD line 1 0) 0x09 t)

@@ -3,7 +3,7 @@
 use mathlib.Core.Path.{_≡_, refl, sym, ap₂, _∙_}
 use mathlib.Core.Bool.{Bool, true, false, _&&_}
 use mathlib.Core.List.{List, [], _∷_}
-use Prim.Native.Nat.{ℕ, zero, suc, _+_, _*_, _/_, _%_, _<_}
+use Prim.Native.Nat.{ℕ, zero, suc, _+_, _*_, _%_, _<_}
 use native.Mathlib.Numerals.{add-one}
 use native.Mathlib.Omega.{arith}
 use borrow.Author.Tests.{ltb-true}
@@ -30,12 +30,6 @@ digit-at (character ∷ text) (suc i) e h = digit-at text i (both-true (ltb (dig
 pub hex-digit : (text : List ℕ) (i : ℕ) → isHex text ≡ true → i < length text → digitOf (getD text i 0) < 16
 unfolding isHex
 hex-digit text i e h = digit-at text i (both-true (eqb (length text % 2) 0) (allDigits text) e .1) h
-
-pub bytes-length : (text : List ℕ) → length (bytesOf text) ≡ length text / 2
-unfolding bytesOf
-bytes-length [] = refl
-bytes-length (alone ∷ []) = refl
-bytes-length (high ∷ low ∷ text) = omega (arith, bytes-length text)
 
 -- each byte, by the two digits that stand for it
 pub byte-at : (text : List ℕ) (i : ℕ) → i * 2 + 1 < length text → getD (bytesOf text) i 0 ≡ digitOf (getD text (i * 2) 0) * 16 + digitOf (getD text (i * 2 + 1) 0)

@@ -1,2 +1,3 @@
 mod Hex
 mod Cases
+mod Pieces

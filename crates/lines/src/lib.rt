@@ -1,12 +1,14 @@
-// The lines of the listing (document 01, "The listing program"): what one line asks for, whatever
-// its characters are. A group's bytes are left in lent memory, with the CRC behind them where the
-// line has none; a malformed line leaves that memory as it was.
+// The lines of the listing (document 01, "The listing program"): the input gathered into lines,
+// whatever the chunks are that it comes in, and what one line asks for, whatever its characters
+// are. A group's bytes are left in lent memory, with the CRC behind them where the line has none; a
+// malformed line leaves that memory as it was.
 ghost use mathlib.Core.Bool.{true};
 ghost use mathlib.Core.Path.{_≡_};
-ghost use Prim.Native.Nat.{_+_, _≤_};
+ghost use Prim.Native.Nat.{_+_, _≤_, _<_};
 ghost use lib.ListN.{length, take};
 ghost use Rattle.octets.specs.Octets.{over};
 ghost use Rattle.lines.specs.Hex.{digitOf, isHex, bytesOf};
+ghost use Rattle.lines.specs.Gather.{roomFor, lineEnd, gathered, lineAfter};
 ghost use Rattle.lines.specs.Line.{askedBy, askedOf, told, left, wordOf, checkOf};
 
 // What a line asks for: a group of so many bytes, which stand in the lent memory, to be taken; a
@@ -15,6 +17,14 @@ pub enum Line {
     Group(usize),
     Drop(u16),
     Malformed,
+}
+
+// What a chunk gives of a line: where the next line starts, how many characters of this one are
+// kept, and whether a newline ended it.
+pub struct Gathered {
+    pub next: usize,
+    pub kept: usize,
+    pub whole: bool,
 }
 
 fn digit(character: u8) -> u8
@@ -124,4 +134,63 @@ pub fn read(line: &[u8], group: &mut [u8; 8217]) -> Line
         return Line::Malformed;
     }
     asked(line[0], digits, group)
+}
+
+fn line_end(chunk: &[u8], from: usize) -> usize
+    ensures { λ r. ⌜ r ≡ lineEnd (now (chunk .entry)) from ⌝ }
+{
+    let mut i = from;
+    while i < chunk.len() {
+        if chunk[i] == b'\n' {
+            return i;
+        }
+        i += 1;
+    }
+    i
+}
+
+// A piece of a line behind what is kept of it, as far as there is room; and how much is then kept.
+fn keep(line: &mut [u8], kept: usize, piece: &[u8]) -> usize
+    ensures { λ r. ⌜ r ≡ kept + length (roomFor (length (now (line .entry))) kept (now (piece .entry))) ⌝ }
+    ensures { λ r. ⌜ now (line .exit) ≡ over (now (line .entry)) kept (roomFor (length (now (line .entry))) kept (now (piece .entry))) ⌝ }
+{
+    if line.len() <= kept {
+        return kept;
+    }
+    let room = line.len() - kept;
+    if piece.len() < room {
+        octets::copy_in(&mut line[kept..], piece);
+        return kept + piece.len();
+    }
+    octets::copy_in(&mut line[kept..], &piece[..room]);
+    kept + room
+}
+
+// The characters of a line that a chunk has from `from` on, up to a newline or the chunk's end,
+// behind those that are kept of it.
+pub fn gather(chunk: &[u8], from: usize, line: &mut [u8; 16433], kept: usize) -> Gathered
+    ensures { λ r. ⌜ r ≡ gathered (now (chunk .entry)) from kept ⌝ }
+    ensures { λ r. ⌜ now (line .exit) ≡ lineAfter (now (chunk .entry)) from (now (line .entry)) kept ⌝ }
+{
+    if chunk.len() <= from {
+        return Gathered {
+            next: from,
+            kept,
+            whole: false,
+        };
+    }
+    let end = line_end(chunk, from);
+    let kept = keep(line, kept, &chunk[from..end]);
+    if end < chunk.len() {
+        return Gathered {
+            next: end + 1,
+            kept,
+            whole: true,
+        };
+    }
+    Gathered {
+        next: end,
+        kept,
+        whole: false,
+    }
 }

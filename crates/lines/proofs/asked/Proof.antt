@@ -13,7 +13,7 @@ use Rattle.lines.specs.declared.Line.the-variants.{Group, Drop}
 use Rattle.lines.specs.Hex.{bytesOf}
 use Rattle.lines.specs.Line.{checkOf}
 use Rattle.lines.specs.Run.{over-nothing, over-joined}
-use Rattle.lines.proofs.Hex.{bytes-length}
+use Rattle.lines.specs.Theorems.{bytes-length}
 use Rattle.lines.proofs.Cases.{asks-whole, asks-unchecked, asks-drop, asks-other-count, asks-other-letter}
 use Rattle.lines.proofs.asked.Statement.{statement}
 use Rattle.lines.proofs.asked.Tie as tie

@@ -11,7 +11,8 @@ use borrow.Author.Needs.{needs}
 use Rattle.octets.specs.Octets.{over}
 use Rattle.octets.specs.Over.{over-none, over-more}
 use Rattle.lines.specs.Hex.{bytesOf}
-use Rattle.lines.proofs.Hex.{hex-digit, bytes-length, byte-at}
+use Rattle.lines.specs.Theorems.{bytes-length}
+use Rattle.lines.proofs.Hex.{hex-digit, byte-at}
 use Rattle.lines.proofs.decode.Statement.{statement}
 use Rattle.lines.proofs.decode.Tie as tie
 

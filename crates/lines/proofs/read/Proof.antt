@@ -10,7 +10,8 @@ use borrow.Author.Tests.{not-true, not-false}
 use borrow.Author.Needs.{needs}
 use Rattle.lines.specs.Hex.{isHex}
 use Rattle.lines.specs.Run.{over-nothing}
-use Rattle.lines.proofs.Cases.{too-long, too-short, no-tab, no-hex, well-formed}
+use Rattle.lines.specs.Theorems.{too-long}
+use Rattle.lines.proofs.Cases.{too-short, no-tab, no-hex, well-formed}
 use Rattle.lines.proofs.read.Statement.{statement}
 use Rattle.lines.proofs.read.Tie as tie
 
