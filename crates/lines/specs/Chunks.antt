@@ -1,10 +1,11 @@
 -- The lines that are handed out are the input split at newlines, whatever the chunks are that it comes in.
 use mathlib.Core.Path.{_≡_, refl, sym, ap, ap₂, _∙_}
-use mathlib.Core.Bool.{Bool, true, false}
+use mathlib.Core.Bool.{Bool, true, false, cond}
 use mathlib.Core.List.{List, [], _∷_, _++_, map, append-assoc, append-nil}
 use Prim.Native.Nat.{ℕ, zero, suc, _+_, _-_, _≤_, _<_}
 use native.Mathlib.Decide.{ℕ-discrete}
 use native.Mathlib.Omega.{arith}
+use lib.Dec.{ltb}
 use lib.ListN.{length, take, drop, length-append, length-take, length-drop}
 use lib.Seq.{drop-drop}
 use borrow.Author.Tests.{ltb-true, ltb-false, ne-eqb}
@@ -226,6 +227,19 @@ module _ (chunk : List ℕ) (from kept : ℕ) where
   unfolding gathered
   goes-past e = ltb-false (lineEnd chunk from) (length chunk) e
 
+from-before : (chunk : List ℕ) (from : ℕ) → from ≤ lineEnd chunk from
+unfolding lineEnd
+from-before chunk from = omega arith
+
+-- each call gets further in a chunk of which something is left
+pub further : (chunk : List ℕ) (from kept : ℕ) → from < length chunk → from < gathered chunk from kept .next
+unfolding gathered
+further chunk from kept h = past (ltb (lineEnd chunk from) (length chunk)) refl
+  where
+    past : (whole : Bool) → whole ≡ ltb (lineEnd chunk from) (length chunk) → from < cond whole (lineEnd chunk from + 1) (lineEnd chunk from)
+    past true e = omega (arith, from-before chunk from)
+    past false e = let all = ltb-false (lineEnd chunk from) (length chunk) (sym e) in omega arith
+
 gathered-holds : (chunk : List ℕ) (from : ℕ) {line begun : List ℕ} {kept : ℕ} → Holds line kept begun
     → Holds (lineAfter chunk from line kept) (gathered chunk from kept .kept) (begun ++ before (drop from chunk))
 unfolding gathered lineAfter
@@ -261,10 +275,6 @@ sure false = no (λ e. let z : _≡_ {A = ℕ} 0 1 = cc in omega arith)
 not-whole : (test : Bool) → (test ≡ true → ⊥) → test ≡ false
 not-whole true n = absurd (n refl)
 not-whole false n = refl
-
-from-before : (chunk : List ℕ) (from : ℕ) → from ≤ lineEnd chunk from
-unfolding lineEnd
-from-before chunk from = omega arith
 
 module _ (chunk : List ℕ) (chunks : List (List ℕ)) (then : (kept : ℕ) (line : List ℕ) → (lines : List (List ℕ)) × Hands chunks 0 line kept lines) where
   over-chunk : (turns from kept : ℕ) (line : List ℕ) → length chunk - from < turns → (lines : List (List ℕ)) × Hands (chunk ∷ chunks) from line kept lines

@@ -4,7 +4,7 @@
 // malformed line leaves that memory as it was.
 ghost use mathlib.Core.Bool.{true};
 ghost use mathlib.Core.Path.{_≡_};
-ghost use Prim.Native.Nat.{_+_, _≤_, _<_};
+ghost use Prim.Native.Nat.{_+_, _≤_};
 ghost use lib.ListN.{length, take};
 ghost use Rattle.octets.specs.Octets.{over};
 ghost use Rattle.lines.specs.Hex.{digitOf, isHex, bytesOf};

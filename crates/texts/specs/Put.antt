@@ -24,6 +24,7 @@ module _ {before after : List ℕ} {at next : ℕ} {text : List ℕ} (put : Put 
     laid = then .laid ∙ rw (put .laid, put .ends) (over-joined before at text (rw (← put .ends) fits) more);
   }
 
--- a text from the start on
-pub put-whole : {before after : List ℕ} {next : ℕ} {text : List ℕ} → Put before 0 text next after → (next ≡ length text) × (after ≡ over before 0 text)
-put-whole put = (put .ends ∙ zero-add _, put .laid)
+-- a text from the start on, that there is room for
+pub put-whole : {before after : List ℕ} {next room : ℕ} {text : List ℕ} → Put before 0 text next after → next ≤ room
+    → (next ≡ length text) × ((after ≡ over before 0 text) × (next ≤ room))
+put-whole put fits = (put .ends ∙ zero-add _, (put .laid, fits))

@@ -110,6 +110,7 @@ fn put_name(out: &mut [u8], at: usize, answer: Answer) -> usize
 fn put_segment(out: &mut [u8], at: usize, heard: Heard) -> usize
     requires { ⌜ at + 28 ≤ length (now out) ⌝ }
     ensures { λ r. ⌜ Put (now (out .entry)) at (textOf (valuesOf (Returned.Segment heard))) r (now (out .exit)) ⌝ }
+    ensures { λ r. ⌜ r ≤ at + 28 ⌝ }
 {
     let part = put_hex(out, at, heard.number);
     let which = heard.part;
@@ -120,6 +121,7 @@ fn put_segment(out: &mut [u8], at: usize, heard: Heard) -> usize
 fn put_returned(out: &mut [u8], at: usize, returned: Returned) -> usize
     requires { ⌜ at + 28 ≤ length (now out) ⌝ }
     ensures { λ r. ⌜ Put (now (out .entry)) at (textOf (valuesOf returned)) r (now (out .exit)) ⌝ }
+    ensures { λ r. ⌜ r ≤ at + 28 ⌝ }
 {
     match returned {
         Returned::Segment(heard) => put_segment(out, at, heard),
@@ -135,6 +137,7 @@ fn put_returned(out: &mut [u8], at: usize, returned: Returned) -> usize
 pub fn write_answer(line: u64, answer: Answer, out: &mut [u8; 128]) -> usize
     ensures { λ r. ⌜ r ≡ length (answerText line answer) ⌝ }
     ensures { λ r. ⌜ now (out .exit) ≡ over (now (out .entry)) 0 (answerText line answer) ⌝ }
+    ensures { λ r. ⌜ r ≤ 128 ⌝ }
 {
     let name = put_decimal(out, 0, line, b' ');
     let values = put_name(out, name, answer);
@@ -145,6 +148,7 @@ pub fn write_answer(line: u64, answer: Answer, out: &mut [u8; 128]) -> usize
 pub fn write_malformed(line: u64, out: &mut [u8; 128]) -> usize
     ensures { λ r. ⌜ r ≡ length (malformedText line) ⌝ }
     ensures { λ r. ⌜ now (out .exit) ≡ over (now (out .entry)) 0 (malformedText line) ⌝ }
+    ensures { λ r. ⌜ r ≤ 128 ⌝ }
 {
     let name = put_decimal(out, 0, line, b' ');
     put(out, name, b"LINE - - -", b'\n')
@@ -161,6 +165,7 @@ pub fn write_counts(
 ) -> usize
     ensures { λ r. ⌜ r ≡ length (countsText taken repeated refused completed dropped) ⌝ }
     ensures { λ r. ⌜ now (out .exit) ≡ over (now (out .entry)) 0 (countsText taken repeated refused completed dropped) ⌝ }
+    ensures { λ r. ⌜ r ≤ 128 ⌝ }
 {
     let first = put(out, 0, b"T", b' ');
     let second = put_decimal(out, first, taken as u64, b' ');

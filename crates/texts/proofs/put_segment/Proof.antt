@@ -25,7 +25,7 @@ returns : tie.Need-returns
 returns c =
     let hex = c .before .before .before .before .before .before .before .before .before .before .before .put-hex in
     let part = c .before .before .before .before .before .before .before .put-part in
-    put-then (hex .ensures .0) (put-then (part .ensures .0) (c .before .before .put-decimal .ensures .0) (omega arith)) (omega arith)
+    (put-then (hex .ensures .0) (put-then (part .ensures .0) (c .before .before .put-decimal .ensures .0) (omega arith)) (omega arith), omega arith)
 
 pub put-segment-spec : {M : Type 1} → statement M
 put-segment-spec =

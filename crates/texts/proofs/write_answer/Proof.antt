@@ -39,10 +39,10 @@ unfolding answerText
 returns c =
     let number = c .before .before .before .before .before .put-decimal in
     let name = c .before .before .before .put-name in
-    let values = put-same (c .put-returned .ensures) (ap (λ (returned : Returned). textOf (valuesOf returned)) (c .before .returned-with .ensures)) in
+    let values = put-same (c .put-returned .ensures .0) (ap (λ (returned : Returned). textOf (valuesOf returned)) (c .before .returned-with .ensures)) in
     put-whole (put-same
     (put-then (number .ensures .0) (put-then (name .ensures .0) values (omega arith)) (omega arith))
-    (three-values (decimal (c .before .before .before .before .before .before .before .args .line)) (letters (nameOf (c .before .before .before .before .before .before .before .args .answer))) (returnedWith (c .before .before .before .before .before .before .before .args .answer))))
+    (three-values (decimal (c .before .before .before .before .before .before .before .args .line)) (letters (nameOf (c .before .before .before .before .before .before .before .args .answer))) (returnedWith (c .before .before .before .before .before .before .before .args .answer)))) (omega arith)
 
 pub write-answer-spec : {M : Type 1} → statement M
 write-answer-spec =

@@ -37,7 +37,7 @@ returns c =
     (put-then (c .before .before .before .before .before .before .put-decimal2 .ensures .0)
     (put-then (c .before .before .before .before .put-decimal3 .ensures .0)
     (put-then (c .before .before .put-decimal4 .ensures .0)
-    (c .put-decimal5 .ensures .0) (omega arith)) (omega arith)) (omega arith)) (omega arith)) (omega arith))
+    (c .put-decimal5 .ensures .0) (omega arith)) (omega arith)) (omega arith)) (omega arith)) (omega arith)) (omega arith)
 
 pub write-counts-spec : {M : Type 1} → statement M
 write-counts-spec =

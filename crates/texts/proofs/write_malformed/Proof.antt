@@ -20,7 +20,7 @@ returns : tie.Need-returns
 unfolding malformedText
 returns c =
     let number = c .before .before .before .put-decimal in
-    put-whole (put-then (number .ensures .0) (c .put .ensures) (omega arith))
+    put-whole (put-then (number .ensures .0) (c .put .ensures) (omega arith)) (omega (arith, c .put .ensures .ends))
 
 pub write-malformed-spec : {M : Type 1} → statement M
 write-malformed-spec =
