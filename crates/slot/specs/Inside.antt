@@ -66,7 +66,7 @@ pub record Suited (b : Bounds) (p : Record) : Type 0 where
   pub size : (p .size ≡ 0) ⊎ (p .size ≡ cut)
 
 -- a size that the bounds give is that of the cut
-derived-is : (b : Bounds) (S L end tail : ℕ) → WithinOf b S L → EndSits S L end tail → (derived b end tail ≡ 0) ⊎ (derived b end tail ≡ S)
+pub derived-is : (b : Bounds) (S L end tail : ℕ) → WithinOf b S L → EndSits S L end tail → (derived b end tail ≡ 0) ⊎ (derived b end tail ≡ S)
 derived-is b S L zero tail w e = inl refl
 derived-is b S L (suc zero) tail w e = inl refl
 derived-is b S L (suc (suc n)) tail w e = go (ℕ-discrete (b .least) (b .most))
