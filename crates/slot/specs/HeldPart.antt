@@ -13,20 +13,20 @@ use lib.Dec.{eqb, leb}
 use borrow.Author.Tests.{eqb-true, eq-eqb, ne-eqb, le-leb}
 use Rattle.octets.specs.Octets.{over}
 use Rattle.octets.specs.Over.{over-length}
-use Rattle.cut.specs.Lists.{Each, Among, each-map, each-zip, each-zip3, each-among}
+use Rattle.cut.specs.Lists.{Each, each-map, each-zip, each-zip3}
 use Rattle.cut.specs.Requirement.{Segment}
 use Rattle.cut.specs.declared.Bounds.{Bounds}
 use Rattle.cut.specs.declared.Record.{Record}
 use Rattle.cut.specs.Decision.{pick, derived, settle, Summary, summary, recordOf}
 use Rattle.cut.specs.LawsSegment.{SitsAs, Sits, inside, Numbered, not-numbered}
-use Rattle.cut.specs.LawsDecision.{TopSits, EndSits, SumSits, Clear, EndIs, sits-sum}
+use Rattle.cut.specs.LawsDecision.{TopSits, EndSits, SumSits, Clear, sits-sum}
 use Rattle.cut.specs.LawsObject.{WithinOf}
 use Rattle.cut.specs.LawsOrder.{KnowsAs, Knows, knows-each}
 use Rattle.cut.specs.Marks.{Marked}
 use Rattle.slot.specs.Memory.{Memory, placeOf, lengthOf, segmentAs, segmentAt, movedAs, settled, put}
 use Rattle.slot.specs.Inside.{derived-is}
-use Rattle.slot.specs.Held.{LaidAs, Laid, Keeps}
-use Rattle.slot.specs.HeldBytes.{place-known, moved-length, moved-laid, put-laid, put-other}
+use Rattle.slot.specs.Held.{Laid, Keeps}
+use Rattle.slot.specs.HeldBytes.{moved-length, moved-laid, put-laid, put-other}
 
 -- the segments are those of a part of length L cut at S, within the bounds, and the share has room for it
 pub record Room (b : Bounds) (S L : ℕ) (m : Memory) (ss : List Segment) : Type 0 where

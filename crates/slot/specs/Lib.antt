@@ -6,3 +6,4 @@ pub mod Inside
 pub mod Held
 pub mod HeldBytes
 pub mod HeldPart
+pub mod HeldSlot
