@@ -6,12 +6,15 @@ use Prim.Native.Nat.{ℕ}
 use lib.ListN.{length, take, drop}
 use Rattle.answer.specs.declared.Part.the-variants.{Header, Body}
 use Rattle.cut.specs.Lists.{Each}
-use Rattle.cut.specs.Requirement.{Segment, Fits}
+use Rattle.cut.specs.Requirement.{Segment, Fits, Finished}
 use Rattle.cut.specs.declared.Bounds.{Bounds}
 use Rattle.cut.specs.Decision.{boundsOf, summary, recordOf, coreOf}
 use Rattle.cut.specs.Marks.{Marked}
+use Rattle.slot.specs.declared.Slot.{Slot}
+use Rattle.slot.specs.declared.Stage.{Stage}
+use Rattle.slot.specs.declared.Stage.the-variants as Stage
 use Rattle.slot.specs.Memory.{Memory, placeOf}
-use Rattle.slot.specs.Take.{Parts}
+use Rattle.slot.specs.Take.{Lent, Parts, partsOf}
 use Rattle.slot.specs.Shape.{Shaped}
 
 -- a segment's bytes are laid in their place in the share, under a size
@@ -34,3 +37,14 @@ pub record Gathers (limit : ℕ) (ps : Parts) (hs bs : List Segment) : Type 0 wh
   pub shape : Shaped limit ps
   pub header : Keeps (boundsOf Header limit (coreOf hs)) (ps .header) hs
   pub body : Keeps (boundsOf Body limit (coreOf hs)) (ps .body) bs
+
+-- the stage that segments give which fit an object: finished with its two lengths, once every segment of it is in
+abbrev pub StageFor : {limit : ℕ} {hs bs : List Segment} → Fits limit hs bs → Stage → Type 0
+StageFor f Stage.Free = ⊥
+StageFor f Stage.Gathering = ¬ (Finished f)
+StageFor f (Stage.Finished header body) = Finished f × (header ≡ length (f .header)) × (body ≡ length (f .body))
+
+-- a slot with what is lent for it holds these segments, and its stage is the one that they give
+pub record Holds (limit : ℕ) (slot : Slot) (lent : Lent) (hs bs : List Segment) : Type 0 where
+  pub gathers : Gathers limit (partsOf slot lent) hs bs
+  pub stage : StageFor (gathers .object) (slot .stage)

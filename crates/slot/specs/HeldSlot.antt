@@ -129,7 +129,7 @@ takes-fits part limit s ps hs bs z y g a = rw (core-read limit ps hs bs g, g .he
 
 -- ---- one segment more
 
-abbrev fits-less : (part : Part) (limit : ℕ) (s : Segment) (hs bs : List Segment) → Fits limit (headersWith part s hs) (bodiesWith part s bs) → Fits limit hs bs
+abbrev pub fits-less : (part : Part) (limit : ℕ) (s : Segment) (hs bs : List Segment) → Fits limit (headersWith part s hs) (bodiesWith part s bs) → Fits limit hs bs
 fits-less Header limit s hs bs f = record { header = f .header; body = f .body; object = f .object; headerCut = f .headerCut; bodyCut = f .bodyCut; headerCuts = f .headerCuts; bodyCuts = f .bodyCuts; headerSent = f .headerSent .1; bodySent = f .bodySent }
 fits-less Body limit s hs bs f = record { header = f .header; body = f .body; object = f .object; headerCut = f .headerCut; bodyCut = f .bodyCut; headerCuts = f .headerCuts; bodyCuts = f .bodyCuts; headerSent = f .headerSent; bodySent = f .bodySent .1 }
 

@@ -7,3 +7,5 @@ pub mod Held
 pub mod HeldBytes
 pub mod HeldPart
 pub mod HeldSlot
+pub mod StepStage
+pub mod Step
