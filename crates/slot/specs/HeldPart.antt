@@ -24,7 +24,7 @@ use Rattle.cut.specs.LawsObject.{WithinOf}
 use Rattle.cut.specs.LawsOrder.{KnowsAs, Knows, knows-each}
 use Rattle.cut.specs.Marks.{Marked}
 use Rattle.slot.specs.Memory.{Memory, placeOf, lengthOf, segmentAs, segmentAt, movedAs, settled, put}
-use Rattle.slot.specs.Inside.{derived-is}
+use Rattle.slot.specs.Inside.{derived-is, sits-before, place-lies}
 use Rattle.slot.specs.Held.{Laid, Keeps}
 use Rattle.slot.specs.HeldBytes.{moved-length, moved-laid, put-laid, put-other}
 
@@ -100,7 +100,7 @@ pub reads : (b : Bounds) (S L : ℕ) (m : Memory) (ss : List Segment) → Keeps 
 reads b S L m ss k r = each-zip (λ s n p. segment-is m s n p) ss (rw (k .kept) (noted-each b S L ss (r .within) (r .sits))) (k .laid)
 
 -- and back: what reads back, with the record that it gives, is kept
-segment-laid : (m : Memory) (s : Segment) → Noted (m .kept) s → segmentAt m (s .number) ≡ s → Laid (m .kept .size) (m .share) s
+pub segment-laid : (m : Memory) (s : Segment) → Noted (m .kept) s → segmentAt m (s .number) ≡ s → Laid (m .kept .size) (m .share) s
 unfolding segmentAt Laid
 segment-laid m s t e =
     let g : segmentAs (s .last) m (s .number) ≡ s = subst (λ (last : Bool). segmentAs last m (s .number) ≡ s) (sym (t .flag)) e in
@@ -238,15 +238,6 @@ set-marked marks s ss h k = record { bits = set-bits marks (s .number) (k .bits)
         back (inl x) = absurd (d (sym x))
         back (inr x) = rw (getD-set-other marks (s .number) n 1 0 d) (k .marked n .1 x)
 
--- the place of a new segment is inside the share
-place-in : (last : Bool) (size S L width n k : ℕ) → SitsAs last S L n k → L ≤ width → (size ≡ 0) ⊎ (size ≡ S) → (size ≡ 0 → last ≡ true) → placeOf last size width n k + k ≤ width
-place-in false size S L width n k t g (inl d) u = let y : _≡_ {A = ℕ} 0 1 = cc (u d) in absurd (omega arith)
-place-in false size S L width n k t g (inr d) u = rw d (omega arith)
-place-in true (suc size) S L width n k t g (inl d) u = absurd (omega arith)
-place-in true (suc size) S L width n k t g (inr d) u = rw d (omega arith)
-place-in true zero S L width zero k t g d u = omega arith
-place-in true zero S L width (suc n) k t g d u = omega arith
-
 module _ (b c : Bounds) (S L : ℕ) (m : Memory) (s : Segment) (ss : List Segment) (k : Keeps b m ss) (w : WithinOf b S L) (r : Room c S L m (s ∷ ss)) where
   old : Room b S L m ss
   old = record { within = w; space = r .space; sits = r .sits .1 }
@@ -270,7 +261,7 @@ module _ (b c : Bounds) (S L : ℕ) (m : Memory) (s : Segment) (ss : List Segmen
 
   place-inside : place + length (s .bytes) ≤ length share
   unfolding place Sits new
-  place-inside = place-in (s .last) new S L (length share) (s .number) (length (s .bytes)) (r .sits .0) (omega (arith, r .space, share-length)) known (λ e. size-none c S L (s ∷ ss) (r .within) (r .sits) e .0)
+  place-inside = place-lies (s .last) (length share) new (s .number) (length (s .bytes)) (omega (arith, sits-before (s .last) S L new (s .number) (length (s .bytes)) (r .sits .0) known, r .space, share-length))
 
   pub put-length : length (put s (settled (recordOf c (summary (s ∷ ss))) m) .share) ≡ length (m .share)
   unfolding settled put share new place

@@ -24,6 +24,7 @@ use Rattle.cut.specs.LawsSegment.{SitsAs, Sits, Numbered, Agree, sent-number}
 use Rattle.cut.specs.LawsDecision.{Clear}
 use Rattle.cut.specs.LawsObject.{WithinOf, headersWith, bodiesWith, those, partOf, cutOf, fits-within, fits-sits, fits-core, fits-passes}
 use Rattle.cut.specs.LawsOrder.{core-absent}
+use Rattle.cut.specs.Marks.{Marked}
 use Rattle.cut.specs.Sums.{fullIn, full-kept, settle-again, settle-full, settle-last, taken}
 use Rattle.slot.specs.Memory.{Memory, placeOf, segmentAt, settled, put}
 use Rattle.slot.specs.Take.{Parts, memoryOf, coreIn, takesIn, recordWith, recordWithin, partsWith}
@@ -80,19 +81,22 @@ core-present share (s ∷ ss) e i = go (eqb (s .number) 0) refl i (core-present 
     go false x (inl j) rest = absurd (eqb-false (s .number) 0 x j)
     go false x (inr j) rest = rest j
 
-pub core-read : (limit : ℕ) (ps : Parts) (hs bs : List Segment) → Gathers limit ps hs bs → coreIn (ps .header) ≡ coreOf hs
+-- segments of a part that is long enough, laid in the header's share and marked there, say what is read off it
+pub core-laid : (m : Memory) (S L : ℕ) (ss : List Segment) → sizeLeast ≤ S → headerLeast ≤ L → Each (Sits S L) ss → Each (Laid (m .kept .size) (m .share)) ss → Marked (m .marks) ss → coreIn m ≡ coreOf ss
 unfolding coreIn
-core-read limit ps hs bs g = go (getD (ps .header .marks) 0 0) (g .header .marked .marked 0)
+core-laid m S L ss h g t p k = go (getD (m .marks) 0 0) (k .marked 0)
   where
-    f : Fits limit hs bs
-    f = g .object
+    says : Each (Says (m .share)) ss
+    says = each-zip (λ s t p. first-says S L (m .kept .size) (m .share) s h g t p) ss t p
 
-    says : Each (Says (ps .header .share)) hs
-    says = each-zip (λ s t p. first-says (f .headerCut) (length (f .header)) (ps .header .kept .size) (ps .header .share) s (f .headerCuts .low) (f .object .headerLow) t p) hs (fits-sits limit hs bs f Header) (g .header .laid)
+    go : (mark : ℕ) → (0 < mark) ↔ Numbered 0 ss → pick (leb 1 mark) (Seen (bodySize (m .share)) (headerSize (m .share))) Unseen ≡ coreOf ss
+    go zero i = sym (core-absent ss (λ j. let z : 0 < 0 = i .1 j in omega arith))
+    go (suc mark) i = rw (le-leb 1 (suc mark) (omega arith)) (sym (core-present (m .share) ss says (i .0 (omega arith))))
 
-    go : (mark : ℕ) → (0 < mark) ↔ Numbered 0 hs → pick (leb 1 mark) (Seen (bodySize (ps .header .share)) (headerSize (ps .header .share))) Unseen ≡ coreOf hs
-    go zero i = sym (core-absent hs (λ j. let z : 0 < 0 = i .1 j in omega arith))
-    go (suc mark) i = rw (le-leb 1 (suc mark) (omega arith)) (sym (core-present (ps .header .share) hs says (i .0 (omega arith))))
+pub core-read : (limit : ℕ) (ps : Parts) (hs bs : List Segment) → Gathers limit ps hs bs → coreIn (ps .header) ≡ coreOf hs
+core-read limit ps hs bs g =
+    let f = g .object in
+    core-laid (ps .header) (f .headerCut) (length (f .header)) hs (f .headerCuts .low) (f .object .headerLow) (fits-sits limit hs bs f Header) (g .header .laid) (g .header .marked)
 
 -- ---- the records
 

@@ -88,10 +88,22 @@ settled-suited b (suc t) p e =
 below : (S n m : ℕ) → n * S < m * S → n < m
 below S n m h = lt-of-mul-lt-mul-right S h
 
+-- a segment of a part so long, cut so, ends before the part does, under a size that is 0 or the cut
+pub sits-before : (last : Bool) (S L size n k : ℕ) → SitsAs last S L n k → (size ≡ 0) ⊎ (size ≡ S) → n * size + k ≤ L
+sits-before true S L size n k t (inl z) = rw z (omega arith)
+sits-before true S L size n k t (inr z) = rw z (omega arith)
+sits-before false S L size n k t (inl z) = rw z (omega arith)
+sits-before false S L size n k t (inr z) = rw z (omega arith)
+
+sits-number : (last : Bool) (b : Bounds) (S L n k : ℕ) → WithinOf b S L → SitsAs last S L n k → n < b .numbers
+sits-number true b S L n k w t = below S n (b .numbers) (omega (arith, w .enough))
+sits-number false b S L n k w t = below S n (b .numbers) (omega (arith, w .enough, w .low))
+
 -- the last one, under a size that is 0 or the cut
 last-lies : (b : Bounds) (S L size n k : ℕ) → WithinOf b S L → EndSits S L (suc n) k → (size ≡ 0) ⊎ (size ≡ S) → (n < b .numbers) × (n * size + k ≤ b .most) × (k ≤ sizeMost)
-last-lies b S L size n k w e (inl z) = rw z (below S n (b .numbers) (omega (arith, w .enough)), omega (arith, w .short), omega (arith, w .high))
-last-lies b S L size n k w e (inr z) = rw z (below S n (b .numbers) (omega (arith, w .enough)), omega (arith, w .short), omega (arith, w .high))
+last-lies b S L size n k w e z =
+    let h = sits-before true S L size n k e z in
+    (sits-number true b S L n k w e, omega (arith, w .short), omega (arith, w .high))
 
 size-small : (b : Bounds) (S L size : ℕ) → WithinOf b S L → (size ≡ 0) ⊎ (size ≡ S) → size ≤ sizeMost
 size-small b S L size w (inl z) = omega arith
@@ -115,7 +127,7 @@ suited-small b p width u t h g =
 
 -- ---- a segment at its place
 
-place-lies : (last : Bool) (width size n k : ℕ) → n * size + k ≤ width → placeOf last size width n k + k ≤ width
+pub place-lies : (last : Bool) (width size n k : ℕ) → n * size + k ≤ width → placeOf last size width n k + k ≤ width
 place-lies false width size n k h = h
 place-lies true width (suc size) n k h = h
 place-lies true width zero zero k h = omega arith
@@ -335,7 +347,7 @@ module _ (b : Bounds) (m : Memory) (bits : Each (λ x. x ≤ 1) (m .marks)) (rig
   right-full = full-top (m .kept) (m .marks) bits (right-end .1)
 
   -- the size is the one that the last segment gives, unless a full one is in
-  right-size : topIn m ≡ 0 → m .kept .size ≡ derived b (m .kept .end) (m .kept .tail)
+  pub right-size : topIn m ≡ 0 → m .kept .size ≡ derived b (m .kept .end) (m .kept .tail)
   unfolding recordRight
   right-size z =
       let f : fullIn (m .kept) (m .marks) ≡ false = right-full ∙ (rw z refl) in
@@ -361,11 +373,6 @@ module _ (b : Bounds) (m : Memory) (bits : Each (λ x. x ≤ 1) (m .marks)) (rig
   marked-sits false n e h =
       let g : suc (0 + n) ≤ topIn m = top-high (m .kept .end) 0 n (m .marks) h (λ y. eqb-false (suc n) (m .kept .end) e (omega arith)) in
       top-sits (right-suits .cut) (right-suits .long) (topIn m) (m .kept .size) n (right-suits .full) (omega (arith, g))
-
-sits-lies : (last : Bool) (b : Bounds) (S L size n k : ℕ) → WithinOf b S L → SitsAs last S L n k → (size ≡ 0) ⊎ (size ≡ S) → (n < b .numbers) × (n * size + k ≤ b .most)
-sits-lies true b S L size n k w t z = let r = last-lies b S L size n k w t z in (r .0, r .1)
-sits-lies false b S L size n k w t (inl z) = rw z (below S n (b .numbers) (omega (arith, w .enough, w .low)), omega (arith, w .short))
-sits-lies false b S L size n k w t (inr z) = rw z (below S n (b .numbers) (omega (arith, w .enough, w .low)), omega (arith, w .short))
 
 -- what a part of a sound slot has passed
 pub record Right (part : Part) (limit : ℕ) (ps : Parts) : Type 0 where
@@ -425,8 +432,9 @@ module _ (part : Part) (limit : ℕ) (stage : Stage) (ps : Parts) (h : Shaped li
       let m : Memory = memoryOf part ps in
       let last : Bool = eqb (suc n) (m .kept .end) in
       let u : Suits b (topIn m) (m .kept .size) (m .kept .end) (m .kept .tail) = right-suits b m (part-bits part ps bits) (r .right) (r .can) in
-      let t = sits-lies last b (u .cut) (u .long) (m .kept .size) n (lengthOf last (m .kept)) (u .within) (marked-sits b m (part-bits part ps bits) (r .right) (r .can) last n refl g) (size-known b m (part-bits part ps bits) (r .right) (r .can)) in
-      placed last (length (m .share)) (numbersOf part) (m .kept .size) n (lengthOf last (m .kept)) (omega (arith, t .0, numbers)) (omega (arith, t .1, most))
+      let t = marked-sits b m (part-bits part ps bits) (r .right) (r .can) last n refl g in
+      let e = sits-before last (u .cut) (u .long) (m .kept .size) n (lengthOf last (m .kept)) t (size-known b m (part-bits part ps bits) (r .right) (r .can)) in
+      placed last (length (m .share)) (numbersOf part) (m .kept .size) n (lengthOf last (m .kept)) (omega (arith, sits-number last b (u .cut) (u .long) n (lengthOf last (m .kept)) (u .within) t, numbers)) (omega (arith, e, u .within .short, most))
 
   -- and the numbers of its record are small
   pub record-small : Small (length (memoryOf part ps .share)) (numbersOf part) (memoryOf part ps .kept)

@@ -4,6 +4,7 @@ pub mod Sound
 pub mod Shape
 pub mod Inside
 pub mod Held
+pub mod HeldIn
 pub mod HeldBytes
 pub mod HeldPart
 pub mod HeldSlot

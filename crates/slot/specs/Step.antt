@@ -27,6 +27,7 @@ use Rattle.slot.specs.declared.Outcome.the-variants.{Stored, Complete, R
 use Rattle.slot.specs.Memory.{Memory, segmentAt}
 use Rattle.slot.specs.Take.{Lent, Parts, partsOf, lentOf, memoryOf, takesIn, partsWith, stageOf, Taken, unchanged, sameFlag, sameSegment, outcomeBy, slotWith, storedAs, ifNew, ifHeld, byMark, takeInto}
 use Rattle.slot.specs.Held.{Gathers, StageFor, Holds}
+use Rattle.slot.specs.HeldIn.{at-number, at-among}
 use Rattle.slot.specs.HeldSlot.{part-keeps, part-reads, takes-fits, fits-less, next-gathers}
 use Rattle.slot.specs.StepStage.{stage-right}
 
@@ -47,16 +48,6 @@ same-exactly s t n = (
       λ i. record { number = n i; last = f i; bytes = g i }),
   (λ e. true-both (sameFlag (s .last) (t .last)) (equal (s .bytes) (t .bytes)) (flag-same (s .last) (t .last) .1 (ap (λ (x : Segment). x .last) e)) (equal-exactly (s .bytes) (t .bytes) .1 (ap (λ (x : Segment). x .bytes) e))),
 )
-
-at-number : (m : Memory) (n : ℕ) → segmentAt m n .number ≡ n
-unfolding segmentAt
-at-number m n = refl
-
--- the segment of a number that is in
-pub at-among : (m : Memory) (n : ℕ) (ss : List Segment) → Each (λ s. segmentAt m (s .number) ≡ s) ss → Numbered n ss → Among (segmentAt m n) ss
-at-among m n [] r i = absurd i
-at-among m n (s ∷ ss) r (inl e) = inl (sym (r .0) ∙ ap (segmentAt m) e)
-at-among m n (s ∷ ss) r (inr i) = inr (at-among m n ss (r .1) i)
 
 -- ---- the slot that is left
 
