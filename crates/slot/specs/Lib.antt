@@ -10,3 +10,5 @@ pub mod HeldPart
 pub mod HeldSlot
 pub mod StepStage
 pub mod Step
+pub mod State
+pub mod StatePart
