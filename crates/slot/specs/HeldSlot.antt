@@ -112,7 +112,7 @@ module _ (part : Part) (limit : ℕ) (ps : Parts) (hs bs : List Segment) (g : Ga
   k : Keeps (boundsOf part limit (coreOf hs)) (memoryOf part ps) (those part hs bs)
   k = part-keeps part limit ps hs bs g
 
-  full-read : fullIn (memoryOf part ps .kept) (memoryOf part ps .marks) ≡ someFull (summary (those part hs bs))
+  pub full-read : fullIn (memoryOf part ps .kept) (memoryOf part ps .marks) ≡ someFull (summary (those part hs bs))
   full-read =
       let p = pass limit hs bs (g .object) part in
       rw (k .kept) (full-kept (boundsOf part limit (coreOf hs)) (boundsOf part limit (coreOf hs)) (memoryOf part ps .marks) (those part hs bs) (k .marked) (p .0) (p .1))

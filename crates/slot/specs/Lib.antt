@@ -12,3 +12,5 @@ pub mod StepStage
 pub mod Step
 pub mod State
 pub mod StatePart
+pub mod StateParts
+pub mod StateExact

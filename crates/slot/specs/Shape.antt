@@ -5,12 +5,13 @@ use Prim.Native.Nat.{ℕ, _+_, _-_, _*_, _≤_, _<_}
 use lib.ListN.{length}
 use Rattle.answer.specs.declared.Part.{Part}
 use Rattle.answer.specs.declared.Part.the-variants.{Header, Body}
+use Rattle.cut.specs.Lists.{Bytes}
 use Rattle.cut.specs.Requirement.{headerMost, sizeMost, headerNumbers, bodyNumbers, Segment}
 use Rattle.cut.specs.declared.Core.{Core}
 use Rattle.cut.specs.declared.Record.{Record}
 use Rattle.cut.specs.Decision.{coreAfter, boundsOf}
 use Rattle.slot.specs.Memory.{placeOf}
-use Rattle.slot.specs.Take.{Parts, memoryOf, coreIn, recordWith}
+use Rattle.slot.specs.Take.{Lent, Parts, memoryOf, coreIn, recordWith}
 
 -- how many bytes a part's share has, and how many marks
 abbrev pub widthOf : Part → ℕ → ℕ
@@ -26,6 +27,14 @@ pub record Shaped (limit : ℕ) (ps : Parts) : Type 0 where
   pub bodyShare : length (ps .body .share) ≡ limit
   pub headerMarks : length (ps .header .marks) ≡ headerNumbers
   pub bodyMarks : length (ps .body .marks) ≡ bodyNumbers
+
+-- what is lent for a slot has document 01's lengths, and its stores are bytes
+pub record IsLent (limit : ℕ) (lent : Lent) : Type 0 where
+  pub headerLength : length (lent .header) ≡ headerMost
+  pub bodyLength : length (lent .body) ≡ limit
+  pub marksLength : length (lent .marks) ≡ headerNumbers + bodyNumbers
+  pub headerBytes : Bytes (lent .header)
+  pub bodyBytes : Bytes (lent .body)
 
 -- what header segment 0 says once a segment of a part is in
 abbrev pub coreWith : Part → Segment → Core → Core

@@ -1,32 +1,29 @@
 -- One part whose tests pass: its marked segments are those of a part so long, cut so, and its record is the one that they
 -- give. And back.
 use mathlib.Core.Path.{_≡_, refl, sym, ap, _∙_, subst}
-use mathlib.Core.Logic.{_≢_, _⊎_, inl, inr, _↔_}
 use mathlib.Core.Bool.{Bool, true, false}
-use mathlib.Core.List.{List}
-use Prim.Native.Nat.{ℕ, zero, suc, _+_, _≤_, _<_}
+use Prim.Native.Nat.{ℕ, zero, suc, _≤_, _<_}
 use native.Mathlib.Omega.{arith}
-use lib.ListN.{length, take, drop, getD}
+use lib.ListN.{length, getD}
 use lib.Dec.{eqb, leb}
 use borrow.Author.Tests.{eqb-true, eq-eqb, le-leb}
 use Rattle.octets.specs.Over.{part-length}
 use Rattle.cut.specs.Lists.{Each, each-zip, each-among, among-each}
 use Rattle.cut.specs.Requirement.{Segment}
 use Rattle.cut.specs.declared.Bounds.{Bounds}
-use Rattle.cut.specs.declared.Record.{Record}
-use Rattle.cut.specs.Decision.{pick, both, derived, settle, Summary, summary, recordOf}
-use Rattle.cut.specs.LawsSegment.{SitsAs, Sits, Agree, among-numbered}
-use Rattle.cut.specs.LawsDecision.{Suits, Clear, true-both, false-true, sits-sum}
+use Rattle.cut.specs.Decision.{pick, derived, settle, summary, recordOf}
+use Rattle.cut.specs.LawsSegment.{Sits, among-numbered}
+use Rattle.cut.specs.LawsDecision.{Clear, sits-sum}
 use Rattle.cut.specs.LawsObject.{WithinOf}
 use Rattle.cut.specs.LawsOrder.{Knows, knows-each, knows-last, EndFrom, TopFrom, end-from, top-from}
-use Rattle.cut.specs.Marks.{Marked, topFrom, top-kept}
-use Rattle.cut.specs.Sums.{possibleIn, fullIn}
+use Rattle.cut.specs.Marks.{topFrom, top-kept}
+use Rattle.cut.specs.Sums.{possibleIn}
 use Rattle.slot.specs.Memory.{Memory, placeOf, lengthOf, segmentAs, segmentAt, heldIn}
-use Rattle.slot.specs.Sound.{endRight, recordRight}
+use Rattle.slot.specs.Sound.{recordRight}
 use Rattle.slot.specs.Inside.{topIn, right-end, right-size, right-suits, size-known, marked-sits, sits-before, place-lies}
-use Rattle.slot.specs.Held.{Laid, Keeps}
-use Rattle.slot.specs.HeldIn.{Reads, at-number, at-among, held-reads, held-numbered, held-marked, reads-agree}
-use Rattle.slot.specs.HeldPart.{Room, Noted, segment-laid}
+use Rattle.slot.specs.Held.{Laid}
+use Rattle.slot.specs.HeldIn.{at-number, at-among, held-reads, held-numbered, held-marked, reads-agree}
+use Rattle.slot.specs.HeldPart.{Noted, segment-laid}
 
 at-last : (m : Memory) (n : ℕ) → segmentAt m n .last ≡ eqb (suc n) (m .kept .end)
 unfolding segmentAt

@@ -1,9 +1,9 @@
 -- A segment is offered to a slot that holds segments which fit: each outcome comes exactly when document 01 says, and what
 -- the slot holds afterwards.
-use mathlib.Core.Path.{_≡_, refl, sym, ap, _∙_, subst}
+use mathlib.Core.Path.{_≡_, refl, sym, ap, subst}
 use mathlib.Core.Logic.{inl, inr, _↔_}
 use mathlib.Core.Bool.{Bool, true, false}
-use mathlib.Core.List.{List, [], _∷_, _++_}
+use mathlib.Core.List.{List, _∷_, _++_}
 use Prim.Native.Nat.{ℕ, zero, suc, _≤_, _<_}
 use native.Mathlib.Omega.{arith}
 use lib.ListN.{length, getD, take, drop}
@@ -12,7 +12,7 @@ use Rattle.octets.specs.Octets.{equal}
 use Rattle.octets.specs.Marks.{equal-exactly}
 use Rattle.answer.specs.declared.Part.{Part}
 use Rattle.answer.specs.declared.Part.the-variants.{Header, Body}
-use Rattle.cut.specs.Lists.{Each, Among, Bytes}
+use Rattle.cut.specs.Lists.{Among, Bytes}
 use Rattle.cut.specs.Requirement.{limitMost, headerNumbers, Segment, Fits, Finished}
 use Rattle.cut.specs.LawsSegment.{Numbered, among-numbered}
 use Rattle.cut.specs.LawsDecision.{both-true, true-both, false-true}
@@ -24,7 +24,7 @@ use Rattle.slot.specs.declared.Stage.{Stage}
 use Rattle.slot.specs.declared.Stage.the-variants as Stage
 use Rattle.slot.specs.declared.Outcome.{Outcome}
 use Rattle.slot.specs.declared.Outcome.the-variants.{Stored, Complete, Repeat, Conflict}
-use Rattle.slot.specs.Memory.{Memory, segmentAt}
+use Rattle.slot.specs.Memory.{segmentAt}
 use Rattle.slot.specs.Take.{Lent, Parts, partsOf, lentOf, memoryOf, takesIn, partsWith, stageOf, Taken, unchanged, sameFlag, sameSegment, outcomeBy, slotWith, storedAs, ifNew, ifHeld, byMark, takeInto}
 use Rattle.slot.specs.Held.{Gathers, StageFor, Holds}
 use Rattle.slot.specs.HeldIn.{at-number, at-among}
