@@ -4,18 +4,22 @@ use mathlib.Core.Bool.{Bool}
 use mathlib.Core.List.{List}
 use Prim.Native.Nat.{ℕ}
 use lib.ListN.{length, take, drop}
+use Rattle.octets.specs.Octets.{sumOf}
+use Rattle.answer.specs.declared.Part.{Part}
 use Rattle.answer.specs.declared.Part.the-variants.{Header, Body}
 use Rattle.cut.specs.Lists.{Each}
 use Rattle.cut.specs.Requirement.{Segment, Fits, Finished}
 use Rattle.cut.specs.declared.Bounds.{Bounds}
 use Rattle.cut.specs.Decision.{boundsOf, summary, recordOf, coreOf}
+use Rattle.cut.specs.LawsSegment.{Numbered}
+use Rattle.cut.specs.LawsObject.{headersWith, bodiesWith, those}
 use Rattle.cut.specs.Marks.{Marked}
 use Rattle.slot.specs.declared.Slot.{Slot}
 use Rattle.slot.specs.declared.Stage.{Stage}
 use Rattle.slot.specs.declared.Stage.the-variants as Stage
 use Rattle.slot.specs.Memory.{Memory, placeOf}
-use Rattle.slot.specs.Take.{Lent, Parts, partsOf}
-use Rattle.slot.specs.Shape.{Shaped}
+use Rattle.slot.specs.Take.{Lent, Parts, partsOf, Taken}
+use Rattle.slot.specs.Shape.{Shaped, IsLent}
 
 -- a segment's bytes are laid in their place in the share, under a size
 abbrev pub LaidAs : Bool → ℕ → List ℕ → ℕ → List ℕ → Type 0
@@ -48,3 +52,16 @@ StageFor f (Stage.Finished header body) = Finished f × (header ≡ length (f .h
 pub record Holds (limit : ℕ) (slot : Slot) (lent : Lent) (hs bs : List Segment) : Type 0 where
   pub gathers : Gathers limit (partsOf slot lent) hs bs
   pub stage : StageFor (gathers .object) (slot .stage)
+
+-- a slot that holds nothing yet: its records are empty and no mark is set
+pub record Vacant (limit : ℕ) (slot : Slot) (lent : Lent) : Type 0 where
+  pub lends : IsLent limit lent
+  pub header : slot .header ≡ record { size = 0; end = 0; tail = 0 }
+  pub body : slot .body ≡ record { size = 0; end = 0; tail = 0 }
+  pub marks : sumOf (lent .marks) ≡ 0
+
+-- the segment is of a new number and fits, and is held now with the others
+pub record Added (part : Part) (limit : ℕ) (s : Segment) (slot : Slot) (hs bs : List Segment) (t : Taken) : Type 0 where
+  pub new : ¬ (Numbered (s .number) (those part hs bs))
+  pub holds : Holds limit (t .slot) (t .lent) (headersWith part s hs) (bodiesWith part s bs)
+  pub number : t .slot .number ≡ slot .number

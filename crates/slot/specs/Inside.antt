@@ -34,7 +34,7 @@ use Rattle.slot.specs.declared.Stage.the-variants.{Free, Gathering, Fini
 use Rattle.slot.specs.Memory.{Memory, placeOf, lengthOf}
 use Rattle.slot.specs.Take.{Lent, Parts, partsOf, memoryOf, coreIn, takesIn, recordWith, recordWithin, stageBy, stageOf}
 use Rattle.slot.specs.Sound.{endRight, recordRight, sameStage, soundParts, soundSlot}
-use Rattle.slot.specs.Shape.{widthOf, numbersOf, Shaped, coreWith, recordAfter, Placed, Small, Moves}
+use Rattle.slot.specs.Shape.{widthOf, numbersOf, Shaped, Bits, coreWith, recordAfter, Placed, Small, Moves}
 
 -- ---- the bounds of a part are those of its share
 
@@ -397,10 +397,6 @@ sound-right part limit stage ps e =
     by : (part : Part) → Tests Header → Tests Body → coreFits limit (coreIn (ps .header)) ≡ true → Can Header → Can Body → Right part limit ps
     by Header r r' k c c' = record { core = k; right = r; can = c }
     by Body r r' k c c' = record { core = k; right = r'; can = c' }
-
--- the marks are 0 or 1
-abbrev pub Bits : Parts → Type 0
-Bits ps = (largestOf (ps .header .marks) ≤ 1) × (largestOf (ps .body .marks) ≤ 1)
 
 pub part-bits : (part : Part) (ps : Parts) → Bits ps → Each (λ x. x ≤ 1) (memoryOf part ps .marks)
 part-bits Header ps h = each-bit (ps .header .marks) (h .0)

@@ -14,3 +14,4 @@ pub mod State
 pub mod StatePart
 pub mod StateParts
 pub mod StateExact
+pub mod StepSound

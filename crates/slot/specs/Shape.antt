@@ -3,6 +3,7 @@ use mathlib.Core.Path.{_≡_}
 use mathlib.Core.Bool.{Bool}
 use Prim.Native.Nat.{ℕ, _+_, _-_, _*_, _≤_, _<_}
 use lib.ListN.{length}
+use Rattle.octets.specs.Octets.{largestOf}
 use Rattle.answer.specs.declared.Part.{Part}
 use Rattle.answer.specs.declared.Part.the-variants.{Header, Body}
 use Rattle.cut.specs.Lists.{Bytes}
@@ -27,6 +28,10 @@ pub record Shaped (limit : ℕ) (ps : Parts) : Type 0 where
   pub bodyShare : length (ps .body .share) ≡ limit
   pub headerMarks : length (ps .header .marks) ≡ headerNumbers
   pub bodyMarks : length (ps .body .marks) ≡ bodyNumbers
+
+-- the marks are 0 or 1
+abbrev pub Bits : Parts → Type 0
+Bits ps = (largestOf (ps .header .marks) ≤ 1) × (largestOf (ps .body .marks) ≤ 1)
 
 -- what is lent for a slot has document 01's lengths, and its stores are bytes
 pub record IsLent (limit : ℕ) (lent : Lent) : Type 0 where
@@ -63,3 +68,15 @@ pub record Small (width numbers : ℕ) (p : Record) : Type 0 where
 pub record Moves (width : ℕ) (old new : Record) : Type 0 where
   pub tail : old .tail ≤ width
   pub place : (old .end - 1) * new .size + old .tail ≤ width
+
+-- byte i of a share lies where a last segment is copied to, or where a segment is written
+pub record Copied (old new : Record) (i : ℕ) : Type 0 where
+  pub unknown : old .size ≡ 0
+  pub known : 0 < new .size
+  pub later : 2 ≤ old .end
+  pub from : (old .end - 1) * new .size ≤ i
+  pub before : i < (old .end - 1) * new .size + old .tail
+
+pub record Written (s : Segment) (size width i : ℕ) : Type 0 where
+  pub from : placeOf (s .last) size width (s .number) (length (s .bytes)) ≤ i
+  pub before : i < placeOf (s .last) size width (s .number) (length (s .bytes)) + length (s .bytes)

@@ -27,8 +27,8 @@ use Rattle.slot.specs.declared.Stage.the-variants.{Free, Gathering, Fini
 use Rattle.slot.specs.Memory.{Memory, placeOf, lengthOf, segmentAs, segmentAt, heldIn}
 use Rattle.slot.specs.Take.{Parts, memoryOf, coreIn, stageOf}
 use Rattle.slot.specs.Sound.{endRight, recordRight, sameStage, soundParts}
-use Rattle.slot.specs.Shape.{Shaped}
-use Rattle.slot.specs.Inside.{Right, sound-right, Bits, part-bits, bounds-most, share-width}
+use Rattle.slot.specs.Shape.{Shaped, Bits}
+use Rattle.slot.specs.Inside.{Right, sound-right, part-bits, bounds-most, share-width}
 use Rattle.slot.specs.Held.{Laid, Keeps, Gathers}
 use Rattle.slot.specs.HeldIn.{held-reads, held-marked, reads-same, reads-agree}
 use Rattle.slot.specs.HeldSlot.{part-keeps, part-reads, core-laid, core-read, full-read}

@@ -26,7 +26,7 @@ use Rattle.slot.specs.declared.Outcome.{Outcome}
 use Rattle.slot.specs.declared.Outcome.the-variants.{Stored, Complete, Repeat, Conflict}
 use Rattle.slot.specs.Memory.{segmentAt}
 use Rattle.slot.specs.Take.{Lent, Parts, partsOf, lentOf, memoryOf, takesIn, partsWith, stageOf, Taken, unchanged, sameFlag, sameSegment, outcomeBy, slotWith, storedAs, ifNew, ifHeld, byMark, takeInto}
-use Rattle.slot.specs.Held.{Gathers, StageFor, Holds}
+use Rattle.slot.specs.Held.{Gathers, StageFor, Holds, Added}
 use Rattle.slot.specs.HeldIn.{at-number, at-among}
 use Rattle.slot.specs.HeldSlot.{part-keeps, part-reads, takes-fits, fits-less, next-gathers}
 use Rattle.slot.specs.StepStage.{stage-right}
@@ -69,12 +69,6 @@ parts-hold limit number ps hs bs g =
     record { gathers = k; stage = stage-right limit ps hs bs g (k .object) }
 
 -- ---- what an outcome tells
-
--- the segment is of a new number and fits, and is held now with the others
-pub record Added (part : Part) (limit : ℕ) (s : Segment) (slot : Slot) (hs bs : List Segment) (t : Taken) : Type 0 where
-  pub new : ¬ (Numbered (s .number) (those part hs bs))
-  pub holds : Holds limit (t .slot) (t .lent) (headersWith part s hs) (bodiesWith part s bs)
-  pub number : t .slot .number ≡ slot .number
 
 abbrev pub Tells : Outcome → Part → ℕ → Segment → Slot → Lent → List Segment → List Segment → Taken → Type 0
 Tells Stored part limit s slot lent hs bs t = Added part limit s slot hs bs t × ((f : Fits limit (headersWith part s hs) (bodiesWith part s bs)) → ¬ (Finished f))
