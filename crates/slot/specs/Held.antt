@@ -8,7 +8,7 @@ use Rattle.octets.specs.Octets.{sumOf}
 use Rattle.answer.specs.declared.Part.{Part}
 use Rattle.answer.specs.declared.Part.the-variants.{Header, Body}
 use Rattle.cut.specs.Lists.{Each}
-use Rattle.cut.specs.Requirement.{Segment, Fits, Finished}
+use Rattle.cut.specs.Requirement.{headerNumbers, bodyNumbers, Segment, Fits, Finished, joined}
 use Rattle.cut.specs.declared.Bounds.{Bounds}
 use Rattle.cut.specs.Decision.{boundsOf, summary, recordOf, coreOf}
 use Rattle.cut.specs.LawsSegment.{Numbered}
@@ -65,3 +65,10 @@ pub record Added (part : Part) (limit : ℕ) (s : Segment) (slot : Slot) (hs bs 
   pub new : ¬ (Numbered (s .number) (those part hs bs))
   pub holds : Holds limit (t .slot) (t .lent) (headersWith part s hs) (bodiesWith part s bs)
   pub number : t .slot .number ≡ slot .number
+
+-- the first bytes of the shares, as many as the two lengths say, are the header and the body of every object that fits, and
+-- there is one; and they are the segments joined by number
+pub record Shows (limit : ℕ) (lent : Lent) (header body : ℕ) (hs bs : List Segment) : Type 0 where
+  pub object : Fits limit hs bs
+  pub every : (f : Fits limit hs bs) → (take header (lent .header) ≡ f .header) × (take body (lent .body) ≡ f .body)
+  pub byNumber : (take header (lent .header) ≡ joined headerNumbers hs) × (take body (lent .body) ≡ joined bodyNumbers bs)

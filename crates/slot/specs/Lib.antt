@@ -15,3 +15,5 @@ pub mod StatePart
 pub mod StateParts
 pub mod StateExact
 pub mod StepSound
+pub mod StepBytes
+pub mod Shown

@@ -1,8 +1,9 @@
 -- The sizes of what is lent for a slot, and where in a share its bytes lie: all that code needs to stay inside.
 use mathlib.Core.Path.{_≡_}
 use mathlib.Core.Bool.{Bool}
+use mathlib.Core.List.{List}
 use Prim.Native.Nat.{ℕ, _+_, _-_, _*_, _≤_, _<_}
-use lib.ListN.{length}
+use lib.ListN.{length, getD}
 use Rattle.octets.specs.Octets.{largestOf}
 use Rattle.answer.specs.declared.Part.{Part}
 use Rattle.answer.specs.declared.Part.the-variants.{Header, Body}
@@ -11,8 +12,9 @@ use Rattle.cut.specs.Requirement.{headerMost, sizeMost, headerNumbers, bodyNumb
 use Rattle.cut.specs.declared.Core.{Core}
 use Rattle.cut.specs.declared.Record.{Record}
 use Rattle.cut.specs.Decision.{coreAfter, boundsOf}
+use Rattle.slot.specs.declared.Slot.{Slot}
 use Rattle.slot.specs.Memory.{placeOf}
-use Rattle.slot.specs.Take.{Lent, Parts, memoryOf, coreIn, recordWith}
+use Rattle.slot.specs.Take.{Lent, Parts, partsOf, memoryOf, coreIn, recordWith, Taken}
 
 -- how many bytes a part's share has, and how many marks
 abbrev pub widthOf : Part → ℕ → ℕ
@@ -69,6 +71,15 @@ pub record Moves (width : ℕ) (old new : Record) : Type 0 where
   pub tail : old .tail ≤ width
   pub place : (old .end - 1) * new .size + old .tail ≤ width
 
+-- a slot's record of a part, and the part's share of what is lent
+abbrev pub keptOf : Part → Slot → Record
+keptOf Header slot = slot .header
+keptOf Body slot = slot .body
+
+abbrev pub shareOf : Part → Lent → List ℕ
+shareOf Header lent = lent .header
+shareOf Body lent = lent .body
+
 -- byte i of a share lies where a last segment is copied to, or where a segment is written
 pub record Copied (old new : Record) (i : ℕ) : Type 0 where
   pub unknown : old .size ≡ 0
@@ -80,3 +91,8 @@ pub record Copied (old new : Record) (i : ℕ) : Type 0 where
 pub record Written (s : Segment) (size width i : ℕ) : Type 0 where
   pub from : placeOf (s .last) size width (s .number) (length (s .bytes)) ≤ i
   pub before : i < placeOf (s .last) size width (s .number) (length (s .bytes)) + length (s .bytes)
+
+-- what a call leaves of a slot: each byte but those that are written or copied to, and each mark but the segment's
+pub record Leaves (part : Part) (s : Segment) (slot : Slot) (lent : Lent) (t : Taken) : Type 0 where
+  pub bytes : (p : Part) (i : ℕ) → ¬ (Copied (keptOf p slot) (keptOf p (t .slot)) i) → (p ≡ part → ¬ (Written s (keptOf p (t .slot) .size) (length (shareOf p lent)) i)) → getD (shareOf p (t .lent)) i 0 ≡ getD (shareOf p lent) i 0
+  pub marks : (p : Part) (n : ℕ) → ¬ ((p ≡ part) × (n ≡ s .number)) → getD (memoryOf p (partsOf (t .slot) (t .lent)) .marks) n 0 ≡ getD (memoryOf p (partsOf slot lent) .marks) n 0
