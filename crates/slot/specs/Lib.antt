@@ -17,3 +17,5 @@ pub mod StateExact
 pub mod StepSound
 pub mod StepBytes
 pub mod Shown
+pub mod Offers
+pub mod OffersKept

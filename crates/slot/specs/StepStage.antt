@@ -1,5 +1,5 @@
 -- The stage of a slot that holds segments: finished exactly when every segment of the object is in.
-use mathlib.Core.Path.{_≡_, refl, sym, _∙_}
+use mathlib.Core.Path.{_≡_, refl, sym, ap, _∙_, subst}
 use mathlib.Core.Logic.{_↔_}
 use mathlib.Core.Bool.{Bool, true, false}
 use mathlib.Core.List.{List}
@@ -13,12 +13,13 @@ use Rattle.cut.specs.declared.Core.the-variants.{Unseen, Seen}
 use Rattle.cut.specs.declared.Bounds.{Bounds}
 use Rattle.cut.specs.Decision.{settle, Summary, summary, recordOf, coreOf, finished}
 use Rattle.cut.specs.LawsDecision.{false-true}
-use Rattle.cut.specs.Finished.{finished-core}
+use Rattle.cut.specs.Finished.{finished-core, finished-every, finished-one}
 use Rattle.cut.specs.Marks.{finished-marked}
+use Rattle.slot.specs.declared.Slot.{Slot}
 use Rattle.slot.specs.declared.Stage.{Stage}
 use Rattle.slot.specs.declared.Stage.the-variants as Stage
-use Rattle.slot.specs.Take.{Parts, stageBy, stageOf}
-use Rattle.slot.specs.Held.{Gathers, StageFor}
+use Rattle.slot.specs.Take.{Lent, Parts, stageBy, stageOf}
+use Rattle.slot.specs.Held.{Gathers, StageFor, Holds}
 use Rattle.slot.specs.HeldSlot.{core-read}
 
 -- only the ends of the records play a part
@@ -53,3 +54,15 @@ stage-one limit hs bs f Stage.Gathering (Stage.Finished h k) a b = absurd (a (b 
 stage-one limit hs bs f (Stage.Finished h k) Stage.Free a b = absurd b
 stage-one limit hs bs f (Stage.Finished h k) Stage.Gathering a b = absurd (b (a .0))
 stage-one limit hs bs f (Stage.Finished h k) (Stage.Finished h' k') a b = rw (a .1, a .2, b .1, b .2) refl
+
+-- FINISHED: the stage says so, with two lengths, exactly when every segment of an object of these lengths is in
+pub finished-exactly : (limit : ℕ) (slot : Slot) (lent : Lent) (hs bs : List Segment) → Holds limit slot lent hs bs → (header body : ℕ) → (slot .stage ≡ Stage.Finished header body) ↔ ((f : Fits limit hs bs) × Finished f × (header ≡ length (f .header)) × (body ≡ length (f .body)))
+finished-exactly limit slot lent hs bs h header body = (
+  (λ e. let s = subst (λ (x : Stage). StageFor o x) e (h .stage) in (o, s .0, s .1, s .2)),
+  (λ r.
+      let one = finished-one limit hs bs (r .0) o (r .1) in
+      stage-one limit hs bs o (slot .stage) (Stage.Finished header body) (h .stage) (finished-every limit hs bs (r .0) o (r .1), r .2 ∙ ap length (sym (one .0)), r .3 ∙ ap length (sym (one .1)))),
+)
+  where
+    o : Fits limit hs bs
+    o = h .gathers .object
