@@ -1,6 +1,6 @@
 -- Both parts of a slot that holds segments: what is read off them is what these segments give, the test is exact, and one
 -- segment more is held.
-use mathlib.Core.Path.{_≡_, refl, sym, ap, _∙_}
+use mathlib.Core.Path.{_≡_, refl, sym, ap, _∙_, subst}
 use mathlib.Core.Logic.{inl, inr, _↔_}
 use mathlib.Core.Bool.{Bool, true, false}
 use mathlib.Core.List.{List, [], _∷_}
@@ -160,21 +160,33 @@ settled-marks : (p : Record) (m : Memory) → settled p m .marks ≡ m .marks
 unfolding settled
 settled-marks p m = refl
 
-header-next : (limit : ℕ) (s : Segment) (ps : Parts) (hs bs : List Segment) → Gathers limit ps hs bs → ¬ (Numbered (s .number) hs) → Fits limit (s ∷ hs) bs → Gathers limit (partsWith Header limit s ps) (s ∷ hs) bs
+-- the parts that are left, by the records that the segments give
+header-parts : (limit : ℕ) (s : Segment) (ps : Parts) (hs bs : List Segment) → Gathers limit ps hs bs → partsWith Header limit s ps ≡ record { header = put s (settled (recordOf (boundsOf Header limit (coreOf (s ∷ hs))) (summary (s ∷ hs))) (ps .header)); body = settled (recordOf (boundsOf Body limit (coreOf (s ∷ hs))) (summary bs)) (ps .body) }
 unfolding partsWith
-header-next limit s ps hs bs g a f =
-    rw (core-read limit ps hs bs g, record-with Header limit ps hs bs g (boundsOf Header limit (coreOf (s ∷ hs))) s, record-within Body limit ps hs bs g (boundsOf Body limit (coreOf (s ∷ hs))))
-    (record {
-      object = f;
-      shape = record {
-        headerShare = put-length b c S L (ps .header) s hs (g .header) w room ∙ g .shape .headerShare;
-        bodyShare = settled-length b' c' T M (ps .body) bs (g .body) room' w' ∙ g .shape .bodyShare;
-        headerMarks = put-marks s (recordOf c (summary (s ∷ hs))) (ps .header) ∙ g .shape .headerMarks;
-        bodyMarks = rw settled-marks (g .shape .bodyMarks);
-      };
-      header = put-keeps b c S L (ps .header) s hs (g .header) w room a (omega (arith, g .shape .headerMarks, sent-number headerNumbers S (f .header) s (f .headerCuts) (f .headerSent .0)));
-      body = settled-keeps b' c' T M (ps .body) bs (g .body) room' w' (met-after Body limit s (coreOf hs));
-    })
+header-parts limit s ps hs bs g =
+    let c : coreAfter s (coreIn (ps .header)) ≡ coreOf (s ∷ hs) = ap (coreAfter s) (core-read limit ps hs bs g) in
+    let h = ap (λ (x : Core). recordWith (boundsOf Header limit x) s (ps .header)) c ∙ record-with Header limit ps hs bs g (boundsOf Header limit (coreOf (s ∷ hs))) s in
+    let b = ap (λ (x : Core). recordWithin (boundsOf Body limit x) (ps .body)) c ∙ record-within Body limit ps hs bs g (boundsOf Body limit (coreOf (s ∷ hs))) in
+    λ i. record { header = put s (settled (h i) (ps .header)); body = settled (b i) (ps .body) }
+
+body-parts : (limit : ℕ) (s : Segment) (ps : Parts) (hs bs : List Segment) → Gathers limit ps hs bs → partsWith Body limit s ps ≡ record { header = ps .header; body = put s (settled (recordOf (boundsOf Body limit (coreOf hs)) (summary (s ∷ bs))) (ps .body)) }
+unfolding partsWith
+body-parts limit s ps hs bs g =
+    let b = ap (λ (x : Core). recordWith (boundsOf Body limit x) s (ps .body)) (core-read limit ps hs bs g) ∙ record-with Body limit ps hs bs g (boundsOf Body limit (coreOf hs)) s in
+    λ i. record { header = ps .header; body = put s (settled (b i) (ps .body)) }
+
+header-next : (limit : ℕ) (s : Segment) (ps : Parts) (hs bs : List Segment) → Gathers limit ps hs bs → ¬ (Numbered (s .number) hs) → Fits limit (s ∷ hs) bs → Gathers limit (partsWith Header limit s ps) (s ∷ hs) bs
+header-next limit s ps hs bs g a f = subst (λ (x : Parts). Gathers limit x (s ∷ hs) bs) (sym (header-parts limit s ps hs bs g)) (record {
+  object = f;
+  shape = record {
+    headerShare = put-length b c S L (ps .header) s hs (g .header) w room ∙ g .shape .headerShare;
+    bodyShare = settled-length b' c' T M (ps .body) bs (g .body) room' w' ∙ g .shape .bodyShare;
+    headerMarks = put-marks s (recordOf c (summary (s ∷ hs))) (ps .header) ∙ g .shape .headerMarks;
+    bodyMarks = rw settled-marks (g .shape .bodyMarks);
+  };
+  header = put-keeps b c S L (ps .header) s hs (g .header) w room a (omega (arith, g .shape .headerMarks, sent-number headerNumbers S (f .header) s (f .headerCuts) (f .headerSent .0)));
+  body = settled-keeps b' c' T M (ps .body) bs (g .body) room' w' (met-after Body limit s (coreOf hs));
+})
   where
     old : Fits limit hs bs
     old = fits-less Header limit s hs bs f
@@ -216,20 +228,17 @@ header-next limit s ps hs bs g a f =
     room' = fits-room Body limit ps hs bs old (g .shape)
 
 body-next : (limit : ℕ) (s : Segment) (ps : Parts) (hs bs : List Segment) → Gathers limit ps hs bs → ¬ (Numbered (s .number) bs) → Fits limit hs (s ∷ bs) → Gathers limit (partsWith Body limit s ps) hs (s ∷ bs)
-unfolding partsWith
-body-next limit s ps hs bs g a f =
-    rw (core-read limit ps hs bs g, record-with Body limit ps hs bs g (boundsOf Body limit (coreOf hs)) s)
-    (record {
-      object = f;
-      shape = record {
-        headerShare = g .shape .headerShare;
-        bodyShare = put-length b b T M (ps .body) s bs (g .body) w room ∙ g .shape .bodyShare;
-        headerMarks = g .shape .headerMarks;
-        bodyMarks = put-marks s (recordOf b (summary (s ∷ bs))) (ps .body) ∙ g .shape .bodyMarks;
-      };
-      header = g .header;
-      body = put-keeps b b T M (ps .body) s bs (g .body) w room a (omega (arith, g .shape .bodyMarks, sent-number bodyNumbers T (f .body) s (f .bodyCuts) (f .bodySent .0)));
-    })
+body-next limit s ps hs bs g a f = subst (λ (x : Parts). Gathers limit x hs (s ∷ bs)) (sym (body-parts limit s ps hs bs g)) (record {
+  object = f;
+  shape = record {
+    headerShare = g .shape .headerShare;
+    bodyShare = put-length b b T M (ps .body) s bs (g .body) w room ∙ g .shape .bodyShare;
+    headerMarks = g .shape .headerMarks;
+    bodyMarks = put-marks s (recordOf b (summary (s ∷ bs))) (ps .body) ∙ g .shape .bodyMarks;
+  };
+  header = g .header;
+  body = put-keeps b b T M (ps .body) s bs (g .body) w room a (omega (arith, g .shape .bodyMarks, sent-number bodyNumbers T (f .body) s (f .bodyCuts) (f .bodySent .0)));
+})
   where
     T : ℕ
     T = f .bodyCut

@@ -22,17 +22,16 @@ use Rattle.cut.specs.declared.Core.{Core}
 use Rattle.cut.specs.declared.Core.the-variants.{Unseen, Seen}
 use Rattle.cut.specs.declared.Bounds.{Bounds}
 use Rattle.cut.specs.declared.Record.{Record}
-use Rattle.cut.specs.Decision.{pick, boundsOf, coreTests, coreFits, room, possible, addPart, joins, derived, settle, coreAfter, finished}
-use Rattle.cut.specs.LawsDecision.{EndSits, TopSits, Suits, both-true, all-true, false-true, possible-iff}
+use Rattle.cut.specs.Decision.{pick, boundsOf, coreTests, coreFits, room, possible, addPart, joins, derived, settle, coreAfter}
+use Rattle.cut.specs.LawsDecision.{EndSits, TopSits, Suits, both-true, all-true, possible-iff}
 use Rattle.cut.specs.LawsObject.{WithinOf}
 use Rattle.cut.specs.Marks.{topFrom, top-high, top-open, top-ended, total-some}
 use Rattle.cut.specs.LawsSegment.{SitsAs}
 use Rattle.cut.specs.Sums.{ended, possibleIn, acceptsIn, fullIn, suitsIn, possible-in}
 use Rattle.slot.specs.declared.Slot.{Slot}
 use Rattle.slot.specs.declared.Stage.{Stage}
-use Rattle.slot.specs.declared.Stage.the-variants.{Free, Gathering, Finished}
 use Rattle.slot.specs.Memory.{Memory, placeOf, lengthOf}
-use Rattle.slot.specs.Take.{Lent, Parts, partsOf, memoryOf, coreIn, takesIn, recordWith, recordWithin, stageBy, stageOf}
+use Rattle.slot.specs.Take.{Lent, Parts, partsOf, memoryOf, coreIn, takesIn, recordWith, recordWithin, stageOf}
 use Rattle.slot.specs.Sound.{endRight, recordRight, sameStage, soundParts, soundSlot}
 use Rattle.slot.specs.Shape.{widthOf, numbersOf, Shaped, Bits, coreWith, recordAfter, Placed, Small, Moves}
 
@@ -460,39 +459,3 @@ lent-bits slot lent h =
     let n : ℕ = length (drop headerNumbers (lent .marks)) in
     let e : take n (drop headerNumbers (lent .marks)) ≡ drop headerNumbers (lent .marks) = take-all n (drop headerNumbers (lent .marks)) (omega arith) in
     (omega (arith, largest-part (lent .marks) 0 headerNumbers), omega (arith, largest-part (lent .marks) headerNumbers n, ap largestOf e))
-
-pub same-stage : (x y : Stage) → sameStage x y ≡ true → x ≡ y
-same-stage Free Free e = refl
-same-stage Free Gathering e = absurd (false-true refl e)
-same-stage Free (Finished h b) e = absurd (false-true refl e)
-same-stage Gathering Free e = absurd (false-true refl e)
-same-stage Gathering Gathering e = refl
-same-stage Gathering (Finished h b) e = absurd (false-true refl e)
-same-stage (Finished h b) Free e = absurd (false-true refl e)
-same-stage (Finished h b) Gathering e = absurd (false-true refl e)
-same-stage (Finished h b) (Finished h' b') e = let r = both-true (eqb h h') (eqb b b') e in rw (eqb-true h h' (r .0), eqb-true b b' (r .1)) refl
-
--- the stage of a sound slot is the one that its parts give
-pub sound-stage : (limit : ℕ) (stage : Stage) (ps : Parts) → soundParts limit stage ps ≡ true → stage ≡ stageOf ps
-unfolding soundParts
-sound-stage limit stage ps e =
-    let c : Core = coreIn (ps .header) in
-    let t = all-true (recordRight (boundsOf Header limit c) (ps .header) ∷ recordRight (boundsOf Body limit c) (ps .body) ∷ suitsIn limit c (ps .header .kept) (ps .header .marks) (ps .body .kept) (ps .body .marks) ∷ sameStage stage (stageOf ps) ∷ []) e in
-    same-stage stage (stageOf ps) (t .1 .1 .1 .0)
-
-finished-core : (done : Bool) (c : Core) (h b : ℕ) → stageBy done c ≡ Finished h b → c ≡ Seen b h
-finished-core false c h b e = let z : _≡_ {A = ℕ} 0 1 = cc in absurd (omega arith)
-finished-core true Unseen h b e = let z : _≡_ {A = ℕ} 0 1 = cc in absurd (omega arith)
-finished-core true (Seen body header) h b e = let x : header ≡ h = cc in let y : body ≡ b = cc in rw (x, y) refl
-
-core-lengths : (limit h b : ℕ) → coreFits limit (Seen b h) ≡ true → (h ≤ headerMost) × (b ≤ limit)
-unfolding coreFits
-core-lengths limit h b e = let t = all-true (coreTests limit (Seen b h)) e in (leb-true h headerMost (t .1 .0), leb-true b limit (t .1 .1 .0))
-
--- the two lengths of a finished object lie inside the shares
-pub finished-inside : (limit h b : ℕ) (ps : Parts) → soundParts limit (Finished h b) ps ≡ true → (h ≤ headerMost) × (b ≤ limit)
-unfolding stageOf
-finished-inside limit h b ps e =
-    let d : Bool = finished (coreIn (ps .header)) (sumOf (ps .header .marks)) (ps .header .kept) (sumOf (ps .body .marks)) (ps .body .kept) in
-    let c : coreIn (ps .header) ≡ Seen b h = finished-core d (coreIn (ps .header)) h b (sym (sound-stage limit (Finished h b) ps e)) in
-    core-lengths limit h b (rw c at (sound-right Header limit (Finished h b) ps e .core))

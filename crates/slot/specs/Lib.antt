@@ -9,6 +9,7 @@ pub mod HeldBytes
 pub mod HeldPart
 pub mod HeldSlot
 pub mod StepStage
+pub mod StageInside
 pub mod Step
 pub mod State
 pub mod StatePart

@@ -25,7 +25,8 @@ use Rattle.slot.specs.Memory.{heldIn}
 use Rattle.slot.specs.Take.{Lent, Parts, partsOf, memoryOf, stageOf}
 use Rattle.slot.specs.Sound.{soundParts, soundSlot}
 use Rattle.slot.specs.Shape.{IsLent, Shaped}
-use Rattle.slot.specs.Inside.{each-bit, lent-shaped, lent-bits, sound-slot, sound-stage}
+use Rattle.slot.specs.Inside.{each-bit, lent-shaped, lent-bits, sound-slot}
+use Rattle.slot.specs.StageInside.{sound-stage}
 use Rattle.slot.specs.Held.{Keeps, Gathers, StageFor, Holds}
 use Rattle.slot.specs.HeldIn.{held-reads, held-marked}
 use Rattle.slot.specs.HeldPart.{reads-keeps}
