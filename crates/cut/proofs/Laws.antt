@@ -9,13 +9,13 @@ use native.Mathlib.Decide.{decLe}
 use native.Mathlib.Omega.{arith}
 use lib.Dec.{leb, ltb, eqb}
 use borrow.Author.Tests.{leb-true, le-leb, lt-leb, lt-ltb, le-ltb, ne-eqb, eq-eqb}
-use Rattle.cut.specs.Lists.{Each}
+use Rattle.cut.specs.Lists.{pick, Each}
 use Rattle.cut.specs.Requirement.{sizeLeast, sizeMost}
 use Rattle.cut.specs.declared.Core.{Core}
 use Rattle.cut.specs.declared.Core.the-variants.{Seen}
 use Rattle.cut.specs.declared.Bounds.{Bounds}
 use Rattle.cut.specs.declared.Record.{Record}
-use Rattle.cut.specs.Decision.{pick, both, all, whole, finished, openTests, endedTests, roomOpen, roomEnded, roomAs, room, laterTests, aloneTests, possible, divided, derived}
+use Rattle.cut.specs.Decision.{both, all, whole, finished, openTests, endedTests, roomOpen, roomEnded, roomAs, room, laterTests, aloneTests, possible, divided, derived, tailFollows, follows}
 use Rattle.cut.specs.LawsDecision.{some-fails, true-all, pick-fails}
 
 pub refused : (bs : List Bool) → ¬ (Each (λ b. b ≡ true) bs) → false ≡ all bs
@@ -111,3 +111,20 @@ finished-some c B H h b p q e d = rw e (go B d)
     go : (B : ℕ) → B ≢ 0 → both (whole h p) (whole b q) ≡ finished (Seen B H) h p b q
     go zero d = absurd (d refl)
     go (suc B) d = refl
+
+-- a record follows
+pub tail-in : (end tail : ℕ) → end ≢ 0 → true ≡ tailFollows end tail
+tail-in zero tail d = absurd (d refl)
+tail-in (suc n) tail d = refl
+
+pub follows-full : (b : Bounds) (full : Bool) (p : Record) → full ≡ true → tailFollows (p .end) (p .tail) ≡ follows b full p
+unfolding follows
+follows-full b full p e = rw e refl
+
+pub follows-derived : (b : Bounds) (full : Bool) (p : Record) → full ≡ false → p .size ≡ derived b (p .end) (p .tail) → tailFollows (p .end) (p .tail) ≡ follows b full p
+unfolding follows
+follows-derived b full p e h = rw (e, eq-eqb (p .size) (derived b (p .end) (p .tail)) h) refl
+
+pub follows-not : (b : Bounds) (full : Bool) (p : Record) → full ≡ false → p .size ≢ derived b (p .end) (p .tail) → false ≡ follows b full p
+unfolding follows
+follows-not b full p e h = rw (e, ne-eqb (p .size) (derived b (p .end) (p .tail)) h) refl

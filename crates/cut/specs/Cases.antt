@@ -19,8 +19,8 @@ use Rattle.cut.specs.Decision.{both, all, boundsOf, coreFits, room, larg
 use Rattle.cut.specs.LawsCore.{coreBytes}
 use Rattle.cut.specs.LawsSegment.{Numbered}
 use Rattle.cut.specs.LawsDecision.{both-true, all-true, false-true}
-use Rattle.cut.specs.LawsObject.{headersWith, bodiesWith, those, passes-fits}
-use Rattle.cut.specs.Theorem.{accepted}
+use Rattle.cut.specs.LawsObject.{headersWith, bodiesWith, those}
+use Rattle.cut.specs.Theorem.{nothing-fits, accepted}
 use Rattle.cut.specs.Finished.{Counted, finished-iff}
 use Rattle.cut.specs.Known.{sizeOf, known-cut}
 
@@ -140,11 +140,6 @@ module _ (kind : Part) (s : Segment) (hs bs : List Segment) (f : Fits limit hs b
   comes-never : decided kind s hs bs ≡ false → ¬ (Fits limit (headersWith kind s hs) (bodiesWith kind s bs))
   comes-never e g = false-true e (accepted kind limit s hs bs (omega arith) bytes f new .1 g)
 
--- nothing at all fits
-nothing-fits : Fits limit [] []
-unfolding suits coreFits boundsOf alone
-nothing-fits = passes-fits limit [] [] (omega arith) tt tt (record { headerAgree = tt; headerClear = tt; bodyAgree = tt; bodyClear = tt; suit = refl })
-
 -- segments that come one after the other
 abbrev runs : List (Part × Segment) → List Segment → List Segment → Bool
 runs [] hs bs = true
@@ -223,7 +218,7 @@ module _ (held : List (Part × Segment)) (kind : Part) (s : Segment) where
   judged conflicts = not verdictOf
 
   before : testsOf ≡ true → Fits limit (headersIn held []) (bodiesIn held [])
-  before t = held-fits held [] [] nothing-fits (both-true (runs held [] []) (ready kind s (headersIn held []) (bodiesIn held [])) t .0)
+  before t = held-fits held [] [] (nothing-fits limit (omega arith)) (both-true (runs held [] []) (ready kind s (headersIn held []) (bodiesIn held [])) t .0)
 
   after : testsOf ≡ true → verdictOf ≡ true → Fits limit headersOf bodiesOf
   after t e = comes-fits kind s (headersIn held []) (bodiesIn held []) (before t) (both-true (runs held [] []) (ready kind s (headersIn held []) (bodiesIn held [])) t .1) e

@@ -6,6 +6,7 @@ use mathlib.Core.List.{List, [], _∷_}
 use Prim.Native.Nat.{ℕ, zero, suc, _+_, _-_, _*_, _/_, min, max}
 use lib.ListN.{length}
 use lib.Dec.{eqb, leb}
+use Rattle.cut.specs.Lists.{pick}
 use Rattle.cut.specs.Requirement.{headerLeast, headerMost, sizeLeast, sizeMost, headerNumbers, bodyNumbers, bodySize, headerSize, Segment}
 use Rattle.answer.specs.declared.Part.{Part}
 use Rattle.answer.specs.declared.Part.the-variants.{Header, Body}
@@ -13,10 +14,6 @@ use Rattle.cut.specs.declared.Core.{Core}
 use Rattle.cut.specs.declared.Core.the-variants.{Unseen, Seen}
 use Rattle.cut.specs.declared.Bounds.{Bounds}
 use Rattle.cut.specs.declared.Record.{Record}
-
-abbrev pub pick : {A : Type 0} → Bool → A → A → A
-pick true a b = a
-pick false a b = b
 
 abbrev pub both : Bool → Bool → Bool
 both true b = b
@@ -140,6 +137,18 @@ settle b full p = record { size = pick full (p .size) (derived b (p .end) (p .ta
 abbrev pub recordOf : Bounds → Summary → Record
 recordOf b σ = settle b (someFull σ) (σ .part)
 
+-- a record is one that segments give: no last one, no tail; no full one, the size that the part's length gives
+abbrev pub tailFollows : ℕ → ℕ → Bool
+tailFollows zero tail = eqb tail 0
+tailFollows (suc n) tail = true
+
+abbrev pub sizeFollows : Bool → ℕ → ℕ → Bool
+sizeFollows true size given = true
+sizeFollows false size given = eqb size given
+
+unfoldable pub follows : Bounds → Bool → Record → Bool
+follows b full p = both (sizeFollows full (p .size) (derived b (p .end) (p .tail))) (tailFollows (p .end) (p .tail))
+
 -- so many numbers are in: every one of them, up to the last
 abbrev pub whole : ℕ → Record → Bool
 whole count p = both (leb 1 (p .end)) (eqb count (p .end))
@@ -153,17 +162,20 @@ abbrev pub coreOf : List Segment → Core
 coreOf [] = Unseen
 coreOf (s ∷ ss) = coreAfter s (coreOf ss)
 
--- what is kept of the header and of the body suits some object and cut
-abbrev pub suitTests : ℕ → Core → Summary → Summary → List Bool
-suitTests limit c σ τ = coreFits limit c ∷ possible (boundsOf Header limit c) (σ .top) (σ .part) ∷ possible (boundsOf Body limit c) (τ .top) (τ .part) ∷ []
+-- what is kept of the header, top and record, and of the body suits some object and cut
+abbrev pub suitTests : ℕ → Core → ℕ → Record → ℕ → Record → List Bool
+suitTests limit c h p b q = coreFits limit c ∷ possible (boundsOf Header limit c) h p ∷ possible (boundsOf Body limit c) b q ∷ []
 
-unfoldable pub suits : ℕ → Core → Summary → Summary → Bool
-suits limit c σ τ = all (suitTests limit c σ τ)
+unfoldable pub suits : ℕ → Core → ℕ → Record → ℕ → Record → Bool
+suits limit c h p b q = all (suitTests limit c h p b q)
+
+abbrev pub suitsBoth : ℕ → Core → Summary → Summary → Bool
+suitsBoth limit c σ τ = suits limit c (σ .top) (σ .part) (τ .top) (τ .part)
 
 -- THE DECISION: a segment of a new number fits what is kept
 abbrev pub accepts : Part → ℕ → Core → Summary → Summary → Segment → Bool
-accepts Header limit c σ τ s = both (joins (someFull σ) (s .last) (length (s .bytes)) (σ .part)) (suits limit (coreAfter s c) (addTo s σ) τ)
-accepts Body limit c σ τ s = both (joins (someFull τ) (s .last) (length (s .bytes)) (τ .part)) (suits limit c σ (addTo s τ))
+accepts Header limit c σ τ s = both (joins (someFull σ) (s .last) (length (s .bytes)) (σ .part)) (suitsBoth limit (coreAfter s c) (addTo s σ) τ)
+accepts Body limit c σ τ s = both (joins (someFull τ) (s .last) (length (s .bytes)) (τ .part)) (suitsBoth limit c σ (addTo s τ))
 
 -- every segment of the object is in: h numbers of the header are, and b of the body, which may have none
 abbrev pub finished : Core → ℕ → Record → ℕ → Record → Bool

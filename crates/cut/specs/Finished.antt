@@ -11,8 +11,8 @@ use lib.ListN.{length, take, drop, drop-of-length-le}
 use lib.Seq.{take-add, take-all, take-nil}
 use lib.Dec.{eqb, leb}
 use borrow.Author.Tests.{ne-eqb, eqb-true, eqb-false, le-leb}
-use Rattle.cut.specs.Lists.{Each, Among, each-map, each-among}
-use Rattle.cut.specs.Requirement.{headerNumbers, bodyNumbers, IsCut, Segment, Sends, Fits, Whole, Finished, bytesIf, bytesOf, joined}
+use Rattle.cut.specs.Lists.{pick, Each, Among, each-map, each-among}
+use Rattle.cut.specs.Requirement.{headerNumbers, bodyNumbers, IsCut, Segment, Sends, Fits, Whole, Finished, bytesOf, joined}
 use Rattle.cut.specs.declared.Core.{Core}
 use Rattle.cut.specs.declared.Core.the-variants.{Unseen, Seen}
 use Rattle.cut.specs.Decision.{Summary, addPart, summary, coreOf}
@@ -99,7 +99,7 @@ whole-empty xs S ss e s u = absurd (omega (arith, u .starts))
 
 -- ---- joined
 
-bytes-step : (b : Bool) (n : ℕ) (s : Segment) (ss : List Segment) (xs : List ℕ) (S : ℕ) → eqb (s .number) n ≡ b → Sends xs S s → (Numbered n ss → bytesOf n ss ≡ take S (drop (n * S) xs)) → Numbered n (s ∷ ss) → bytesIf b (s .bytes) (bytesOf n ss) ≡ take S (drop (n * S) xs)
+bytes-step : (b : Bool) (n : ℕ) (s : Segment) (ss : List Segment) (xs : List ℕ) (S : ℕ) → eqb (s .number) n ≡ b → Sends xs S s → (Numbered n ss → bytesOf n ss ≡ take S (drop (n * S) xs)) → Numbered n (s ∷ ss) → pick b (s .bytes) (bytesOf n ss) ≡ take S (drop (n * S) xs)
 bytes-step true n s ss xs S e u r i = u .holds ∙ ap (λ (m : ℕ). take S (drop (m * S) xs)) (eqb-true (s .number) n e)
 bytes-step false n s ss xs S e u r (inl i) = absurd (eqb-false (s .number) n e i)
 bytes-step false n s ss xs S e u r (inr i) = r i
@@ -127,6 +127,7 @@ module _ (xs : List ℕ) (S : ℕ) (ss : List Segment) (t : Each (Sends xs S) ss
       go (no h) = bytes-out n ss (λ i. h (numbered-starts n ss xs S t i)) ∙ sym (ap (take S) (drop-of-length-le xs {i = n * S} (omega arith)) ∙ take-nil S)
 
   joined-front : (n : ℕ) → joined n ss ≡ take (n * S) xs
+  unfolding joined
   joined-front zero = let z : 0 * S ≡ 0 = zero-mul S in rw z refl
   joined-front (suc n) =
       let e : n * S + S ≡ suc n * S = omega arith in

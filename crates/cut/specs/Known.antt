@@ -10,17 +10,17 @@ use native.Mathlib.Omega.{arith}
 use lib.ListN.{length, replicate}
 use lib.Dec.{leb}
 use borrow.Author.Tests.{leb-true, le-leb, eq-eqb, ne-eqb}
-use Rattle.cut.specs.Lists.{Each}
+use Rattle.cut.specs.Lists.{pick, Each, bytes-zeros}
 use Rattle.cut.specs.Requirement.{limitLeast, limitMost, sizeLeast, sizeMost, Segment, Fits}
 use Rattle.answer.specs.declared.Part.{Part}
 use Rattle.answer.specs.declared.Part.the-variants.{Header, Body}
 use Rattle.cut.specs.declared.Core.{Core}
 use Rattle.cut.specs.declared.Core.the-variants.{Unseen, Seen}
 use Rattle.cut.specs.declared.Bounds.{Bounds}
-use Rattle.cut.specs.Decision.{pick, boundsOf, derived, settle, summary, recordOf, coreOf, coreTests, coreFits}
+use Rattle.cut.specs.Decision.{boundsOf, derived, settle, summary, recordOf, coreOf, coreTests, coreFits, alone, largest, suits}
 use Rattle.cut.specs.LawsSegment.{PartSits, Sits, sends-sits}
 use Rattle.cut.specs.LawsDecision.{all-true, TopSits, EndSits, SumSits, sits-sum, sum-sits}
-use Rattle.cut.specs.LawsObject.{those, partOf, cutOf, WithinOf, fits-within, fits-sits, fits-passes, fits-core, sits-object, header-bytes, body-bytes}
+use Rattle.cut.specs.LawsObject.{those, partOf, cutOf, WithinOf, fits-within, fits-sits, fits-passes, fits-core, sits-object, header-bytes, body-bytes, passes-fits}
 
 -- ---- in numbers
 
@@ -152,3 +152,8 @@ only = record { number = 63; last = true; bytes = replicate 16 0 }
 pub one-left : (f : Fits 12288 (only ∷ []) []) → (f .headerCut ≡ 16) × (sizeOf Header 12288 (only ∷ []) [] ≡ 0)
 unfolding Sits sizeOf settle boundsOf
 one-left f = let s = sends-sits (f .header) (f .headerCut) only (f .headerSent .0) in (omega (arith, s, f .headerCuts .low, f .object .headerHigh), refl)
+
+-- that one fits
+pub only-fits : Fits 12288 (only ∷ []) []
+unfolding suits coreFits boundsOf alone largest
+only-fits = passes-fits 12288 (only ∷ []) [] (omega arith) (bytes-zeros 16, tt) tt (record { headerAgree = (tt, tt); headerClear = (tt, tt); bodyAgree = tt; bodyClear = tt; suit = refl })

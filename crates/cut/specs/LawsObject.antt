@@ -8,14 +8,14 @@ use native.Mathlib.Omega.{arith}
 use lib.ListN.{length, take, drop, replicate, length-replicate, length-append}
 use lib.Dec.{eqb}
 use borrow.Author.Tests.{eqb-true, eqb-false, leb-true, le-leb}
-use Rattle.cut.specs.Lists.{Each, Bytes, each-map, bytes-append, bytes-zeros}
+use Rattle.cut.specs.Lists.{pick, Each, Bytes, each-map, bytes-append, bytes-zeros}
 use Rattle.cut.specs.Requirement.{headerLeast, headerMost, limitMost, sizeLeast, headerNumbers, bodyNumbers, bodySize, headerSize, IsObject, IsCut, Segment, Sends, Fits}
 use Rattle.answer.specs.declared.Part.{Part}
 use Rattle.answer.specs.declared.Part.the-variants.{Header, Body}
 use Rattle.cut.specs.declared.Core.{Core}
 use Rattle.cut.specs.declared.Core.the-variants.{Unseen, Seen}
 use Rattle.cut.specs.declared.Bounds.{Bounds}
-use Rattle.cut.specs.Decision.{pick, boundsOf, coreTests, coreFits, possible, summary, coreOf, suitTests, suits}
+use Rattle.cut.specs.Decision.{boundsOf, coreTests, coreFits, possible, summary, coreOf, suitTests, suits, suitsBoth}
 use Rattle.cut.specs.LawsCore.{coreBytes, core-body, core-header, core-is-bytes, front-body, front-header}
 use Rattle.cut.specs.LawsSegment.{Sits, Agree, Within, PartFits, PartSits, sits-fits, sends-agree, sends-sits, sent-bytes, fill, fill-length, fill-bytes, fill-sends, fill-front}
 use Rattle.cut.specs.LawsDecision.{Clear, all-true, true-all, sits-possible, possible-sits}
@@ -83,7 +83,7 @@ pub record Passes (limit : ℕ) (hs bs : List Segment) : Type 0 where
   pub headerClear : Clear hs
   pub bodyAgree : Agree bs
   pub bodyClear : Clear bs
-  pub suit : suits limit (coreOf hs) (summary hs) (summary bs) ≡ true
+  pub suit : suitsBoth limit (coreOf hs) (summary hs) (summary bs) ≡ true
 
 -- a size and a length within the bounds of a part
 abbrev pub WithinOf : Bounds → ℕ → ℕ → Type 0
@@ -135,7 +135,7 @@ module _ (limit : ℕ) (hs bs : List Segment) (f : Fits limit hs bs) where
     headerClear = fits-possible Header .0;
     bodyAgree = sends-agree (f .body) (f .bodyCut) bs (f .bodySent);
     bodyClear = fits-possible Body .0;
-    suit = true-all (suitTests limit (coreOf hs) (summary hs) (summary bs))
+    suit = true-all (suitTests limit (coreOf hs) (summary hs .top) (summary hs .part) (summary bs .top) (summary bs .part))
         (fits-core, (fits-possible Header .1, (fits-possible Body .1, tt)));
   }
 
@@ -268,7 +268,7 @@ sits-object limit hs bs z yh yb ah ab (Seen B H) e k p q =
 pub passes-fits : (limit : ℕ) (hs bs : List Segment) → limit ≤ limitMost → Each (λ s. Bytes (s .bytes)) hs → Each (λ s. Bytes (s .bytes)) bs → Passes limit hs bs → Fits limit hs bs
 unfolding suits
 passes-fits limit hs bs z yh yb t =
-    let r = all-true (suitTests limit (coreOf hs) (summary hs) (summary bs)) (t .suit) in
+    let r = all-true (suitTests limit (coreOf hs) (summary hs .top) (summary hs .part) (summary bs .top) (summary bs .part)) (t .suit) in
     sits-object limit hs bs z yh yb (t .headerAgree) (t .bodyAgree) (coreOf hs) refl (r .0)
     (possible-sits (boundsOf Header limit (coreOf hs)) hs (t .headerClear) (r .1 .0))
     (possible-sits (boundsOf Body limit (coreOf hs)) bs (t .bodyClear) (r .1 .1 .0)) .0

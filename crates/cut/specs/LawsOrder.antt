@@ -9,12 +9,12 @@ use native.Mathlib.Omega.{arith}
 use lib.ListN.{length}
 use lib.Dec.{eqb}
 use borrow.Author.Tests.{eqb-true, eqb-false, ne-eqb}
-use Rattle.cut.specs.Lists.{Each, Among, each-map, each-among, among-each}
+use Rattle.cut.specs.Lists.{pick, Each, Among, each-map, each-among, among-each}
 use Rattle.cut.specs.Requirement.{bodySize, headerSize, Segment, Fits}
 use Rattle.cut.specs.declared.Core.{Core}
 use Rattle.cut.specs.declared.Core.the-variants.{Unseen, Seen}
 use Rattle.cut.specs.declared.Record.{Record}
-use Rattle.cut.specs.Decision.{pick, Summary, addPart, addTop, summary, coreOf}
+use Rattle.cut.specs.Decision.{Summary, addPart, addTop, summary, coreOf}
 use Rattle.cut.specs.LawsSegment.{Numbered, Same, Agree, same-is, among-numbered}
 use Rattle.cut.specs.LawsDecision.{SizeIs, EndIs, JoinsAs, Clear}
 use Rattle.cut.specs.LawsObject.{fits-passes}

@@ -1,12 +1,18 @@
--- Lists, for any use: what holds of each element, what is among them, and a run of bytes written over a list.
+-- Lists, for any use: a choice by a test, what holds of each element, what is among them, and a run of bytes written over a list.
 use Rattle.octets.specs.Octets.{over}
-use mathlib.Core.Path.{_≡_, refl, sym, ap, _∙_, subst}
+use mathlib.Core.Path.{_≡_, refl, subst}
 use mathlib.Core.Logic.{_⊎_, inl, inr}
-use mathlib.Core.List.{List, [], _∷_, _++_, append-assoc}
+use mathlib.Core.Bool.{Bool, true, false}
+use mathlib.Core.List.{List, [], _∷_, _++_}
 use Prim.Native.Nat.{ℕ, zero, suc, _+_, _-_, _≤_, _<_}
 use native.Mathlib.Omega.{arith}
-use lib.ListN.{length, take, drop, replicate, length-append, length-take, length-drop}
-use lib.Seq.{take-append-le, drop-append-le, take-at, drop-at, drop-drop, take-take, take-add}
+use lib.ListN.{length, take, drop, replicate, length-take, length-drop}
+use lib.Seq.{take-append-le, drop-append-le, drop-at, take-take, take-add}
+
+-- a if the test passes, else b
+abbrev pub pick : {A : Type 0} → Bool → A → A → A
+pick true a b = a
+pick false a b = b
 
 -- P holds of each element
 abbrev pub Each : {A : Type 0} → (A → Type 0) → List A → Type 0

@@ -1,13 +1,14 @@
 -- The requirement: document 01, "One object, one cut". What an object is, how it is cut into segments, when segments
 -- fit one object and one cut, when they are all of it, and what they then join to.
--- `Each P l` says that P holds of each element of l, `Among x l` that x is one of l, `Bytes l` that each is below 256.
+-- `Each P l` says that P holds of each element of l, `Among x l` that x is one of l, `Bytes l` that each is below 256;
+-- `pick t a b` is a if the test t passes, else b.
 use mathlib.Core.Path.{_≡_}
-use mathlib.Core.Bool.{Bool, true, false}
+use mathlib.Core.Bool.{Bool}
 use mathlib.Core.List.{List, [], _∷_, _++_}
 use Prim.Native.Nat.{ℕ, zero, suc, _+_, _*_, _/_, _%_, _≤_, _<_}
 use lib.ListN.{length, take, drop, getD}
 use lib.Dec.{eqb, leb}
-use Rattle.cut.specs.Lists.{Each, Among, Bytes}
+use Rattle.cut.specs.Lists.{pick, Each, Among, Bytes}
 
 -- ---- the numbers that bound it
 
@@ -111,15 +112,11 @@ pub record Finished {limit : ℕ} {headerSegments bodySegments : List Segment} (
   pub body : Whole (fit .body) (fit .bodyCut) bodySegments
 
 -- the bytes of the segment of that number
-abbrev pub bytesIf : Bool → List ℕ → List ℕ → List ℕ
-bytesIf true bytes others = bytes
-bytesIf false bytes others = others
-
 abbrev pub bytesOf : ℕ → List Segment → List ℕ
 bytesOf n [] = []
-bytesOf n (s ∷ segments) = bytesIf (eqb (s .number) n) (s .bytes) (bytesOf n segments)
+bytesOf n (s ∷ segments) = pick (eqb (s .number) n) (s .bytes) (bytesOf n segments)
 
 -- the bytes of all segments of a number below n, joined by number
-abbrev pub joined : ℕ → List Segment → List ℕ
+unfoldable pub joined : ℕ → List Segment → List ℕ
 joined zero segments = []
 joined (suc n) segments = joined n segments ++ bytesOf n segments

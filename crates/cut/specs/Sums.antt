@@ -4,23 +4,23 @@ use mathlib.Core.Path.{_≡_, refl, sym, ap, _∙_}
 use mathlib.Core.Logic.{_↔_}
 use mathlib.Core.Bool.{Bool, true, false}
 use mathlib.Core.List.{List, [], _∷_}
-use Prim.Native.Nat.{ℕ, zero, suc, _≤_, _<_, min, max}
+use Prim.Native.Nat.{ℕ, zero, suc, _≤_, _<_, min, max, _-_, _/_}
 use native.Mathlib.Decide.{decLe}
 use native.Mathlib.Omega.{arith}
 use lib.ListN.{length, drop, getD}
 use lib.Dec.{eqb, leb}
-use borrow.Author.Tests.{eq-eqb, ne-eqb, le-leb, lt-leb, eqb-true}
+use borrow.Author.Tests.{eq-eqb, ne-eqb, le-leb, lt-leb, eqb-true, leb-true}
 use Rattle.octets.specs.Octets.{sumOf}
-use Rattle.cut.specs.Lists.{Each, Bytes}
+use Rattle.cut.specs.Lists.{pick, Each, Bytes}
 use Rattle.cut.specs.Requirement.{limitMost, Segment, Fits}
 use Rattle.answer.specs.declared.Part.{Part}
 use Rattle.answer.specs.declared.Part.the-variants.{Header, Body}
 use Rattle.cut.specs.declared.Core.{Core}
 use Rattle.cut.specs.declared.Bounds.{Bounds}
 use Rattle.cut.specs.declared.Record.{Record}
-use Rattle.cut.specs.Decision.{pick, both, all, boundsOf, coreFits, endedTests, room, alone, possible, addPart, addTop, summary, joins, someFull, settle, recordOf, coreAfter, coreOf, suits, accepts}
+use Rattle.cut.specs.Decision.{both, all, boundsOf, coreFits, endedTests, room, alone, possible, addPart, addTop, summary, joins, someFull, settle, recordOf, coreAfter, coreOf, suits, suitsBoth, accepts, openTests, roomAs}
 use Rattle.cut.specs.LawsSegment.{Numbered, Agree}
-use Rattle.cut.specs.LawsDecision.{Clear}
+use Rattle.cut.specs.LawsDecision.{Clear, all-true}
 use Rattle.cut.specs.LawsObject.{headersWith, bodiesWith, those, Passes, fits-passes}
 use Rattle.cut.specs.Theorem.{end-numbered, accepted}
 use Rattle.cut.specs.Marks.{total-some, topFrom, Marked, top-kept, top-open, top-ended}
@@ -78,6 +78,22 @@ room-below false n = omega arith
 room-before : (b : Bounds) (p : Record) (n : ℕ) → p .end ≡ suc n → room b p ≤ n
 unfolding room
 room-before b p n e = rw e (room-below (all (endedTests b (p .size) n (p .tail))) n)
+
+-- and within the marks
+pick-most : (bs : List Bool) (v m : ℕ) → (Each (λ t. t ≡ true) bs → v ≤ m) → pick (all bs) v 0 ≤ m
+pick-most bs v m f = go (all bs) refl
+  where
+    go : (t : Bool) → all bs ≡ t → pick t v 0 ≤ m
+    go true e = f (all-true bs e)
+    go false e = omega arith
+
+room-as : (b : Bounds) (size end tail : ℕ) → roomAs b size end tail ≤ b .numbers
+room-as b size zero tail = pick-most (openTests b size) (min (b .numbers - 1) ((b .most - 1) / size)) (b .numbers) (λ r. omega arith)
+room-as b size (suc n) tail = pick-most (endedTests b size n tail) n (b .numbers) (λ r. omega (arith, leb-true))
+
+pub room-within : (b : Bounds) (p : Record) → room b p ≤ b .numbers
+unfolding room
+room-within b p = room-as b (p .size) (p .end) (p .tail)
 
 module _ (b : Bounds) (p : Record) (marks : List ℕ) (bits : Each (λ m. m ≤ 1) marks) where
   -- the highest full number lies below r, by the sum from r on
@@ -220,7 +236,7 @@ module _ (limit : ℕ) (hs bs : List Segment) (f : Fits limit hs bs) (headerMark
   pass : Passes limit hs bs
   pass = fits-passes limit hs bs f
 
-  pub suits-kept : (c : Core) → suitsIn limit c (recordOf (boundsOf Header limit (coreOf hs)) (summary hs)) headerMarks (recordOf (boundsOf Body limit (coreOf hs)) (summary bs)) bodyMarks ≡ suits limit c (summary hs) (summary bs)
+  pub suits-kept : (c : Core) → suitsIn limit c (recordOf (boundsOf Header limit (coreOf hs)) (summary hs)) headerMarks (recordOf (boundsOf Body limit (coreOf hs)) (summary bs)) bodyMarks ≡ suitsBoth limit c (summary hs) (summary bs)
   unfolding suitsIn suits
   suits-kept c = rw (possible-kept (boundsOf Header limit c) (boundsOf Header limit (coreOf hs)) headerMarks hs mh (pass .headerAgree) (pass .headerClear), possible-kept (boundsOf Body limit c) (boundsOf Body limit (coreOf hs)) bodyMarks bs mb (pass .bodyAgree) (pass .bodyClear)) refl
 

@@ -14,7 +14,7 @@ use Rattle.cut.specs.Requirement.{limitMost, Segment, Sends, Fits}
 use Rattle.answer.specs.declared.Part.{Part}
 use Rattle.answer.specs.declared.Part.the-variants.{Header, Body}
 use Rattle.cut.specs.declared.Record.{Record}
-use Rattle.cut.specs.Decision.{both, joins, someFull, Summary, addTo, summary, coreOf, accepts}
+use Rattle.cut.specs.Decision.{both, boundsOf, coreFits, alone, joins, someFull, Summary, addTo, summary, coreOf, suits, accepts}
 use Rattle.cut.specs.LawsSegment.{Numbered, same-is, sends-same, agree-new}
 use Rattle.cut.specs.LawsDecision.{JoinsAs, SizeIs, EndIs, both-true, true-both}
 use Rattle.cut.specs.LawsObject.{headersWith, bodiesWith, those, Passes, fits-passes, passes-fits, header-bytes, body-bytes}
@@ -22,6 +22,11 @@ use Rattle.cut.specs.LawsObject.{headersWith, bodiesWith, those, Passes,
 -- segments fit some object and cut exactly when they agree and the tests on numbers pass
 pub fits-decided : (limit : ℕ) (hs bs : List Segment) → limit ≤ limitMost → Each (λ s. Bytes (s .bytes)) hs → Each (λ s. Bytes (s .bytes)) bs → Fits limit hs bs ↔ Passes limit hs bs
 fits-decided limit hs bs z yh yb = (fits-passes limit hs bs, passes-fits limit hs bs z yh yb)
+
+-- nothing at all always fits: a first segment is looked at alone
+pub nothing-fits : (limit : ℕ) → limit ≤ limitMost → Fits limit [] []
+unfolding suits coreFits boundsOf alone
+nothing-fits limit z = passes-fits limit [] [] z tt tt (record { headerAgree = tt; headerClear = tt; bodyAgree = tt; bodyClear = tt; suit = rw (le-leb 0 limit (omega arith)) refl })
 
 -- ---- a segment of a new number
 

@@ -7,7 +7,7 @@ ghost use mathlib.Core.Path.{_≡_};
 ghost use Prim.Native.Nat.{_<_, _≤_, _-_, _*_, min};
 ghost use lib.Dec.{leb};
 ghost use Rattle.cut.specs.Requirement.{sizeLeast, sizeMost};
-ghost use Rattle.cut.specs.Decision.{boundsOf, coreFits, largest, room, roomOpen, roomEnded, all, nothingTests, firstTests, laterTests, alone, possible, addPart, joins, derived, settle, whole, finished};
+ghost use Rattle.cut.specs.Decision.{boundsOf, coreFits, largest, room, roomOpen, roomEnded, all, nothingTests, firstTests, laterTests, alone, possible, suits, addPart, joins, derived, settle, tailFollows, follows, whole, finished};
 
 pub const HEADER_LEAST: usize = 7;
 
@@ -262,6 +262,22 @@ pub fn possible(b: Bounds, top: usize, p: Record) -> bool
     top <= room(b, p)
 }
 
+// Whether what is kept of the header, its top h and its record p, and of the body, b and q, suits some object and cut.
+pub fn suits(limit: usize, core: Core, h: usize, p: Record, b: usize, q: Record) -> bool
+    ensures { λ r. ⌜ r ≡ suits limit core h p b q ⌝ }
+{
+    if !core_fits(limit, core) {
+        return false;
+    }
+    if !possible(bounds_of(Part::Header, limit, core), h, p) {
+        return false;
+    }
+    if !possible(bounds_of(Part::Body, limit, core), b, q) {
+        return false;
+    }
+    true
+}
+
 // Whether a segment of a new number goes with what is kept: there is one last segment, and full ones have one length.
 pub fn joins(full: bool, last: bool, length: usize, p: Record) -> bool
     ensures { λ r. ⌜ r ≡ joins full last length p ⌝ }
@@ -321,6 +337,28 @@ pub fn settle(b: Bounds, full: bool, p: Record) -> Record
         end: p.end,
         tail: p.tail,
     }
+}
+
+fn tail_follows(end: usize, tail: usize) -> bool
+    ensures { λ r. ⌜ r ≡ tailFollows end tail ⌝ }
+{
+    if end == 0 {
+        return tail == 0;
+    }
+    true
+}
+
+// Whether a record is one that segments give: no tail without a last one, and without a full one the size that settle gives.
+pub fn follows(b: Bounds, full: bool, p: Record) -> bool
+    ensures { λ r. ⌜ r ≡ follows b full p ⌝ }
+{
+    if full {
+        return tail_follows(p.end, p.tail);
+    }
+    if p.size == derived(b, p.end, p.tail) {
+        return tail_follows(p.end, p.tail);
+    }
+    false
 }
 
 // Whether a part is whole, with so many of its numbers in.

@@ -9,6 +9,7 @@ use borrow.Author.Tests.{lt-ltb, le-ltb, eq-eqb, ne-eqb, eqb-true, eqb-false, lt
 use lib.Dec.{eqb, ltb}
 use lib.ListN.{length, getD, set, length-set, getD-replicate, List·getD-eq-default}
 use lib.Seq.{getD-set-same, getD-set-other}
+use Rattle.octets.specs.Octets.{both}
 use Rattle.header.specs.declared.Parameter.{Parameter}
 use Rattle.header.specs.declared.Found.{Found}
 use Rattle.header.specs.declared.Found.the-variants.{Nothing, One}
@@ -19,7 +20,7 @@ use Rattle.header.specs.declared.Refusal.the-variants.{Core, Header, Dup
 use Rattle.header.specs.declared.Reading.{Reading}
 use Rattle.header.specs.declared.Reading.the-variants.{Refused, Read}
 use Rattle.header.specs.Parameters.{pick, Listed, broken, listed, put, foundAt, parameters, parametersFrom, widthFits, allFit, singles, among, single, count, twice, orElse, find, fieldsOf, judged, readHeader}
-use Rattle.header.specs.Scan.{either, both, note, noteAll, scanned, unmarked, unnoted, scanHeader, Inside}
+use Rattle.header.specs.Scan.{either, note, noteAll, scanned, unmarked, unnoted, scanHeader, Inside}
 use Rattle.header.specs.Laws.{from-end, from-step, Known, Each, EachListed, from-known, priority-inside}
 
 pick-same : {A : Type 0} (t : Bool) (a : A) → pick t a a ≡ a
@@ -101,11 +102,11 @@ note-all-is (p ∷ ps) seen n = go (widthFits (p .identifier) (p .size)) (note-a
 Again : (ℕ → ℕ) → List Parameter → Type 0
 Again mark ps = (k : ℕ) × (single k ≡ true) × (1 < mark k + count k ps)
 
-count-same : (p : Parameter) (ps : List Parameter) (k : ℕ) → p .identifier ≡ k → count k (p ∷ ps) ≡ suc (count k ps)
+pub count-same : (p : Parameter) (ps : List Parameter) (k : ℕ) → p .identifier ≡ k → count k (p ∷ ps) ≡ suc (count k ps)
 unfolding count
 count-same p ps k e = rw (eq-eqb (p .identifier) k e)
 
-count-other : (p : Parameter) (ps : List Parameter) (k : ℕ) → (p .identifier ≡ k → ⊥) → count k (p ∷ ps) ≡ count k ps
+pub count-other : (p : Parameter) (ps : List Parameter) (k : ℕ) → (p .identifier ≡ k → ⊥) → count k (p ∷ ps) ≡ count k ps
 unfolding count
 count-other p ps k e = rw (ne-eqb (p .identifier) k e)
 
@@ -176,7 +177,7 @@ repeats-back (p ∷ ps) seen l f m a = go (both (eqb (getD seen i 0) 1) (single 
             omega (arith, again-same p ps seen l (f .0) (a .0) d, a .2, m i, eqb-false (getD seen i 0) 1 u, ap (λ (k : ℕ). getD seen k 0) d)
         on (no d) = omega (arith, again-other p ps seen l (f .0) (a .0) d, a .2)
 
-twice-there : (is : List ℕ) (ps : List Parameter) → twice is ps ≡ true → (k : ℕ) × (among k is ≡ true) × (1 < count k ps)
+pub twice-there : (is : List ℕ) (ps : List Parameter) → twice is ps ≡ true → (k : ℕ) × (among k is ≡ true) × (1 < count k ps)
 unfolding twice
 twice-there [] ps e = let z : _≡_ {A = ℕ} 0 1 = cc in absurd (omega arith)
 twice-there (i ∷ is) ps e = go (ltb 1 (count i ps)) refl (twice-there is ps)
@@ -185,7 +186,7 @@ twice-there (i ∷ is) ps e = go (ltb 1 (count i ps)) refl (twice-there is ps)
     go true x r = (i, rw (eq-eqb i i refl), ltb-true 1 (count i ps) x)
     go false x r = let a = r (rw x at e) in (a .0, rw (a .1) (pick-same (eqb (a .0) i) true), a .2)
 
-twice-back : (is : List ℕ) (ps : List Parameter) (k : ℕ) → among k is ≡ true → 1 < count k ps → twice is ps ≡ true
+pub twice-back : (is : List ℕ) (ps : List Parameter) (k : ℕ) → among k is ≡ true → 1 < count k ps → twice is ps ≡ true
 unfolding twice
 twice-back [] ps k e g = let z : _≡_ {A = ℕ} 0 1 = cc in absurd (omega arith)
 twice-back (i ∷ is) ps k e g = go (ℕ-discrete k i) (twice-back is ps k)
@@ -224,7 +225,7 @@ named : (h : List ℕ) (ps : List Parameter) → Each (Known h) ps → Named ps
 named h [] k = tt
 named h (p ∷ ps) k = (k .0 .named, named h ps (k .1))
 
-orElse-nothing : (f : Found) → orElse f Nothing ≡ f
+pub orElse-nothing : (f : Found) → orElse f Nothing ≡ f
 orElse-nothing Nothing = refl
 orElse-nothing (One p) = refl
 

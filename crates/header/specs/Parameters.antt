@@ -4,7 +4,7 @@ use mathlib.Core.List.{List, [], _∷_}
 use Prim.Native.Nat.{ℕ, zero, suc, _+_, _*_, _/_, _%_}
 use lib.Dec.{leb, ltb, eqb}
 use lib.ListN.{length, getD}
-use Rattle.header.specs.Core.{bodySize, headerSize, contentType, contentSubType}
+use Rattle.cut.specs.Requirement.{bodySize, headerSize, contentType, contentSubType}
 use Rattle.header.specs.declared.Parameter.{Parameter}
 use Rattle.header.specs.declared.Found.{Found}
 use Rattle.header.specs.declared.Found.the-variants.{Nothing, One}

@@ -4,6 +4,7 @@ use mathlib.Core.List.{List, [], _∷_}
 use Prim.Native.Nat.{ℕ, _<_}
 use lib.Dec.{eqb}
 use lib.ListN.{getD, set, replicate}
+use Rattle.octets.specs.Octets.{both}
 use Rattle.header.specs.declared.Parameter.{Parameter}
 use Rattle.header.specs.declared.Found.{Found}
 use Rattle.header.specs.declared.Found.the-variants.{Nothing, One}
@@ -15,10 +16,6 @@ use Rattle.header.specs.Parameters.{pick, Listed, broken, listed, parame
 abbrev pub either : Bool → Bool → Bool
 either true b = true
 either false b = b
-
-abbrev pub both : Bool → Bool → Bool
-both true b = b
-both false b = false
 
 -- one more parameter, whose identifier has come already where `mark` is 1
 unfoldable pub note : Notes → Parameter → ℕ → Notes

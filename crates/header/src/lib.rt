@@ -7,10 +7,10 @@ ghost use mathlib.Core.Path.{_≡_};
 ghost use Prim.Native.Nat.{_≤_, _<_};
 ghost use lib.ListN.{length};
 ghost use lib.Dec.{eqb};
-ghost use Rattle.header.specs.Core.{bodySize, headerSize, contentType, contentSubType};
+ghost use Rattle.octets.specs.Octets.{both};
 ghost use Rattle.header.specs.Parameters.{lengthAt, within, foundAt, widthFits, single, priorityOf, nameOf, fieldsOf, readHeader, nameIn};
 ghost use Rattle.header.specs.Names.{unslashed, nameMatches};
-ghost use Rattle.header.specs.Scan.{either, both, note, scanHeader, Inside};
+ghost use Rattle.header.specs.Scan.{either, note, scanHeader, Inside};
 
 // Bytes of the core, before the first parameter.
 pub const CORE: usize = 7;
@@ -22,6 +22,7 @@ pub struct Parameter {
     pub size: usize,
 }
 
+// A parameter, or none.
 pub enum Found {
     Nothing,
     One(Parameter),
@@ -39,6 +40,7 @@ pub enum Name {
     Data(usize, usize),
 }
 
+// What a header says.
 pub struct Fields {
     pub body_size: u32,
     pub header_size: u16,
@@ -55,6 +57,7 @@ pub enum Refusal {
     Duplicate,
 }
 
+// What reading a header gives.
 pub enum Reading {
     Refused(Refusal),
     Read(Fields),
@@ -67,6 +70,7 @@ struct Notes {
     name: Found,
 }
 
+// What one pass comes to.
 enum Scan {
     Broken,
     Whole(Notes),
@@ -214,6 +218,7 @@ fn note_all(header: &[u8]) -> Scan
     Scan::Whole(notes)
 }
 
+// Priority's byte: its data is one byte, which lies inside the header.
 fn priority_of(header: &[u8], found: Found) -> Priority
     requires { ⌜ Inside (length (now header)) found ⌝ }
     ensures { λ r. ⌜ r ≡ priorityOf (now (header .entry)) found ⌝ }
@@ -227,6 +232,7 @@ fn priority_of(header: &[u8], found: Found) -> Priority
     }
 }
 
+// Where ContentName's data stands.
 fn name_from(found: Found) -> Name
     ensures { λ r. ⌜ r ≡ nameOf found ⌝ }
 {
@@ -236,49 +242,6 @@ fn name_from(found: Found) -> Name
     }
 }
 
-fn wide(byte: u8) -> u32
-    ensures { λ r. ⌜ (r ≡ byte) × (r < 256) ⌝ }
-{
-    byte as u32
-}
-
-fn half_wide(byte: u8) -> u16
-    ensures { λ r. ⌜ (r ≡ byte) × (r < 256) ⌝ }
-{
-    byte as u16
-}
-
-fn body_size(header: &[u8]) -> u32
-    requires { ⌜ 7 ≤ length (now header) ⌝ }
-    ensures { λ r. ⌜ r ≡ bodySize (now (header .entry)) ⌝ }
-{
-    wide(header[0]) * 0x10_0000
-        + wide(header[1]) * 0x1000
-        + wide(header[2]) * 0x10
-        + wide(header[3]) / 0x10
-}
-
-fn header_size(header: &[u8]) -> u16
-    requires { ⌜ 7 ≤ length (now header) ⌝ }
-    ensures { λ r. ⌜ r ≡ headerSize (now (header .entry)) ⌝ }
-{
-    half_wide(header[3]) % 0x10 * 0x200 + half_wide(header[4]) * 2 + half_wide(header[5]) / 0x80
-}
-
-fn content_type(header: &[u8]) -> u8
-    requires { ⌜ 7 ≤ length (now header) ⌝ }
-    ensures { λ r. ⌜ r ≡ contentType (now (header .entry)) ⌝ }
-{
-    header[5] % 0x80 / 2
-}
-
-fn content_sub_type(header: &[u8]) -> u16
-    requires { ⌜ 7 ≤ length (now header) ⌝ }
-    ensures { λ r. ⌜ r ≡ contentSubType (now (header .entry)) ⌝ }
-{
-    half_wide(header[5]) % 2 * 0x100 + half_wide(header[6])
-}
-
 fn fields_of(header: &[u8], notes: Notes) -> Fields
     requires { ⌜ (7 ≤ length (now header)) × Inside (length (now header)) (notes .priority) ⌝ }
     ensures { λ r. ⌜ r ≡ fieldsOf (now (header .entry)) (notes .priority) (notes .name) ⌝ }
@@ -286,10 +249,10 @@ fn fields_of(header: &[u8], notes: Notes) -> Fields
     let priority = notes.priority;
     let name = notes.name;
     Fields {
-        body_size: body_size(header),
-        header_size: header_size(header),
-        content_type: content_type(header),
-        content_sub_type: content_sub_type(header),
+        body_size: core_fields::body_size(header),
+        header_size: core_fields::header_size(header),
+        content_type: core_fields::content_type(header),
+        content_sub_type: core_fields::content_sub_type(header),
         priority: priority_of(header, priority),
         name: name_from(name),
     }

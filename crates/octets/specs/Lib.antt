@@ -1,3 +1,4 @@
 pub mod Octets
 pub mod Over
 pub mod Marks
+pub mod Shares

@@ -7,7 +7,7 @@ use mathlib.Core.Logic.{_↔_}
 use native.Mathlib.Decide.{ℕ-discrete}
 use native.Mathlib.Omega.{arith}
 use borrow.Author.Tests.{eq-eqb, ne-eqb, le-leb}
-use lib.ListN.{length, getD, set, take, drop, length-take, length-replicate, take-append-drop}
+use lib.ListN.{length, getD, set, take, drop, length-take, take-append-drop}
 use lib.Seq.{drop-drop, take-add, getD-set-same, getD-set-other}
 use Rattle.octets.specs.Octets.{equal, largestOf, sumOf, summed, zeros}
 use Rattle.octets.specs.Over.{part}
@@ -157,10 +157,6 @@ largest-set (x ∷ l) zero v b h g = omega arith
 largest-set (x ∷ l) (suc i) v b h g = omega (arith, largest-set l i v b (omega arith) g)
 
 -- ---- cleared marks
-
-pub zeros-length : (n : ℕ) → length (zeros n) ≡ n
-unfolding zeros
-zeros-length n = length-replicate n 0
 
 pub zeros-sum : (n : ℕ) → sumOf (zeros n) ≡ 0
 unfolding zeros

@@ -7,9 +7,9 @@ use native.Mathlib.Nat.{add-zero, zero-add, add-assoc}
 use native.Mathlib.Numerals.{add-one}
 use native.Mathlib.Omega.{arith}
 use borrow.Rule.Slice.PartMut.{midOf, putMid, post-is}
-use lib.ListN.{length, getD, set, take, drop, length-append, length-take, length-drop, take-append-drop}
+use lib.ListN.{length, getD, set, take, drop, length-append, length-take, length-drop, length-replicate, take-append-drop}
 use lib.Seq.{length-take-le, drop-at, take-at, drop-drop, drop-append-le, take-append-le, take-take, take-add, getD-drop, paste-zero, paste-suc, set-split, append-snoc}
-use Rattle.octets.specs.Octets.{over}
+use Rattle.octets.specs.Octets.{over, zeros}
 
 -- the `count` bytes from `from` on
 abbrev pub part : List ℕ → ℕ → ℕ → List ℕ
@@ -109,6 +109,21 @@ over-start l a k run h g = over-whole l a k 0 run (omega arith) g ∙ ap (λ (at
 pub over-exact : (l : List ℕ) (a e : ℕ) (run : List ℕ) → a + length run ≡ e → putMid a (e - a) l run ≡ over l a run
 unfolding over
 over-exact l a e run h = rw (post-is a e l (omega arith), h, append-assoc)
+
+-- bytes moved inside the part were moved inside the whole
+pub moved-whole : (l : List ℕ) (a k from to n : ℕ) → to ≤ from → from + n ≤ k → a + k ≤ length l → putMid a k l (over (midOf a k l) to (part (midOf a k l) from n)) ≡ over l (a + to) (part l (a + from) n)
+moved-whole l a k from to n d h g =
+    let m : length (part l (a + from) n) ≡ n = part-length l (a + from) n (omega arith) in
+    rw (part-part l a k from n h g) (over-whole l a k to (part l (a + from) n) (omega arith) g)
+
+pub zeros-length : (n : ℕ) → length (zeros n) ≡ n
+unfolding zeros
+zeros-length n = length-replicate n 0
+
+-- the part was cleared
+pub cleared-whole : (l : List ℕ) (a e : ℕ) → a ≤ e → e ≤ length l → putMid a (e - a) l (zeros (length (midOf a (e - a) l))) ≡ over l a (zeros (e - a))
+cleared-whole l a e h g =
+    rw (part-length l a (e - a) (omega arith)) (over-exact l a e (zeros (e - a)) (rw zeros-length (omega arith)))
 
 -- a run inside a part, read as a run over that part
 pub over-within : (l : List ℕ) (a k i : ℕ) (run : List ℕ) → i + length run ≤ k → a + k ≤ length l → part (over l (a + i) run) a k ≡ over (part l a k) i run

@@ -13,11 +13,11 @@ use lib.Dec.{eqb, leb}
 use borrow.Author.Tests.{eqb-true, eq-eqb, ne-eqb, le-leb}
 use Rattle.octets.specs.Octets.{over}
 use Rattle.octets.specs.Over.{over-length}
-use Rattle.cut.specs.Lists.{Each, each-map, each-zip, each-zip3}
+use Rattle.cut.specs.Lists.{pick, Each, each-map, each-zip, each-zip3}
 use Rattle.cut.specs.Requirement.{Segment}
 use Rattle.cut.specs.declared.Bounds.{Bounds}
 use Rattle.cut.specs.declared.Record.{Record}
-use Rattle.cut.specs.Decision.{pick, derived, settle, Summary, summary, recordOf}
+use Rattle.cut.specs.Decision.{derived, settle, Summary, summary, recordOf}
 use Rattle.cut.specs.LawsSegment.{SitsAs, Sits, inside, Numbered, not-numbered}
 use Rattle.cut.specs.LawsDecision.{TopSits, EndSits, SumSits, Clear, sits-sum}
 use Rattle.cut.specs.LawsObject.{WithinOf}

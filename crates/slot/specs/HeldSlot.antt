@@ -12,13 +12,13 @@ use lib.Dec.{eqb, leb}
 use borrow.Author.Tests.{eqb-true, eqb-false, le-leb}
 use Rattle.answer.specs.declared.Part.{Part}
 use Rattle.answer.specs.declared.Part.the-variants.{Header, Body}
-use Rattle.cut.specs.Lists.{Each, Bytes, each-zip}
+use Rattle.cut.specs.Lists.{pick, Each, Bytes, each-zip}
 use Rattle.cut.specs.Requirement.{headerLeast, headerNumbers, bodyNumbers, sizeLeast, limitMost, bodySize, headerSize, Segment, Fits}
 use Rattle.cut.specs.declared.Core.{Core}
 use Rattle.cut.specs.declared.Core.the-variants.{Unseen, Seen}
 use Rattle.cut.specs.declared.Bounds.{Bounds}
 use Rattle.cut.specs.declared.Record.{Record}
-use Rattle.cut.specs.Decision.{pick, boundsOf, addPart, addTop, summary, someFull, settle, recordOf, coreAfter, coreOf}
+use Rattle.cut.specs.Decision.{boundsOf, addPart, addTop, summary, someFull, settle, recordOf, coreAfter, coreOf}
 use Rattle.cut.specs.LawsCore.{front-body, front-header}
 use Rattle.cut.specs.LawsSegment.{SitsAs, Sits, Numbered, Agree, sent-number}
 use Rattle.cut.specs.LawsDecision.{Clear}

@@ -16,13 +16,13 @@ use Rattle.octets.specs.Octets.{sumOf, largestOf}
 use Rattle.octets.specs.Marks.{sum-split, largest-part}
 use Rattle.answer.specs.declared.Part.{Part}
 use Rattle.answer.specs.declared.Part.the-variants.{Header, Body}
-use Rattle.cut.specs.Lists.{Each}
+use Rattle.cut.specs.Lists.{pick, Each}
 use Rattle.cut.specs.Requirement.{headerMost, sizeMost, headerNumbers, bodyNumbers, Segment}
 use Rattle.cut.specs.declared.Core.{Core}
 use Rattle.cut.specs.declared.Core.the-variants.{Unseen, Seen}
 use Rattle.cut.specs.declared.Bounds.{Bounds}
 use Rattle.cut.specs.declared.Record.{Record}
-use Rattle.cut.specs.Decision.{pick, boundsOf, coreTests, coreFits, room, possible, addPart, joins, derived, settle, coreAfter}
+use Rattle.cut.specs.Decision.{boundsOf, coreTests, coreFits, room, possible, addPart, joins, derived, settle, coreAfter}
 use Rattle.cut.specs.LawsDecision.{EndSits, TopSits, Suits, both-true, all-true, possible-iff}
 use Rattle.cut.specs.LawsObject.{WithinOf}
 use Rattle.cut.specs.Marks.{topFrom, top-high, top-open, top-ended, total-some}

@@ -3,6 +3,8 @@ pub mod Take
 pub mod Sound
 pub mod Shape
 pub mod Inside
+pub mod Inner
+pub mod Meets
 pub mod Held
 pub mod HeldIn
 pub mod HeldBytes

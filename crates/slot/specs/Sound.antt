@@ -7,7 +7,8 @@ use lib.ListN.{getD}
 use Rattle.octets.specs.Octets.{sumOf, largestOf}
 use Rattle.answer.specs.declared.Part.the-variants.{Header, Body}
 use Rattle.cut.specs.declared.Bounds.{Bounds}
-use Rattle.cut.specs.Decision.{pick, both, all, boundsOf, derived}
+use Rattle.cut.specs.Lists.{pick}
+use Rattle.cut.specs.Decision.{both, all, boundsOf, derived}
 use Rattle.cut.specs.Sums.{fullIn, suitsIn}
 use Rattle.slot.specs.declared.Slot.{Slot}
 use Rattle.slot.specs.declared.Stage.{Stage}

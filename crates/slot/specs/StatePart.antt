@@ -8,10 +8,10 @@ use lib.ListN.{length, getD}
 use lib.Dec.{eqb, leb}
 use borrow.Author.Tests.{eqb-true, eq-eqb, le-leb}
 use Rattle.octets.specs.Over.{part-length}
-use Rattle.cut.specs.Lists.{Each, each-zip, each-among, among-each}
+use Rattle.cut.specs.Lists.{pick, Each, each-zip, each-among, among-each}
 use Rattle.cut.specs.Requirement.{Segment}
 use Rattle.cut.specs.declared.Bounds.{Bounds}
-use Rattle.cut.specs.Decision.{pick, derived, settle, summary, recordOf}
+use Rattle.cut.specs.Decision.{derived, settle, summary, recordOf}
 use Rattle.cut.specs.LawsSegment.{Sits, among-numbered}
 use Rattle.cut.specs.LawsDecision.{Clear, sits-sum}
 use Rattle.cut.specs.LawsObject.{WithinOf}

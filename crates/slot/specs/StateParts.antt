@@ -9,12 +9,12 @@ use lib.Dec.{eqb, leb}
 use borrow.Author.Tests.{eq-eqb, leb-true, le-leb}
 use Rattle.answer.specs.declared.Part.{Part}
 use Rattle.answer.specs.declared.Part.the-variants.{Header, Body}
-use Rattle.cut.specs.Lists.{Each, Bytes, each-map, each-among, among-each, bytes-take, bytes-drop}
+use Rattle.cut.specs.Lists.{pick, Each, Bytes, each-map, each-among, among-each, bytes-take, bytes-drop}
 use Rattle.cut.specs.Requirement.{headerLeast, limitMost, Segment, Fits}
 use Rattle.cut.specs.declared.Core.{Core}
 use Rattle.cut.specs.declared.Core.the-variants.{Unseen, Seen}
 use Rattle.cut.specs.declared.Bounds.{Bounds}
-use Rattle.cut.specs.Decision.{pick, someFull, boundsOf, coreTests, coreFits, possible, derived, settle, summary, recordOf, coreOf, suitTests, suits}
+use Rattle.cut.specs.Decision.{someFull, boundsOf, coreTests, coreFits, possible, derived, settle, summary, recordOf, coreOf, suitTests, suits}
 use Rattle.cut.specs.LawsSegment.{Sits, among-numbered}
 use Rattle.cut.specs.LawsDecision.{Clear, all-true, true-all, true-both, sits-possible}
 use Rattle.cut.specs.LawsObject.{WithinOf, those, Passes, fits-passes, passes-fits}
@@ -107,7 +107,7 @@ module _ (limit : ℕ) (stage : Stage) (ps : Parts) (z : limit ≤ limitMost) (h
     headerClear = can-be Header .0;
     bodyAgree = reads-agree (ps .body) bs (held-reads (ps .body));
     bodyClear = can-be Body .0;
-    suit = rw (← core-is) (true-all (suitTests limit (coreIn (ps .header)) (summary hs) (summary bs)) (right Header .core, (can-be Header .1, (can-be Body .1, tt))));
+    suit = rw (← core-is) (true-all (suitTests limit (coreIn (ps .header)) (summary hs .top) (summary hs .part) (summary bs .top) (summary bs .part)) (right Header .core, (can-be Header .1, (can-be Body .1, tt))));
   }
 
   pub sound-gathers : Gathers limit ps (heldIn (ps .header)) (heldIn (ps .body))

@@ -12,15 +12,15 @@ use Rattle.octets.specs.Marks.{sum-split, sum-none}
 use Rattle.answer.specs.declared.Part.{Part}
 use Rattle.answer.specs.declared.Part.the-variants.{Header, Body}
 use Rattle.cut.specs.Lists.{Each, Bytes, bytes-take, bytes-drop, over-bytes}
-use Rattle.cut.specs.Requirement.{headerNumbers, limitMost, Segment, Fits}
+use Rattle.cut.specs.Requirement.{headerNumbers, limitMost, Segment}
 use Rattle.cut.specs.declared.Bounds.{Bounds}
 use Rattle.cut.specs.declared.Record.{Record}
-use Rattle.cut.specs.Decision.{boundsOf, coreFits, alone, suits, settle, coreAfter}
+use Rattle.cut.specs.Decision.{boundsOf, settle, coreAfter}
 use Rattle.cut.specs.declared.Core.the-variants.{Unseen}
 use Rattle.cut.specs.LawsSegment.{Numbered}
-use Rattle.cut.specs.LawsObject.{headersWith, bodiesWith, those, passes-fits}
+use Rattle.cut.specs.LawsObject.{headersWith, bodiesWith, those}
+use Rattle.cut.specs.Theorem.{nothing-fits}
 use Rattle.cut.specs.Marks.{Marked}
-use borrow.Author.Tests.{le-leb}
 use Rattle.slot.specs.declared.Slot.{Slot}
 use Rattle.slot.specs.declared.Outcome.{Outcome}
 use Rattle.slot.specs.declared.Outcome.the-variants.{Stored, Complete, Repeat, Conflict}
@@ -34,17 +34,6 @@ use Rattle.slot.specs.Step.{Tells, outcome-tells}
 use Rattle.slot.specs.StateExact.{holds-sound}
 
 -- ---- a slot that holds nothing yet
-
--- no segments fit
-none-fits : (limit : ℕ) → limit ≤ limitMost → Fits limit [] []
-unfolding suits coreFits alone boundsOf
-none-fits limit z = passes-fits limit [] [] z tt tt (record {
-  headerAgree = tt;
-  headerClear = tt;
-  bodyAgree = tt;
-  bodyClear = tt;
-  suit = rw (le-leb 0 limit (omega arith)) refl;
-})
 
 none-marked : (marks : List ℕ) → sumOf marks ≡ 0 → Marked marks []
 none-marked marks e = record { bits = zeros marks e; marked = λ n. ((λ h. absurd (omega (arith, sum-none marks .0 e n))), (λ i. absurd i)) }
@@ -60,7 +49,7 @@ none-kept b m e s = record { kept = e; laid = tt; marked = none-marked (m .marks
 pub vacant-gathers : (limit : ℕ) (slot : Slot) (lent : Lent) → limit ≤ limitMost → Vacant limit slot lent → Gathers limit (partsOf slot lent) [] []
 unfolding partsOf
 vacant-gathers limit slot lent z v = record {
-  object = none-fits limit z;
+  object = nothing-fits limit z;
   shape = lent-shaped limit slot lent (v .lends .headerLength) (v .lends .bodyLength) (v .lends .marksLength);
   header = none-kept (boundsOf Header limit Unseen) (partsOf slot lent .header) (v .header) (omega (arith, sum-split (lent .marks) headerNumbers, v .marks));
   body = none-kept (boundsOf Body limit Unseen) (partsOf slot lent .body) (v .body) (omega (arith, sum-split (lent .marks) headerNumbers, v .marks));

@@ -12,7 +12,8 @@ use Rattle.cut.specs.declared.Record.{Record}
 use Rattle.cut.specs.declared.Bounds.{Bounds}
 use Rattle.cut.specs.declared.Core.{Core}
 use Rattle.cut.specs.declared.Core.the-variants.{Unseen, Seen}
-use Rattle.cut.specs.Decision.{pick, both, boundsOf, addPart, settle, coreAfter, finished}
+use Rattle.cut.specs.Lists.{pick}
+use Rattle.cut.specs.Decision.{both, boundsOf, addPart, settle, coreAfter, finished}
 use Rattle.cut.specs.Sums.{fullIn, takes}
 use Rattle.slot.specs.declared.Slot.{Slot}
 use Rattle.slot.specs.declared.Stage.{Stage}

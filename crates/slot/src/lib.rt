@@ -1,6 +1,23 @@
 // One object being gathered (document 01, "One object, one cut"): its record and its stage by
-// value, its marks and its shares of the stores lent.
+// value, its marks and its shares of the stores lent. A segment enters a slot by one function that
+// knows nothing of groups; what it leaves is one definition (specs/Take.antt).
+use answer::Part;
+use cut::Bounds;
+use cut::Core;
 use cut::Record;
+ghost use mathlib.Core.Path.{_≡_};
+ghost use Prim.Native.Nat.{suc, _*_, _≤_, _<_};
+ghost use lib.Dec.{eqb};
+ghost use lib.ListN.{length, drop};
+ghost use Rattle.octets.specs.Octets.{sumOf};
+ghost use Rattle.cut.specs.Requirement.{bodySize, headerSize};
+ghost use Rattle.cut.specs.declared.Core.the-variants.{Seen};
+ghost use Rattle.cut.specs.Lists.{pick};
+ghost use Rattle.cut.specs.Sums.{ended, possibleIn, acceptsIn, fullIn, suitsIn};
+ghost use Rattle.slot.specs.Memory.{placeOf, lengthOf, movedAs};
+ghost use Rattle.slot.specs.Take.{stageBy, sameFlag, outcomeBy, takeInto};
+ghost use Rattle.slot.specs.Sound.{endRight, sameStage};
+ghost use Rattle.slot.specs.Inner.{otherPart, marksOf, keptOf, coreFrom, takesAs, recordAs, recordStill, putIn, slotFrom, sameAs, CanMove, CanPut, headerStored, bodyStored, Ready, Offered, rightAs, soundBy};
 
 // Free comes first: a free slot is what an unused one is made of.
 pub enum Stage {
@@ -26,19 +43,608 @@ pub enum Outcome {
     Conflict,
 }
 
-pub fn vacant() -> Slot {
+fn other_part(part: Part) -> Part
+    ensures { λ r. ⌜ r ≡ otherPart part ⌝ }
+{
+    match part {
+        Part::Header => Part::Body,
+        Part::Body => Part::Header,
+    }
+}
+
+fn kept_of(part: Part, slot: Slot) -> Record
+    ensures { λ r. ⌜ r ≡ keptOf part slot ⌝ }
+{
+    match part {
+        Part::Header => slot.header,
+        Part::Body => slot.body,
+    }
+}
+
+fn marks_of(part: Part, marks: &[u8]) -> &[u8]
+    requires { ⌜ 64 ≤ length (now marks) ⌝ }
+    ensures { λ r. ⌜ now r ≡ marksOf part (now (marks .entry)) ⌝ }
+{
+    match part {
+        Part::Header => &marks[..64],
+        Part::Body => &marks[64..],
+    }
+}
+
+fn core_of(bytes: &[u8]) -> Core
+    ensures { λ r. ⌜ r ≡ Seen (bodySize (now (bytes .entry))) (headerSize (now (bytes .entry))) ⌝ }
+{
+    let body = core_fields::body_size(bytes) as usize;
+    let header = core_fields::header_size(bytes) as usize;
+    Core::Seen { body, header }
+}
+
+fn core_from(marks: &[u8], share: &[u8]) -> Core
+    requires { ⌜ 1 ≤ length (now marks) ⌝ }
+    ensures { λ r. ⌜ r ≡ coreFrom (now (marks .entry)) (now (share .entry)) ⌝ }
+{
+    if marks[0] == 0 {
+        return Core::Unseen;
+    }
+    core_of(share)
+}
+
+fn ended(kept: Record) -> u32
+    ensures { λ r. ⌜ r ≡ ended kept ⌝ }
+{
+    if kept.end == 0 { 0 } else { 1 }
+}
+
+// The sum of a part's marks from a number on.
+fn sum_from(marks: &[u8], from: usize) -> u32
+    requires { ⌜ (from ≤ length (now marks)) × (length (now marks) ≤ 1024) ⌝ }
+    ensures { λ r. ⌜ r ≡ sumOf (drop from (now (marks .entry))) ⌝ }
+{
+    octets::sum(&marks[from..])
+}
+
+fn full_in(kept: Record, marks: &[u8]) -> bool
+    requires { ⌜ length (now marks) ≤ 1024 ⌝ }
+    ensures { λ r. ⌜ r ≡ fullIn kept (now (marks .entry)) ⌝ }
+{
+    ended(kept) < sum_from(marks, 0)
+}
+
+fn possible_in(bounds: Bounds, kept: Record, marks: &[u8]) -> bool
+    requires { ⌜ (length (now marks) ≡ bounds .numbers) × (bounds .numbers ≤ 1024) ⌝ }
+    ensures { λ r. ⌜ r ≡ possibleIn bounds kept (now (marks .entry)) ⌝ }
+{
+    let ends = ended(kept);
+    if sum_from(marks, 0) == ends {
+        return cut::alone(bounds, kept);
+    }
+    let room = cut::room(bounds, kept);
+    sum_from(marks, room) == ends
+}
+
+fn accepts_in(last: bool, number: usize, bounds: Bounds, kept: Record, marks: &[u8]) -> bool
+    requires { ⌜ (length (now marks) ≡ bounds .numbers) × (bounds .numbers ≤ 1024) ⌝ }
+    ensures { λ r. ⌜ r ≡ acceptsIn last number bounds kept (now (marks .entry)) ⌝ }
+{
+    let room = cut::room(bounds, kept);
+    if last {
+        if sum_from(marks, 0) == 0 {
+            return cut::alone(bounds, kept);
+        }
+        return sum_from(marks, room) == 0;
+    }
+    if number < room {
+        return sum_from(marks, room) == ended(kept);
+    }
+    false
+}
+
+// Whether a segment of a part fits what is held: core is what header segment 0 says with it in.
+fn takes(
+    part: Part,
+    limit: usize,
+    core: Core,
+    slot: Slot,
+    marks: &[u8],
+    last: bool,
+    number: usize,
+    count: usize,
+) -> bool
+    requires { ⌜ (length (now marks) ≡ 1088) × (number < 32768) ⌝ }
+    ensures { λ r. ⌜ r ≡ takesAs part limit core slot (now (marks .entry)) last number count ⌝ }
+{
+    let kept = kept_of(part, slot);
+    let mine = marks_of(part, marks);
+    if !cut::joins(full_in(kept, mine), last, count, kept) {
+        return false;
+    }
+    if !cut::core_fits(limit, core) {
+        return false;
+    }
+    let with = cut::add(last, number, count, kept);
+    if !accepts_in(last, number, cut::bounds_of(part, limit, core), with, mine) {
+        return false;
+    }
+    let other = other_part(part);
+    possible_in(
+        cut::bounds_of(other, limit, core),
+        kept_of(other, slot),
+        marks_of(other, marks),
+    )
+}
+
+// The record of a part with one segment more.
+fn record_as(
+    part: Part,
+    limit: usize,
+    core: Core,
+    slot: Slot,
+    marks: &[u8],
+    last: bool,
+    number: usize,
+    count: usize,
+) -> Record
+    requires { ⌜ (length (now marks) ≡ 1088) × (number < 32768) ⌝ }
+    ensures { λ r. ⌜ r ≡ recordAs part limit core slot (now (marks .entry)) last number count ⌝ }
+{
+    let kept = kept_of(part, slot);
+    let bounds = cut::bounds_of(part, limit, core);
+    let with = cut::add(last, number, count, kept);
+    if last {
+        return cut::settle(bounds, full_in(kept, marks_of(part, marks)), with);
+    }
+    cut::settle(bounds, true, with)
+}
+
+// The record of a part that gets no segment, within bounds that may have met.
+fn record_still(part: Part, limit: usize, core: Core, slot: Slot, marks: &[u8]) -> Record
+    requires { ⌜ length (now marks) ≡ 1088 ⌝ }
+    ensures { λ r. ⌜ r ≡ recordStill part limit core slot (now (marks .entry)) ⌝ }
+{
+    let kept = kept_of(part, slot);
+    cut::settle(
+        cut::bounds_of(part, limit, core),
+        full_in(kept, marks_of(part, marks)),
+        kept,
+    )
+}
+
+fn place_of(last: bool, size: usize, width: usize, number: usize, count: usize) -> usize
+    requires { ⌜ (number * size ≤ width) × (count ≤ width) ⌝ }
+    ensures { λ r. ⌜ r ≡ placeOf last size width number count ⌝ }
+{
+    if !last {
+        return number * size;
+    }
+    if size != 0 {
+        return number * size;
+    }
+    if number == 0 {
+        return 0;
+    }
+    width - count
+}
+
+// A last segment that stands at the end of the share is copied to its place, once the size is known.
+fn move_last(old: Record, size: usize, share: &mut [u8])
+    requires { ⌜ CanMove old size (now share) ⌝ }
+    ensures { λ _. ⌜ now (share .exit) ≡ movedAs (old .size) size (old .end) (old .tail) (now (share .entry)) ⌝ }
+{
+    if old.size != 0 {
+        return;
+    }
+    if size == 0 {
+        return;
+    }
+    if old.end < 2 {
+        return;
+    }
+    let from = share.len() - old.tail;
+    octets::move_down(share, from, (old.end - 1) * size, old.tail);
+}
+
+// A segment is written straight into its place in the share, which is lent to the copier.
+fn put_in(old: Record, kept: Record, last: bool, number: usize, bytes: &[u8], share: &mut [u8])
+    requires { ⌜ CanMove old (kept .size) (now share) ⌝ }
+    requires { ⌜ CanPut last (kept .size) number (length (now bytes)) (now share) ⌝ }
+    ensures { λ _. ⌜ now (share .exit) ≡ putIn old kept last number (now (bytes .entry)) (now (share .entry)) ⌝ }
+{
+    let count = bytes.len();
+    let at = place_of(last, kept.size, share.len(), number, count);
+    move_last(old, kept.size, share);
+    octets::copy_in(&mut share[at..at + count], bytes);
+}
+
+// The slot of these records: its stage follows from its marks and from what header segment 0 says.
+fn slot_from(number: u16, header: Record, body: Record, share: &[u8], marks: &[u8]) -> Slot
+    requires { ⌜ length (now marks) ≡ 1088 ⌝ }
+    ensures { λ r. ⌜ r ≡ slotFrom number header body (now (share .entry)) (now (marks .entry)) ⌝ }
+{
+    let core = core_from(marks_of(Part::Header, marks), share);
+    let headers = sum_from(marks_of(Part::Header, marks), 0) as usize;
+    let bodies = sum_from(marks_of(Part::Body, marks), 0) as usize;
+    let stage = stage_by(cut::finished(core, headers, header, bodies, body), core);
     Slot {
-        number: 0,
-        stage: Stage::Free,
-        header: Record {
-            size: 0,
-            end: 0,
-            tail: 0,
+        number,
+        stage,
+        header,
+        body,
+    }
+}
+
+fn stage_by(whole: bool, core: Core) -> Stage
+    ensures { λ r. ⌜ r ≡ stageBy whole core ⌝ }
+{
+    if !whole {
+        return Stage::Gathering;
+    }
+    match core {
+        Core::Unseen => Stage::Gathering,
+        Core::Seen { body, header } => Stage::Finished(header, body),
+    }
+}
+
+fn length_of(last: bool, kept: Record) -> usize
+    ensures { λ r. ⌜ r ≡ lengthOf last kept ⌝ }
+{
+    if last { kept.tail } else { kept.size }
+}
+
+fn same_flag(a: bool, b: bool) -> bool
+    ensures { λ r. ⌜ r ≡ sameFlag a b ⌝ }
+{
+    if a { b } else { !b }
+}
+
+// Whether a segment is the one that is held under its number.
+fn same_in(kept: Record, last: bool, number: usize, bytes: &[u8], share: &[u8]) -> bool
+    requires { ⌜ CanPut (eqb (suc number) (kept .end)) (kept .size) number (lengthOf (eqb (suc number) (kept .end)) kept) (now share) ⌝ }
+    requires { ⌜ number < 32768 ⌝ }
+    ensures { λ r. ⌜ r ≡ sameAs (eqb (suc number) (kept .end)) kept last number (now (bytes .entry)) (now (share .entry)) ⌝ }
+{
+    let held = number + 1 == kept.end;
+    if !same_flag(last, held) {
+        return false;
+    }
+    let count = length_of(held, kept);
+    let at = place_of(held, kept.size, share.len(), number, count);
+    octets::same(bytes, &share[at..at + count])
+}
+
+// A header segment is stored; with segment 0 the body's size may follow too.
+fn store_header(
+    slot: Slot,
+    limit: usize,
+    core: Core,
+    last: bool,
+    number: usize,
+    bytes: &[u8],
+    header: &mut [u8],
+    body: &mut [u8],
+    marks: &mut [u8],
+) -> Slot
+    requires { ⌜ Ready Part.Header limit core slot (record { header = now header; body = now body; marks = now marks }) last number (length (now bytes)) ⌝ }
+    requires { ⌜ CanMove (slot .body) (recordStill Part.Body limit core slot (now marks) .size) (now body) ⌝ }
+    ensures { λ r. ⌜ record { slot = r; lent = record { header = now (header .exit); body = now (body .exit); marks = now (marks .exit) } } ≡ headerStored limit core slot (record { header = now (header .entry); body = now (body .entry); marks = now (marks .entry) }) last number (now (bytes .entry)) ⌝ }
+{
+    let old = slot.header;
+    let old_body = slot.body;
+    let kept = record_as(
+        Part::Header,
+        limit,
+        core,
+        slot,
+        marks,
+        last,
+        number,
+        bytes.len(),
+    );
+    let still = record_still(Part::Body, limit, core, slot, marks);
+    put_in(old, kept, last, number, bytes, header);
+    move_last(old_body, still.size, body);
+    marks[number] = 1;
+    slot_from(slot.number, kept, still, header, marks)
+}
+
+fn store_body(
+    slot: Slot,
+    limit: usize,
+    core: Core,
+    last: bool,
+    number: usize,
+    bytes: &[u8],
+    header: &[u8],
+    body: &mut [u8],
+    marks: &mut [u8],
+) -> Slot
+    requires { ⌜ Ready Part.Body limit core slot (record { header = now header; body = now body; marks = now marks }) last number (length (now bytes)) ⌝ }
+    ensures { λ r. ⌜ record { slot = r; lent = record { header = now (header .entry); body = now (body .exit); marks = now (marks .exit) } } ≡ bodyStored limit core slot (record { header = now (header .entry); body = now (body .entry); marks = now (marks .entry) }) last number (now (bytes .entry)) ⌝ }
+{
+    let old = slot.body;
+    let kept_header = slot.header;
+    let kept = record_as(
+        Part::Body,
+        limit,
+        core,
+        slot,
+        marks,
+        last,
+        number,
+        bytes.len(),
+    );
+    put_in(old, kept, last, number, bytes, body);
+    marks[64 + number] = 1;
+    slot_from(slot.number, kept_header, kept, header, marks)
+}
+
+// What comes of a segment, and the slot afterwards.
+pub struct Took {
+    pub outcome: Outcome,
+    pub slot: Slot,
+}
+
+fn outcome_by(stage: Stage) -> Outcome
+    ensures { λ r. ⌜ r ≡ outcomeBy stage ⌝ }
+{
+    match stage {
+        Stage::Free => Outcome::Stored,
+        Stage::Gathering => Outcome::Stored,
+        Stage::Finished(_, _) => Outcome::Complete,
+    }
+}
+
+// What header segment 0 says, with a header segment of this number in.
+fn core_with(number: usize, bytes: &[u8], core: Core) -> Core
+    ensures { λ r. ⌜ r ≡ pick (eqb number 0) (Seen (bodySize (now (bytes .entry))) (headerSize (now (bytes .entry)))) core ⌝ }
+{
+    if number == 0 {
+        return core_of(bytes);
+    }
+    core
+}
+
+fn take_header(
+    slot: Slot,
+    limit: usize,
+    last: bool,
+    number: usize,
+    bytes: &[u8],
+    header: &mut [u8],
+    body: &mut [u8],
+    marks: &mut [u8],
+) -> Took
+    requires { ⌜ Offered limit slot (record { header = now header; body = now body; marks = now marks }) ⌝ }
+    ensures { λ r. ⌜ record { outcome = r .outcome; slot = r .slot; lent = record { header = now (header .exit); body = now (body .exit); marks = now (marks .exit) } } ≡ takeInto Part.Header limit (record { number = number; last = last; bytes = now (bytes .entry) }) slot (record { header = now (header .entry); body = now (body .entry); marks = now (marks .entry) }) ⌝ }
+{
+    if 64 <= number {
+        return Took {
+            outcome: Outcome::Conflict,
+            slot,
+        };
+    }
+    if marks[number] != 0 {
+        let kept = slot.header;
+        if same_in(kept, last, number, bytes, header) {
+            return Took {
+                outcome: Outcome::Repeat,
+                slot,
+            };
+        }
+        return Took {
+            outcome: Outcome::Conflict,
+            slot,
+        };
+    }
+    let core = core_with(
+        number,
+        bytes,
+        core_from(marks_of(Part::Header, marks), header),
+    );
+    if !takes(
+        Part::Header,
+        limit,
+        core,
+        slot,
+        marks,
+        last,
+        number,
+        bytes.len(),
+    ) {
+        return Took {
+            outcome: Outcome::Conflict,
+            slot,
+        };
+    }
+    let stored = store_header(slot, limit, core, last, number, bytes, header, body, marks);
+    let stage = stored.stage;
+    Took {
+        outcome: outcome_by(stage),
+        slot: stored,
+    }
+}
+
+fn take_body(
+    slot: Slot,
+    limit: usize,
+    last: bool,
+    number: usize,
+    bytes: &[u8],
+    header: &[u8],
+    body: &mut [u8],
+    marks: &mut [u8],
+) -> Took
+    requires { ⌜ Offered limit slot (record { header = now header; body = now body; marks = now marks }) ⌝ }
+    ensures { λ r. ⌜ record { outcome = r .outcome; slot = r .slot; lent = record { header = now (header .entry); body = now (body .exit); marks = now (marks .exit) } } ≡ takeInto Part.Body limit (record { number = number; last = last; bytes = now (bytes .entry) }) slot (record { header = now (header .entry); body = now (body .entry); marks = now (marks .entry) }) ⌝ }
+{
+    if 1024 <= number {
+        return Took {
+            outcome: Outcome::Conflict,
+            slot,
+        };
+    }
+    if marks[64 + number] != 0 {
+        let kept = slot.body;
+        if same_in(kept, last, number, bytes, body) {
+            return Took {
+                outcome: Outcome::Repeat,
+                slot,
+            };
+        }
+        return Took {
+            outcome: Outcome::Conflict,
+            slot,
+        };
+    }
+    let core = core_from(marks_of(Part::Header, marks), header);
+    if !takes(
+        Part::Body,
+        limit,
+        core,
+        slot,
+        marks,
+        last,
+        number,
+        bytes.len(),
+    ) {
+        return Took {
+            outcome: Outcome::Conflict,
+            slot,
+        };
+    }
+    let stored = store_body(slot, limit, core, last, number, bytes, header, body, marks);
+    let stage = stored.stage;
+    Took {
+        outcome: outcome_by(stage),
+        slot: stored,
+    }
+}
+
+// A segment is offered to a slot.
+pub fn take(
+    slot: Slot,
+    limit: usize,
+    part: Part,
+    last: bool,
+    number: usize,
+    bytes: &[u8],
+    header: &mut [u8],
+    body: &mut [u8],
+    marks: &mut [u8],
+) -> Took
+    requires { ⌜ Offered limit slot (record { header = now header; body = now body; marks = now marks }) ⌝ }
+    ensures { λ r. ⌜ record { outcome = r .outcome; slot = r .slot; lent = record { header = now (header .exit); body = now (body .exit); marks = now (marks .exit) } } ≡ takeInto part limit (record { number = number; last = last; bytes = now (bytes .entry) }) slot (record { header = now (header .entry); body = now (body .entry); marks = now (marks .entry) }) ⌝ }
+{
+    match part {
+        Part::Header => take_header(slot, limit, last, number, bytes, header, body, marks),
+        Part::Body => take_body(slot, limit, last, number, bytes, header, body, marks),
+    }
+}
+
+// Whether the last segment that a record tells of is marked.
+fn end_right(end: usize, tail: usize, marks: &[u8]) -> bool
+    ensures { λ r. ⌜ r ≡ endRight end tail (now (marks .entry)) ⌝ }
+{
+    if end == 0 {
+        return tail == 0;
+    }
+    if marks.len() < end {
+        return false;
+    }
+    0 < marks[end - 1]
+}
+
+fn record_right(part: Part, limit: usize, core: Core, slot: Slot, marks: &[u8]) -> bool
+    requires { ⌜ length (now marks) ≡ 1088 ⌝ }
+    ensures { λ r. ⌜ r ≡ rightAs part limit core slot (now (marks .entry)) ⌝ }
+{
+    let kept = kept_of(part, slot);
+    let mine = marks_of(part, marks);
+    if !end_right(kept.end, kept.tail, mine) {
+        return false;
+    }
+    if full_in(kept, mine) {
+        return true;
+    }
+    let settled = cut::settle(cut::bounds_of(part, limit, core), false, kept);
+    kept.size == settled.size
+}
+
+fn same_stage(a: Stage, b: Stage) -> bool
+    ensures { λ r. ⌜ r ≡ sameStage a b ⌝ }
+{
+    match a {
+        Stage::Free => match b {
+            Stage::Free => true,
+            Stage::Gathering => false,
+            Stage::Finished(_, _) => false,
         },
-        body: Record {
-            size: 0,
-            end: 0,
-            tail: 0,
+        Stage::Gathering => match b {
+            Stage::Free => false,
+            Stage::Gathering => true,
+            Stage::Finished(_, _) => false,
+        },
+        Stage::Finished(header, body) => match b {
+            Stage::Free => false,
+            Stage::Gathering => false,
+            Stage::Finished(other_header, other_body) => {
+                if header == other_header {
+                    return body == other_body;
+                }
+                false
+            }
         },
     }
+}
+
+fn suits_in(limit: usize, core: Core, slot: Slot, marks: &[u8]) -> bool
+    requires { ⌜ length (now marks) ≡ 1088 ⌝ }
+    ensures { λ r. ⌜ r ≡ suitsIn limit core (slot .header) (marksOf Part.Header (now (marks .entry))) (slot .body) (marksOf Part.Body (now (marks .entry))) ⌝ }
+{
+    let header = slot.header;
+    let body = slot.body;
+    if !cut::core_fits(limit, core) {
+        return false;
+    }
+    if !possible_in(
+        cut::bounds_of(Part::Header, limit, core),
+        header,
+        marks_of(Part::Header, marks),
+    ) {
+        return false;
+    }
+    possible_in(
+        cut::bounds_of(Part::Body, limit, core),
+        body,
+        marks_of(Part::Body, marks),
+    )
+}
+
+// Whether a held slot is sound: its marks are 0 or 1 and some are set, and its record and its stage are those that the
+// marked segments give, which fit some object and cut.
+pub fn is_sound(slot: Slot, limit: usize, header: &[u8], marks: &[u8]) -> bool
+    requires { ⌜ length (now marks) ≡ 1088 ⌝ }
+    ensures { λ r. ⌜ r ≡ soundBy limit slot (now (header .entry)) (now (marks .entry)) ⌝ }
+{
+    if 1 < octets::largest(marks) {
+        return false;
+    }
+    if octets::sum(marks) == 0 {
+        return false;
+    }
+    let core = core_from(marks_of(Part::Header, marks), header);
+    if !record_right(Part::Header, limit, core, slot, marks) {
+        return false;
+    }
+    if !record_right(Part::Body, limit, core, slot, marks) {
+        return false;
+    }
+    if !suits_in(limit, core, slot, marks) {
+        return false;
+    }
+    let kept = slot.header;
+    let other = slot.body;
+    let given = slot_from(slot.number, kept, other, header, marks);
+    let stage = given.stage;
+    let claimed = slot.stage;
+    same_stage(claimed, stage)
 }
