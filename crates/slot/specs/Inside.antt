@@ -22,19 +22,18 @@ use Rattle.cut.specs.declared.Core.{Core}
 use Rattle.cut.specs.declared.Core.the-variants.{Unseen, Seen}
 use Rattle.cut.specs.declared.Bounds.{Bounds}
 use Rattle.cut.specs.declared.Record.{Record}
-use Rattle.cut.specs.Decision.{boundsOf, coreTests, coreFits, room, possible, addPart, joins, derived, settle, coreAfter, finished}
-use Rattle.cut.specs.LawsDecision.{EndSits, TopSits, Suits, both-true, all-true, false-true, possible-iff}
+use Rattle.cut.specs.Decision.{boundsOf, coreTests, coreFits, room, possible, addPart, joins, derived, settle, coreAfter}
+use Rattle.cut.specs.LawsDecision.{EndSits, TopSits, Suits, both-true, all-true, possible-iff}
 use Rattle.cut.specs.LawsObject.{WithinOf}
 use Rattle.cut.specs.Marks.{topFrom, top-high, top-open, top-ended, total-some}
 use Rattle.cut.specs.LawsSegment.{SitsAs}
 use Rattle.cut.specs.Sums.{ended, possibleIn, acceptsIn, fullIn, suitsIn, possible-in}
 use Rattle.slot.specs.declared.Slot.{Slot}
 use Rattle.slot.specs.declared.Stage.{Stage}
-use Rattle.slot.specs.declared.Stage.the-variants.{Free, Gathering, Finished}
 use Rattle.slot.specs.Memory.{Memory, placeOf, lengthOf}
-use Rattle.slot.specs.Take.{Lent, Parts, partsOf, memoryOf, coreIn, takesIn, recordWith, recordWithin, stageBy, stageOf}
+use Rattle.slot.specs.Take.{Lent, Parts, partsOf, memoryOf, coreIn, takesIn, recordWith, recordWithin, stageOf}
 use Rattle.slot.specs.Sound.{endRight, recordRight, sameStage, soundParts, soundSlot}
-use Rattle.slot.specs.Shape.{widthOf, numbersOf, Shaped, coreWith, recordAfter, Placed, Small, Moves}
+use Rattle.slot.specs.Shape.{widthOf, numbersOf, Shaped, Bits, coreWith, recordAfter, Placed, Small, Moves}
 
 -- ---- the bounds of a part are those of its share
 
@@ -66,7 +65,7 @@ pub record Suited (b : Bounds) (p : Record) : Type 0 where
   pub size : (p .size ≡ 0) ⊎ (p .size ≡ cut)
 
 -- a size that the bounds give is that of the cut
-derived-is : (b : Bounds) (S L end tail : ℕ) → WithinOf b S L → EndSits S L end tail → (derived b end tail ≡ 0) ⊎ (derived b end tail ≡ S)
+pub derived-is : (b : Bounds) (S L end tail : ℕ) → WithinOf b S L → EndSits S L end tail → (derived b end tail ≡ 0) ⊎ (derived b end tail ≡ S)
 derived-is b S L zero tail w e = inl refl
 derived-is b S L (suc zero) tail w e = inl refl
 derived-is b S L (suc (suc n)) tail w e = go (ℕ-discrete (b .least) (b .most))
@@ -88,10 +87,22 @@ settled-suited b (suc t) p e =
 below : (S n m : ℕ) → n * S < m * S → n < m
 below S n m h = lt-of-mul-lt-mul-right S h
 
+-- a segment of a part so long, cut so, ends before the part does, under a size that is 0 or the cut
+pub sits-before : (last : Bool) (S L size n k : ℕ) → SitsAs last S L n k → (size ≡ 0) ⊎ (size ≡ S) → n * size + k ≤ L
+sits-before true S L size n k t (inl z) = rw z (omega arith)
+sits-before true S L size n k t (inr z) = rw z (omega arith)
+sits-before false S L size n k t (inl z) = rw z (omega arith)
+sits-before false S L size n k t (inr z) = rw z (omega arith)
+
+sits-number : (last : Bool) (b : Bounds) (S L n k : ℕ) → WithinOf b S L → SitsAs last S L n k → n < b .numbers
+sits-number true b S L n k w t = below S n (b .numbers) (omega (arith, w .enough))
+sits-number false b S L n k w t = below S n (b .numbers) (omega (arith, w .enough, w .low))
+
 -- the last one, under a size that is 0 or the cut
 last-lies : (b : Bounds) (S L size n k : ℕ) → WithinOf b S L → EndSits S L (suc n) k → (size ≡ 0) ⊎ (size ≡ S) → (n < b .numbers) × (n * size + k ≤ b .most) × (k ≤ sizeMost)
-last-lies b S L size n k w e (inl z) = rw z (below S n (b .numbers) (omega (arith, w .enough)), omega (arith, w .short), omega (arith, w .high))
-last-lies b S L size n k w e (inr z) = rw z (below S n (b .numbers) (omega (arith, w .enough)), omega (arith, w .short), omega (arith, w .high))
+last-lies b S L size n k w e z =
+    let h = sits-before true S L size n k e z in
+    (sits-number true b S L n k w e, omega (arith, w .short), omega (arith, w .high))
 
 size-small : (b : Bounds) (S L size : ℕ) → WithinOf b S L → (size ≡ 0) ⊎ (size ≡ S) → size ≤ sizeMost
 size-small b S L size w (inl z) = omega arith
@@ -115,7 +126,7 @@ suited-small b p width u t h g =
 
 -- ---- a segment at its place
 
-place-lies : (last : Bool) (width size n k : ℕ) → n * size + k ≤ width → placeOf last size width n k + k ≤ width
+pub place-lies : (last : Bool) (width size n k : ℕ) → n * size + k ≤ width → placeOf last size width n k + k ≤ width
 place-lies false width size n k h = h
 place-lies true width (suc size) n k h = h
 place-lies true width zero zero k h = omega arith
@@ -335,7 +346,7 @@ module _ (b : Bounds) (m : Memory) (bits : Each (λ x. x ≤ 1) (m .marks)) (rig
   right-full = full-top (m .kept) (m .marks) bits (right-end .1)
 
   -- the size is the one that the last segment gives, unless a full one is in
-  right-size : topIn m ≡ 0 → m .kept .size ≡ derived b (m .kept .end) (m .kept .tail)
+  pub right-size : topIn m ≡ 0 → m .kept .size ≡ derived b (m .kept .end) (m .kept .tail)
   unfolding recordRight
   right-size z =
       let f : fullIn (m .kept) (m .marks) ≡ false = right-full ∙ (rw z refl) in
@@ -362,11 +373,6 @@ module _ (b : Bounds) (m : Memory) (bits : Each (λ x. x ≤ 1) (m .marks)) (rig
       let g : suc (0 + n) ≤ topIn m = top-high (m .kept .end) 0 n (m .marks) h (λ y. eqb-false (suc n) (m .kept .end) e (omega arith)) in
       top-sits (right-suits .cut) (right-suits .long) (topIn m) (m .kept .size) n (right-suits .full) (omega (arith, g))
 
-sits-lies : (last : Bool) (b : Bounds) (S L size n k : ℕ) → WithinOf b S L → SitsAs last S L n k → (size ≡ 0) ⊎ (size ≡ S) → (n < b .numbers) × (n * size + k ≤ b .most)
-sits-lies true b S L size n k w t z = let r = last-lies b S L size n k w t z in (r .0, r .1)
-sits-lies false b S L size n k w t (inl z) = rw z (below S n (b .numbers) (omega (arith, w .enough, w .low)), omega (arith, w .short))
-sits-lies false b S L size n k w t (inr z) = rw z (below S n (b .numbers) (omega (arith, w .enough, w .low)), omega (arith, w .short))
-
 -- what a part of a sound slot has passed
 pub record Right (part : Part) (limit : ℕ) (ps : Parts) : Type 0 where
   pub core : coreFits limit (coreIn (ps .header)) ≡ true
@@ -390,10 +396,6 @@ sound-right part limit stage ps e =
     by : (part : Part) → Tests Header → Tests Body → coreFits limit (coreIn (ps .header)) ≡ true → Can Header → Can Body → Right part limit ps
     by Header r r' k c c' = record { core = k; right = r; can = c }
     by Body r r' k c c' = record { core = k; right = r'; can = c' }
-
--- the marks are 0 or 1
-abbrev pub Bits : Parts → Type 0
-Bits ps = (largestOf (ps .header .marks) ≤ 1) × (largestOf (ps .body .marks) ≤ 1)
 
 pub part-bits : (part : Part) (ps : Parts) → Bits ps → Each (λ x. x ≤ 1) (memoryOf part ps .marks)
 part-bits Header ps h = each-bit (ps .header .marks) (h .0)
@@ -425,8 +427,9 @@ module _ (part : Part) (limit : ℕ) (stage : Stage) (ps : Parts) (h : Shaped li
       let m : Memory = memoryOf part ps in
       let last : Bool = eqb (suc n) (m .kept .end) in
       let u : Suits b (topIn m) (m .kept .size) (m .kept .end) (m .kept .tail) = right-suits b m (part-bits part ps bits) (r .right) (r .can) in
-      let t = sits-lies last b (u .cut) (u .long) (m .kept .size) n (lengthOf last (m .kept)) (u .within) (marked-sits b m (part-bits part ps bits) (r .right) (r .can) last n refl g) (size-known b m (part-bits part ps bits) (r .right) (r .can)) in
-      placed last (length (m .share)) (numbersOf part) (m .kept .size) n (lengthOf last (m .kept)) (omega (arith, t .0, numbers)) (omega (arith, t .1, most))
+      let t = marked-sits b m (part-bits part ps bits) (r .right) (r .can) last n refl g in
+      let e = sits-before last (u .cut) (u .long) (m .kept .size) n (lengthOf last (m .kept)) t (size-known b m (part-bits part ps bits) (r .right) (r .can)) in
+      placed last (length (m .share)) (numbersOf part) (m .kept .size) n (lengthOf last (m .kept)) (omega (arith, sits-number last b (u .cut) (u .long) n (lengthOf last (m .kept)) (u .within) t, numbers)) (omega (arith, e, u .within .short, most))
 
   -- and the numbers of its record are small
   pub record-small : Small (length (memoryOf part ps .share)) (numbersOf part) (memoryOf part ps .kept)
@@ -456,39 +459,3 @@ lent-bits slot lent h =
     let n : ℕ = length (drop headerNumbers (lent .marks)) in
     let e : take n (drop headerNumbers (lent .marks)) ≡ drop headerNumbers (lent .marks) = take-all n (drop headerNumbers (lent .marks)) (omega arith) in
     (omega (arith, largest-part (lent .marks) 0 headerNumbers), omega (arith, largest-part (lent .marks) headerNumbers n, ap largestOf e))
-
-pub same-stage : (x y : Stage) → sameStage x y ≡ true → x ≡ y
-same-stage Free Free e = refl
-same-stage Free Gathering e = absurd (false-true refl e)
-same-stage Free (Finished h b) e = absurd (false-true refl e)
-same-stage Gathering Free e = absurd (false-true refl e)
-same-stage Gathering Gathering e = refl
-same-stage Gathering (Finished h b) e = absurd (false-true refl e)
-same-stage (Finished h b) Free e = absurd (false-true refl e)
-same-stage (Finished h b) Gathering e = absurd (false-true refl e)
-same-stage (Finished h b) (Finished h' b') e = let r = both-true (eqb h h') (eqb b b') e in rw (eqb-true h h' (r .0), eqb-true b b' (r .1)) refl
-
--- the stage of a sound slot is the one that its parts give
-pub sound-stage : (limit : ℕ) (stage : Stage) (ps : Parts) → soundParts limit stage ps ≡ true → stage ≡ stageOf ps
-unfolding soundParts
-sound-stage limit stage ps e =
-    let c : Core = coreIn (ps .header) in
-    let t = all-true (recordRight (boundsOf Header limit c) (ps .header) ∷ recordRight (boundsOf Body limit c) (ps .body) ∷ suitsIn limit c (ps .header .kept) (ps .header .marks) (ps .body .kept) (ps .body .marks) ∷ sameStage stage (stageOf ps) ∷ []) e in
-    same-stage stage (stageOf ps) (t .1 .1 .1 .0)
-
-finished-core : (done : Bool) (c : Core) (h b : ℕ) → stageBy done c ≡ Finished h b → c ≡ Seen b h
-finished-core false c h b e = let z : _≡_ {A = ℕ} 0 1 = cc in absurd (omega arith)
-finished-core true Unseen h b e = let z : _≡_ {A = ℕ} 0 1 = cc in absurd (omega arith)
-finished-core true (Seen body header) h b e = let x : header ≡ h = cc in let y : body ≡ b = cc in rw (x, y) refl
-
-core-lengths : (limit h b : ℕ) → coreFits limit (Seen b h) ≡ true → (h ≤ headerMost) × (b ≤ limit)
-unfolding coreFits
-core-lengths limit h b e = let t = all-true (coreTests limit (Seen b h)) e in (leb-true h headerMost (t .1 .0), leb-true b limit (t .1 .1 .0))
-
--- the two lengths of a finished object lie inside the shares
-pub finished-inside : (limit h b : ℕ) (ps : Parts) → soundParts limit (Finished h b) ps ≡ true → (h ≤ headerMost) × (b ≤ limit)
-unfolding stageOf
-finished-inside limit h b ps e =
-    let d : Bool = finished (coreIn (ps .header)) (sumOf (ps .header .marks)) (ps .header .kept) (sumOf (ps .body .marks)) (ps .body .kept) in
-    let c : coreIn (ps .header) ≡ Seen b h = finished-core d (coreIn (ps .header)) h b (sym (sound-stage limit (Finished h b) ps e)) in
-    core-lengths limit h b (rw c at (sound-right Header limit (Finished h b) ps e .core))

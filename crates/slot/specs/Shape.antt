@@ -1,16 +1,20 @@
 -- The sizes of what is lent for a slot, and where in a share its bytes lie: all that code needs to stay inside.
 use mathlib.Core.Path.{_≡_}
 use mathlib.Core.Bool.{Bool}
+use mathlib.Core.List.{List}
 use Prim.Native.Nat.{ℕ, _+_, _-_, _*_, _≤_, _<_}
-use lib.ListN.{length}
+use lib.ListN.{length, getD}
+use Rattle.octets.specs.Octets.{largestOf}
 use Rattle.answer.specs.declared.Part.{Part}
 use Rattle.answer.specs.declared.Part.the-variants.{Header, Body}
+use Rattle.cut.specs.Lists.{Bytes}
 use Rattle.cut.specs.Requirement.{headerMost, sizeMost, headerNumbers, bodyNumbers, Segment}
 use Rattle.cut.specs.declared.Core.{Core}
 use Rattle.cut.specs.declared.Record.{Record}
 use Rattle.cut.specs.Decision.{coreAfter, boundsOf}
+use Rattle.slot.specs.declared.Slot.{Slot}
 use Rattle.slot.specs.Memory.{placeOf}
-use Rattle.slot.specs.Take.{Parts, memoryOf, coreIn, recordWith}
+use Rattle.slot.specs.Take.{Lent, Parts, partsOf, memoryOf, coreIn, recordWith, Taken}
 
 -- how many bytes a part's share has, and how many marks
 abbrev pub widthOf : Part → ℕ → ℕ
@@ -26,6 +30,18 @@ pub record Shaped (limit : ℕ) (ps : Parts) : Type 0 where
   pub bodyShare : length (ps .body .share) ≡ limit
   pub headerMarks : length (ps .header .marks) ≡ headerNumbers
   pub bodyMarks : length (ps .body .marks) ≡ bodyNumbers
+
+-- the marks are 0 or 1
+abbrev pub Bits : Parts → Type 0
+Bits ps = (largestOf (ps .header .marks) ≤ 1) × (largestOf (ps .body .marks) ≤ 1)
+
+-- what is lent for a slot has document 01's lengths, and its stores are bytes
+pub record IsLent (limit : ℕ) (lent : Lent) : Type 0 where
+  pub headerLength : length (lent .header) ≡ headerMost
+  pub bodyLength : length (lent .body) ≡ limit
+  pub marksLength : length (lent .marks) ≡ headerNumbers + bodyNumbers
+  pub headerBytes : Bytes (lent .header)
+  pub bodyBytes : Bytes (lent .body)
 
 -- what header segment 0 says once a segment of a part is in
 abbrev pub coreWith : Part → Segment → Core → Core
@@ -54,3 +70,29 @@ pub record Small (width numbers : ℕ) (p : Record) : Type 0 where
 pub record Moves (width : ℕ) (old new : Record) : Type 0 where
   pub tail : old .tail ≤ width
   pub place : (old .end - 1) * new .size + old .tail ≤ width
+
+-- a slot's record of a part, and the part's share of what is lent
+abbrev pub keptOf : Part → Slot → Record
+keptOf Header slot = slot .header
+keptOf Body slot = slot .body
+
+abbrev pub shareOf : Part → Lent → List ℕ
+shareOf Header lent = lent .header
+shareOf Body lent = lent .body
+
+-- byte i of a share lies where a last segment is copied to, or where a segment is written
+pub record Copied (old new : Record) (i : ℕ) : Type 0 where
+  pub unknown : old .size ≡ 0
+  pub known : 0 < new .size
+  pub later : 2 ≤ old .end
+  pub from : (old .end - 1) * new .size ≤ i
+  pub before : i < (old .end - 1) * new .size + old .tail
+
+pub record Written (s : Segment) (size width i : ℕ) : Type 0 where
+  pub from : placeOf (s .last) size width (s .number) (length (s .bytes)) ≤ i
+  pub before : i < placeOf (s .last) size width (s .number) (length (s .bytes)) + length (s .bytes)
+
+-- what a call leaves of a slot: each byte but those that are written or copied to, and each mark but the segment's
+pub record Leaves (part : Part) (s : Segment) (slot : Slot) (lent : Lent) (t : Taken) : Type 0 where
+  pub bytes : (p : Part) (i : ℕ) → ¬ (Copied (keptOf p slot) (keptOf p (t .slot)) i) → (p ≡ part → ¬ (Written s (keptOf p (t .slot) .size) (length (shareOf p lent)) i)) → getD (shareOf p (t .lent)) i 0 ≡ getD (shareOf p lent) i 0
+  pub marks : (p : Part) (n : ℕ) → ¬ ((p ≡ part) × (n ≡ s .number)) → getD (memoryOf p (partsOf (t .slot) (t .lent)) .marks) n 0 ≡ getD (memoryOf p (partsOf slot lent) .marks) n 0
