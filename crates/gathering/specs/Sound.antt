@@ -10,11 +10,11 @@ use Rattle.cut.specs.declared.Bounds.{Bounds}
 use Rattle.cut.specs.Lists.{pick}
 use Rattle.cut.specs.Decision.{both, all, boundsOf, derived}
 use Rattle.cut.specs.Sums.{fullIn, suitsIn}
-use Rattle.slot.specs.declared.Slot.{Slot}
-use Rattle.slot.specs.declared.Stage.{Stage}
-use Rattle.slot.specs.declared.Stage.the-variants.{Free, Gathering, Finished}
-use Rattle.slot.specs.Memory.{Memory}
-use Rattle.slot.specs.Take.{Lent, Parts, partsOf, coreIn, stageOf}
+use Rattle.gathering.specs.declared.Slot.{Slot}
+use Rattle.gathering.specs.declared.Stage.{Stage}
+use Rattle.gathering.specs.declared.Stage.the-variants.{Free, Gathering, Finished}
+use Rattle.gathering.specs.Memory.{Memory}
+use Rattle.gathering.specs.Take.{Lent, Parts, partsOf, coreIn, stageOf}
 
 -- the last one that the record tells of is marked; where there is none, it has no length
 abbrev pub endRight : ℕ → ℕ → List ℕ → Bool

@@ -11,7 +11,7 @@ use Rattle.cut.specs.Requirement.{Segment}
 use Rattle.cut.specs.LawsSegment.{Numbered, Same, Agree, among-numbered}
 use Rattle.cut.specs.LawsOrder.{SameSet}
 use Rattle.cut.specs.Marks.{Marked}
-use Rattle.slot.specs.Memory.{Memory, segmentAt, markedFrom, heldIn}
+use Rattle.gathering.specs.Memory.{Memory, segmentAt, markedFrom, heldIn}
 
 -- each segment is what is read at its number
 abbrev pub Reads : Memory → List Segment → Type 0

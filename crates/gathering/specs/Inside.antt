@@ -28,12 +28,12 @@ use Rattle.cut.specs.LawsObject.{WithinOf}
 use Rattle.cut.specs.Marks.{topFrom, top-high, top-open, top-ended, total-some}
 use Rattle.cut.specs.LawsSegment.{SitsAs}
 use Rattle.cut.specs.Sums.{ended, possibleIn, acceptsIn, fullIn, suitsIn, possible-in}
-use Rattle.slot.specs.declared.Slot.{Slot}
-use Rattle.slot.specs.declared.Stage.{Stage}
-use Rattle.slot.specs.Memory.{Memory, placeOf, lengthOf}
-use Rattle.slot.specs.Take.{Lent, Parts, partsOf, memoryOf, coreIn, takesIn, recordWith, recordWithin, stageOf}
-use Rattle.slot.specs.Sound.{endRight, recordRight, sameStage, soundParts, soundSlot}
-use Rattle.slot.specs.Shape.{widthOf, numbersOf, Shaped, Bits, coreWith, recordAfter, Placed, Small, Moves}
+use Rattle.gathering.specs.declared.Slot.{Slot}
+use Rattle.gathering.specs.declared.Stage.{Stage}
+use Rattle.gathering.specs.Memory.{Memory, placeOf, lengthOf}
+use Rattle.gathering.specs.Take.{Lent, Parts, partsOf, memoryOf, coreIn, takesIn, recordWith, recordWithin, stageOf}
+use Rattle.gathering.specs.Sound.{endRight, recordRight, sameStage, soundParts, soundSlot}
+use Rattle.gathering.specs.Shape.{widthOf, numbersOf, Shaped, Bits, coreWith, recordAfter, Placed, Small, Moves}
 
 -- ---- the bounds of a part are those of its share
 

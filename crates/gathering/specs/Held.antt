@@ -14,12 +14,12 @@ use Rattle.cut.specs.Decision.{boundsOf, summary, recordOf, coreOf}
 use Rattle.cut.specs.LawsSegment.{Numbered}
 use Rattle.cut.specs.LawsObject.{headersWith, bodiesWith, those}
 use Rattle.cut.specs.Marks.{Marked}
-use Rattle.slot.specs.declared.Slot.{Slot}
-use Rattle.slot.specs.declared.Stage.{Stage}
-use Rattle.slot.specs.declared.Stage.the-variants as Stage
-use Rattle.slot.specs.Memory.{Memory, placeOf}
-use Rattle.slot.specs.Take.{Lent, Parts, partsOf, Taken}
-use Rattle.slot.specs.Shape.{Shaped, IsLent}
+use Rattle.gathering.specs.declared.Slot.{Slot}
+use Rattle.gathering.specs.declared.Stage.{Stage}
+use Rattle.gathering.specs.declared.Stage.the-variants as Stage
+use Rattle.gathering.specs.Memory.{Memory, placeOf}
+use Rattle.gathering.specs.Take.{Lent, Parts, partsOf, Taken}
+use Rattle.gathering.specs.Shape.{Shaped, IsLent}
 
 -- a segment's bytes are laid in their place in the share, under a size
 abbrev pub LaidAs : Bool → ℕ → List ℕ → ℕ → List ℕ → Type 0

@@ -18,12 +18,12 @@ use Rattle.cut.specs.LawsObject.{WithinOf}
 use Rattle.cut.specs.LawsOrder.{Knows, knows-each, knows-last, EndFrom, TopFrom, end-from, top-from}
 use Rattle.cut.specs.Marks.{topFrom, top-kept}
 use Rattle.cut.specs.Sums.{possibleIn}
-use Rattle.slot.specs.Memory.{Memory, placeOf, lengthOf, segmentAs, segmentAt, heldIn}
-use Rattle.slot.specs.Sound.{recordRight}
-use Rattle.slot.specs.Inside.{topIn, right-end, right-size, right-suits, size-known, marked-sits, sits-before, place-lies}
-use Rattle.slot.specs.Held.{Laid}
-use Rattle.slot.specs.HeldIn.{at-number, at-among, held-reads, held-numbered, held-marked, reads-agree}
-use Rattle.slot.specs.HeldPart.{Noted, segment-laid}
+use Rattle.gathering.specs.Memory.{Memory, placeOf, lengthOf, segmentAs, segmentAt, heldIn}
+use Rattle.gathering.specs.Sound.{recordRight}
+use Rattle.gathering.specs.Inside.{topIn, right-end, right-size, right-suits, size-known, marked-sits, sits-before, place-lies}
+use Rattle.gathering.specs.Held.{Laid}
+use Rattle.gathering.specs.HeldIn.{at-number, at-among, held-reads, held-numbered, held-marked, reads-agree}
+use Rattle.gathering.specs.HeldPart.{Noted, segment-laid}
 
 at-last : (m : Memory) (n : ℕ) → segmentAt m n .last ≡ eqb (suc n) (m .kept .end)
 unfolding segmentAt

@@ -14,21 +14,21 @@ use Rattle.cut.specs.Requirement.{limitMost, Segment, Fits, Finished}
 use Rattle.cut.specs.LawsObject.{headersWith, bodiesWith, those}
 use Rattle.cut.specs.LawsOrder.{SameSet}
 use Rattle.cut.specs.Finished.{segmentOf, segment-sent, finished-every, finished-one}
-use Rattle.slot.specs.declared.Slot.{Slot}
-use Rattle.slot.specs.declared.Stage.{Stage}
-use Rattle.slot.specs.declared.Stage.the-variants as Stage
-use Rattle.slot.specs.declared.Outcome.{Outcome}
-use Rattle.slot.specs.declared.Outcome.the-variants.{Stored, Complete, Repeat, Conflict}
-use Rattle.slot.specs.Take.{Lent, partsOf, Taken, takeInto}
-use Rattle.slot.specs.Shape.{IsLent}
-use Rattle.slot.specs.Held.{Gathers, Vacant}
-use Rattle.slot.specs.Step.{Tells, outcome-tells, conflict-exactly}
-use Rattle.slot.specs.StepSound.{vacant-gathers, taken-lent, added-sound}
-use Rattle.slot.specs.StepStage.{stage-one}
-use Rattle.slot.specs.Shown.{holds-shows}
-use Rattle.slot.specs.State.{markedSegments}
-use Rattle.slot.specs.StateParts.{part-same}
-use Rattle.slot.specs.Offers.{Offer, ifStored, storedHeaders, storedBodies, After, Standing, none, some, Source, SentBy, AllOffered}
+use Rattle.gathering.specs.declared.Slot.{Slot}
+use Rattle.gathering.specs.declared.Stage.{Stage}
+use Rattle.gathering.specs.declared.Stage.the-variants as Stage
+use Rattle.gathering.specs.declared.Outcome.{Outcome}
+use Rattle.gathering.specs.declared.Outcome.the-variants.{Stored, Complete, Repeat, Conflict}
+use Rattle.gathering.specs.Take.{Lent, partsOf, Taken, takeInto}
+use Rattle.gathering.specs.Shape.{IsLent}
+use Rattle.gathering.specs.Held.{Gathers, Vacant}
+use Rattle.gathering.specs.Step.{Tells, outcome-tells, conflict-exactly}
+use Rattle.gathering.specs.StepSound.{vacant-gathers, taken-lent, added-sound}
+use Rattle.gathering.specs.StepStage.{stage-one}
+use Rattle.gathering.specs.Shown.{holds-shows}
+use Rattle.gathering.specs.State.{markedSegments}
+use Rattle.gathering.specs.StateParts.{part-same}
+use Rattle.gathering.specs.Offers.{Offer, ifStored, storedHeaders, storedBodies, After, Standing, none, some, Source, SentBy, AllOffered}
 
 -- ---- what it holds
 

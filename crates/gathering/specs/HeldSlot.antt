@@ -26,12 +26,12 @@ use Rattle.cut.specs.LawsObject.{WithinOf, headersWith, bodiesWith, those, part
 use Rattle.cut.specs.LawsOrder.{core-absent}
 use Rattle.cut.specs.Marks.{Marked}
 use Rattle.cut.specs.Sums.{fullIn, full-kept, settle-again, settle-full, settle-last, taken}
-use Rattle.slot.specs.Memory.{Memory, placeOf, segmentAt, settled, put}
-use Rattle.slot.specs.Take.{Parts, memoryOf, coreIn, takesIn, recordWith, recordWithin, partsWith}
-use Rattle.slot.specs.Shape.{Shaped}
-use Rattle.slot.specs.Inside.{bounds-most, share-width}
-use Rattle.slot.specs.Held.{LaidAs, Laid, Keeps, Gathers}
-use Rattle.slot.specs.HeldPart.{Room, Met, reads, settled-length, settled-keeps, put-length, put-keeps}
+use Rattle.gathering.specs.Memory.{Memory, placeOf, segmentAt, settled, put}
+use Rattle.gathering.specs.Take.{Parts, memoryOf, coreIn, takesIn, recordWith, recordWithin, partsWith}
+use Rattle.gathering.specs.Shape.{Shaped}
+use Rattle.gathering.specs.Inside.{bounds-most, share-width}
+use Rattle.gathering.specs.Held.{LaidAs, Laid, Keeps, Gathers}
+use Rattle.gathering.specs.HeldPart.{Room, Met, reads, settled-length, settled-keeps, put-length, put-keeps}
 
 -- ---- what a fitting object says of a part
 

@@ -19,19 +19,19 @@ use Rattle.cut.specs.Decision.{boundsOf, coreOf}
 use Rattle.cut.specs.LawsSegment.{Sits, Stands, inside, sits-sends, Numbered}
 use Rattle.cut.specs.LawsObject.{those, partOf, cutOf}
 use Rattle.cut.specs.Finished.{whole-numbers, part-joined, finished-joined, finished-every, finished-one}
-use Rattle.slot.specs.declared.Slot.{Slot}
-use Rattle.slot.specs.declared.Stage.{Stage}
-use Rattle.slot.specs.declared.Stage.the-variants as Stage
-use Rattle.slot.specs.Memory.{Memory, placeOf}
-use Rattle.slot.specs.Take.{Lent, Parts, partsOf, memoryOf}
-use Rattle.slot.specs.Sound.{soundSlot}
-use Rattle.slot.specs.Shape.{IsLent, numbersOf}
-use Rattle.slot.specs.Held.{LaidAs, Laid, Keeps, Gathers, Holds, StageFor, Shows}
-use Rattle.slot.specs.HeldBytes.{place-known}
-use Rattle.slot.specs.HeldPart.{Room, size-is, size-none, one-last}
-use Rattle.slot.specs.HeldSlot.{fits-room, part-keeps}
-use Rattle.slot.specs.State.{markedSegments}
-use Rattle.slot.specs.StateExact.{sound-holds}
+use Rattle.gathering.specs.declared.Slot.{Slot}
+use Rattle.gathering.specs.declared.Stage.{Stage}
+use Rattle.gathering.specs.declared.Stage.the-variants as Stage
+use Rattle.gathering.specs.Memory.{Memory, placeOf}
+use Rattle.gathering.specs.Take.{Lent, Parts, partsOf, memoryOf}
+use Rattle.gathering.specs.Sound.{soundSlot}
+use Rattle.gathering.specs.Shape.{IsLent, numbersOf}
+use Rattle.gathering.specs.Held.{LaidAs, Laid, Keeps, Gathers, Holds, StageFor, Shows}
+use Rattle.gathering.specs.HeldBytes.{place-known}
+use Rattle.gathering.specs.HeldPart.{Room, size-is, size-none, one-last}
+use Rattle.gathering.specs.HeldSlot.{fits-room, part-keeps}
+use Rattle.gathering.specs.State.{markedSegments}
+use Rattle.gathering.specs.StateExact.{sound-holds}
 
 -- ---- one part
 

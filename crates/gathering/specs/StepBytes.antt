@@ -16,12 +16,12 @@ use Rattle.answer.specs.declared.Part.the-variants.{Header, Body}
 use Rattle.cut.specs.Requirement.{headerNumbers, bodyNumbers, Segment}
 use Rattle.cut.specs.declared.Record.{Record}
 use Rattle.cut.specs.Decision.{boundsOf, coreAfter}
-use Rattle.slot.specs.declared.Slot.{Slot}
-use Rattle.slot.specs.Memory.{Memory, placeOf, segmentAt, movedAs, settled, put}
-use Rattle.slot.specs.Take.{Lent, Parts, partsOf, lentOf, memoryOf, coreIn, takesIn, recordWithin, partsWith, slotWith, sameSegment, ifNew, ifHeld, byMark, takeInto}
-use Rattle.slot.specs.Shape.{Shaped, recordAfter, keptOf, shareOf, Placed, Moves, Copied, Written, Leaves}
-use Rattle.slot.specs.Step.{parts-back}
-use Rattle.slot.specs.Inside.{takes-inside, settled-inside, body-inside}
+use Rattle.gathering.specs.declared.Slot.{Slot}
+use Rattle.gathering.specs.Memory.{Memory, placeOf, segmentAt, movedAs, settled, put}
+use Rattle.gathering.specs.Take.{Lent, Parts, partsOf, lentOf, memoryOf, coreIn, takesIn, recordWithin, partsWith, slotWith, sameSegment, ifNew, ifHeld, byMark, takeInto}
+use Rattle.gathering.specs.Shape.{Shaped, recordAfter, keptOf, shareOf, Placed, Moves, Copied, Written, Leaves}
+use Rattle.gathering.specs.Step.{parts-back}
+use Rattle.gathering.specs.Inside.{takes-inside, settled-inside, body-inside}
 
 -- ---- one byte under a run that is laid over a list
 

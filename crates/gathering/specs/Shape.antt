@@ -12,9 +12,9 @@ use Rattle.cut.specs.Requirement.{headerMost, sizeMost, headerNumbers, bodyNumb
 use Rattle.cut.specs.declared.Core.{Core}
 use Rattle.cut.specs.declared.Record.{Record}
 use Rattle.cut.specs.Decision.{coreAfter, boundsOf}
-use Rattle.slot.specs.declared.Slot.{Slot}
-use Rattle.slot.specs.Memory.{placeOf}
-use Rattle.slot.specs.Take.{Lent, Parts, partsOf, memoryOf, coreIn, recordWith, Taken}
+use Rattle.gathering.specs.declared.Slot.{Slot}
+use Rattle.gathering.specs.Memory.{placeOf}
+use Rattle.gathering.specs.Take.{Lent, Parts, partsOf, memoryOf, coreIn, recordWith, Taken}
 
 -- how many bytes a part's share has, and how many marks
 abbrev pub widthOf : Part → ℕ → ℕ

@@ -15,12 +15,12 @@ use Rattle.cut.specs.declared.Core.the-variants.{Unseen, Seen}
 use Rattle.cut.specs.Lists.{pick}
 use Rattle.cut.specs.Decision.{both, boundsOf, addPart, settle, coreAfter, finished}
 use Rattle.cut.specs.Sums.{fullIn, takes}
-use Rattle.slot.specs.declared.Slot.{Slot}
-use Rattle.slot.specs.declared.Stage.{Stage}
-use Rattle.slot.specs.declared.Stage.the-variants as Stage
-use Rattle.slot.specs.declared.Outcome.{Outcome}
-use Rattle.slot.specs.declared.Outcome.the-variants.{Stored, Complete, Repeat, Conflict}
-use Rattle.slot.specs.Memory.{Memory, segmentAt, settled, put}
+use Rattle.gathering.specs.declared.Slot.{Slot}
+use Rattle.gathering.specs.declared.Stage.{Stage}
+use Rattle.gathering.specs.declared.Stage.the-variants as Stage
+use Rattle.gathering.specs.declared.Outcome.{Outcome}
+use Rattle.gathering.specs.declared.Outcome.the-variants.{Stored, Complete, Repeat, Conflict}
+use Rattle.gathering.specs.Memory.{Memory, segmentAt, settled, put}
 
 -- ---- a slot and what is lent for it, as the memories of two parts
 

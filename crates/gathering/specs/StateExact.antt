@@ -19,21 +19,21 @@ use Rattle.cut.specs.LawsSegment.{Numbered}
 use Rattle.cut.specs.LawsObject.{those, partOf, cutOf}
 use Rattle.cut.specs.Decision.{boundsOf, summary, recordOf, coreOf}
 use Rattle.cut.specs.Marks.{total-some}
-use Rattle.slot.specs.declared.Slot.{Slot}
-use Rattle.slot.specs.declared.Stage.{Stage}
-use Rattle.slot.specs.Memory.{heldIn}
-use Rattle.slot.specs.Take.{Lent, Parts, partsOf, memoryOf, stageOf}
-use Rattle.slot.specs.Sound.{soundParts, soundSlot}
-use Rattle.slot.specs.Shape.{IsLent, Shaped}
-use Rattle.slot.specs.Inside.{each-bit, lent-shaped, lent-bits, sound-slot}
-use Rattle.slot.specs.StageInside.{sound-stage}
-use Rattle.slot.specs.Held.{Keeps, Gathers, StageFor, Holds}
-use Rattle.slot.specs.HeldIn.{held-reads, held-marked}
-use Rattle.slot.specs.HeldPart.{reads-keeps}
-use Rattle.slot.specs.HeldSlot.{fits-room, part-keeps}
-use Rattle.slot.specs.StepStage.{stage-right, stage-one}
-use Rattle.slot.specs.State.{markedSegments, Sound}
-use Rattle.slot.specs.StateParts.{sound-gathers, gathers-passes}
+use Rattle.gathering.specs.declared.Slot.{Slot}
+use Rattle.gathering.specs.declared.Stage.{Stage}
+use Rattle.gathering.specs.Memory.{heldIn}
+use Rattle.gathering.specs.Take.{Lent, Parts, partsOf, memoryOf, stageOf}
+use Rattle.gathering.specs.Sound.{soundParts, soundSlot}
+use Rattle.gathering.specs.Shape.{IsLent, Shaped}
+use Rattle.gathering.specs.Inside.{each-bit, lent-shaped, lent-bits, sound-slot}
+use Rattle.gathering.specs.StageInside.{sound-stage}
+use Rattle.gathering.specs.Held.{Keeps, Gathers, StageFor, Holds}
+use Rattle.gathering.specs.HeldIn.{held-reads, held-marked}
+use Rattle.gathering.specs.HeldPart.{reads-keeps}
+use Rattle.gathering.specs.HeldSlot.{fits-room, part-keeps}
+use Rattle.gathering.specs.StepStage.{stage-right, stage-one}
+use Rattle.gathering.specs.State.{markedSegments, Sound}
+use Rattle.gathering.specs.StateParts.{sound-gathers, gathers-passes}
 
 -- ---- marks
 

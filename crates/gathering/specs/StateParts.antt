@@ -22,17 +22,17 @@ use Rattle.cut.specs.LawsOrder.{SameSet, EndFrom, end-from, kept-same}
 use Rattle.cut.specs.Theorem.{fits-among}
 use Rattle.cut.specs.Marks.{Marked}
 use Rattle.cut.specs.Sums.{fullIn, suitsIn, suits-kept}
-use Rattle.slot.specs.declared.Stage.{Stage}
-use Rattle.slot.specs.declared.Stage.the-variants.{Free, Gathering, Finished}
-use Rattle.slot.specs.Memory.{Memory, placeOf, lengthOf, segmentAs, segmentAt, heldIn}
-use Rattle.slot.specs.Take.{Parts, memoryOf, coreIn, stageOf}
-use Rattle.slot.specs.Sound.{endRight, recordRight, sameStage, soundParts}
-use Rattle.slot.specs.Shape.{Shaped, Bits}
-use Rattle.slot.specs.Inside.{Right, sound-right, part-bits, bounds-most, share-width}
-use Rattle.slot.specs.Held.{Laid, Keeps, Gathers}
-use Rattle.slot.specs.HeldIn.{held-reads, held-marked, reads-same, reads-agree}
-use Rattle.slot.specs.HeldSlot.{part-keeps, part-reads, core-laid, core-read, full-read}
-use Rattle.slot.specs.StatePart.{cut, long, within, held-sits, held-laid, held-record}
+use Rattle.gathering.specs.declared.Stage.{Stage}
+use Rattle.gathering.specs.declared.Stage.the-variants.{Free, Gathering, Finished}
+use Rattle.gathering.specs.Memory.{Memory, placeOf, lengthOf, segmentAs, segmentAt, heldIn}
+use Rattle.gathering.specs.Take.{Parts, memoryOf, coreIn, stageOf}
+use Rattle.gathering.specs.Sound.{endRight, recordRight, sameStage, soundParts}
+use Rattle.gathering.specs.Shape.{Shaped, Bits}
+use Rattle.gathering.specs.Inside.{Right, sound-right, part-bits, bounds-most, share-width}
+use Rattle.gathering.specs.Held.{Laid, Keeps, Gathers}
+use Rattle.gathering.specs.HeldIn.{held-reads, held-marked, reads-same, reads-agree}
+use Rattle.gathering.specs.HeldSlot.{part-keeps, part-reads, core-laid, core-read, full-read}
+use Rattle.gathering.specs.StatePart.{cut, long, within, held-sits, held-laid, held-record}
 
 -- ---- the tests pass: the marked segments are held
 

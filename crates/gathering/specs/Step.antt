@@ -19,17 +19,17 @@ use Rattle.cut.specs.LawsDecision.{both-true, true-both, false-true}
 use Rattle.cut.specs.LawsObject.{headersWith, bodiesWith, those}
 use Rattle.cut.specs.Theorem.{repeat-fits, same-fits}
 use Rattle.cut.specs.Finished.{finished-every}
-use Rattle.slot.specs.declared.Slot.{Slot}
-use Rattle.slot.specs.declared.Stage.{Stage}
-use Rattle.slot.specs.declared.Stage.the-variants as Stage
-use Rattle.slot.specs.declared.Outcome.{Outcome}
-use Rattle.slot.specs.declared.Outcome.the-variants.{Stored, Complete, Repeat, Conflict}
-use Rattle.slot.specs.Memory.{segmentAt}
-use Rattle.slot.specs.Take.{Lent, Parts, partsOf, lentOf, memoryOf, takesIn, partsWith, stageOf, Taken, unchanged, sameFlag, sameSegment, outcomeBy, slotWith, storedAs, ifNew, ifHeld, byMark, takeInto}
-use Rattle.slot.specs.Held.{Gathers, StageFor, Holds, Added}
-use Rattle.slot.specs.HeldIn.{at-number, at-among}
-use Rattle.slot.specs.HeldSlot.{part-keeps, part-reads, takes-fits, fits-less, next-gathers}
-use Rattle.slot.specs.StepStage.{stage-right}
+use Rattle.gathering.specs.declared.Slot.{Slot}
+use Rattle.gathering.specs.declared.Stage.{Stage}
+use Rattle.gathering.specs.declared.Stage.the-variants as Stage
+use Rattle.gathering.specs.declared.Outcome.{Outcome}
+use Rattle.gathering.specs.declared.Outcome.the-variants.{Stored, Complete, Repeat, Conflict}
+use Rattle.gathering.specs.Memory.{segmentAt}
+use Rattle.gathering.specs.Take.{Lent, Parts, partsOf, lentOf, memoryOf, takesIn, partsWith, stageOf, Taken, unchanged, sameFlag, sameSegment, outcomeBy, slotWith, storedAs, ifNew, ifHeld, byMark, takeInto}
+use Rattle.gathering.specs.Held.{Gathers, StageFor, Holds, Added}
+use Rattle.gathering.specs.HeldIn.{at-number, at-among}
+use Rattle.gathering.specs.HeldSlot.{part-keeps, part-reads, takes-fits, fits-less, next-gathers}
+use Rattle.gathering.specs.StepStage.{stage-right}
 
 -- ---- the same segment
 

@@ -23,10 +23,10 @@ use Rattle.cut.specs.LawsDecision.{TopSits, EndSits, SumSits, Clear, sits-sum}
 use Rattle.cut.specs.LawsObject.{WithinOf}
 use Rattle.cut.specs.LawsOrder.{KnowsAs, Knows, knows-each}
 use Rattle.cut.specs.Marks.{Marked}
-use Rattle.slot.specs.Memory.{Memory, placeOf, lengthOf, segmentAs, segmentAt, movedAs, settled, put}
-use Rattle.slot.specs.Inside.{derived-is, sits-before, place-lies}
-use Rattle.slot.specs.Held.{Laid, Keeps}
-use Rattle.slot.specs.HeldBytes.{moved-length, moved-laid, put-laid, put-other}
+use Rattle.gathering.specs.Memory.{Memory, placeOf, lengthOf, segmentAs, segmentAt, movedAs, settled, put}
+use Rattle.gathering.specs.Inside.{derived-is, sits-before, place-lies}
+use Rattle.gathering.specs.Held.{Laid, Keeps}
+use Rattle.gathering.specs.HeldBytes.{moved-length, moved-laid, put-laid, put-other}
 
 -- the segments are those of a part of length L cut at S, within the bounds, and the share has room for it
 pub record Room (b : Bounds) (S L : ℕ) (m : Memory) (ss : List Segment) : Type 0 where

@@ -12,8 +12,8 @@ use Rattle.octets.specs.Octets.{over}
 use Rattle.octets.specs.Over.{over-length, over-inside, over-after, over-before}
 use Rattle.cut.specs.LawsSegment.{SitsAs}
 use Rattle.cut.specs.LawsDecision.{EndSits}
-use Rattle.slot.specs.Memory.{placeOf, movedAs}
-use Rattle.slot.specs.Held.{LaidAs}
+use Rattle.gathering.specs.Memory.{placeOf, movedAs}
+use Rattle.gathering.specs.Held.{LaidAs}
 
 -- once the size is known, a segment stands at its number times the size
 pub place-known : (last : Bool) (size width n k : ℕ) → 0 < size → placeOf last size width n k ≡ n * size
