@@ -235,11 +235,16 @@ mod tests {
         assert!(damaged(|state, _, _| state.count = 17));
         assert!(damaged(|state, _, _| state.slots[1].transport = 5));
         assert!(damaged(|_, memory, _| memory.marks[0] = 2));
+        assert!(damaged(|_, memory, _| memory.marks[500] = 2));
         assert!(damaged(|_, memory, _| memory.marks[500] = 255));
         assert!(damaged(
             |state, _, _| state.slots[1].stage = StageRecord::Free
         ));
         assert!(damaged(|_, memory, _| memory.marks[1_088 + 64 + 3] = 0));
+        assert!(damaged(|state, memory, _| {
+            memory.marks[1_088 + 64 + 3] = 0;
+            state.slots[1].body = PartRecord::default();
+        }));
         assert!(damaged(|_, memory, _| memory.marks[1] = 1));
         assert!(damaged(|_, memory, _| memory.header_store[3] = 0x50));
         assert!(damaged(|state, _, _| state.slots[0].body.size = 17));

@@ -129,7 +129,7 @@ fn cut_size(random: &mut Random, length: usize, segments: usize) -> usize {
         3 => random.within(16, 8_189),
         _ => length / random.within(1, 5),
     };
-    // A size under the least would make 2,000 segments and more of a long body.
+    // One segment too many is worth a try; a cut into tens of thousands would never end.
     size.clamp(length.div_ceil(segments + 1).clamp(16, 8_189), 8_189)
 }
 
