@@ -128,12 +128,12 @@ pub fn fits_by_trying_all(limit: usize, header: &[Piece], body: &[Piece]) -> boo
         return false;
     }
     (0..=limit)
-        .filter(|&length| some_cut_sends(length, BODY_SEGMENTS, body))
-        .any(|body_length| {
+        .filter(|&body_length| {
             header_lengths
                 .iter()
                 .any(|&header_length| core_says(header_length, body_length))
         })
+        .any(|length| some_cut_sends(length, BODY_SEGMENTS, body))
 }
 
 /// One segment size, and the lengths that a part can still have if it is cut at it.
