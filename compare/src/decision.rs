@@ -94,9 +94,11 @@ fn offer(
     let ours = there.unwrap_or_else(|| held.numbers.accept(limit, part, &piece));
     let theirs = held.fits_with(limit, part, &piece);
     if ours != theirs {
+        let (number, last, length) = (piece.number, piece.last, piece.bytes.len());
         return Err(format!(
-            "limit {limit}, {part:?} {piece:?}: accepted {ours}, not {theirs}; held: {:?} {:?}",
-            held.header, held.body
+            "limit {limit}, {part:?} {number}, last {last}, length {length}: accepted {ours}, not \
+             {theirs}; kept: {:?}",
+            held.numbers
         ));
     }
     match (there, ours) {
