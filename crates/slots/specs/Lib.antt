@@ -1,0 +1,6 @@
+pub mod Stores
+pub mod Find
+pub mod Alone
+pub mod State
+pub mod Take
+pub mod Show
