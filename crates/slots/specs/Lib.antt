@@ -1,6 +1,7 @@
 pub mod Stores
 pub mod Find
 pub mod Alone
+pub mod AloneTests
 pub mod State
 pub mod Take
 pub mod Show

@@ -55,5 +55,5 @@ pub record OfferedAt (limit i : ℕ) (slots : List Slot) (stores : Stores) : Typ
 -- slot i can be taken: none of its marks is set
 pub record OpenAt (limit i : ℕ) (stores : Stores) : Type 0 where
   pub inside : Inside limit i stores
-  pub limit : limitLeast ≤ limit
+  pub enough : limitLeast ≤ limit
   pub unmarked : sumOf (lentAt limit i stores .marks) ≡ 0
