@@ -2,13 +2,13 @@
 -- Assumes nothing.
 use mathlib.Core.Path.{_≡_, refl, sym}
 use mathlib.Core.Bool.{Bool, true, false}
-use mathlib.Core.List.{List, [], _∷_}
-use Prim.Native.Nat.{ℕ, _+_, _≤_, _<_}
+use mathlib.Core.List.{List, []}
+use Prim.Native.Nat.{ℕ, _+_, _-_, _*_, _≤_, _<_}
 use native.Mathlib.Numerals.{add-one}
 use native.Mathlib.Omega.{arith}
-use lib.ListN.{length, getD, take, drop, length-take, length-drop}
+use lib.ListN.{length, getD, take, drop}
 use lib.Dec.{ltb}
-use lib.Seq.{drop-cons, getD-take}
+use Rattle.octets.specs.Shares.{share}
 use Rattle.cut.specs.declared.Bounds.{Bounds}
 use Rattle.cut.specs.declared.Record.{Record}
 use Rattle.cut.specs.Decision.{both, room, alone, addPart}
@@ -17,14 +17,7 @@ use Rattle.slot.specs.declared.Slot.{Slot}
 use Rattle.slots.specs.declared.Found.the-variants.{Nothing, At}
 use Rattle.slots.specs.Stores.{noRecord, freeSlot}
 use Rattle.slots.specs.Find.{firstFrom}
-
--- nothing is left
-pub spent : {A : Type 0} (l : List A) (i : ℕ) → length l ≤ i → drop i l ≡ []
-spent l i h = empty (drop i l) (rw length-drop (omega arith))
-  where
-    empty : {A : Type 0} (l : List A) → length l ≡ 0 → l ≡ []
-    empty [] e = refl
-    empty (x ∷ l) e = absurd (omega arith)
+use Rattle.slots.specs.StateTests.{spent, one-more}
 
 -- ---- a turn of a loop that looks for a slot
 
@@ -35,18 +28,15 @@ module _ (test : Slot → Bool) (slots : List Slot) (count i : ℕ) where
   first-none h = rw (spent (take count slots) i h)
 
   module _ (b : i < count) (h : i < length slots) where
-    inside : i < length (take count slots)
-    inside = rw length-take (omega arith)
-
     -- this one passes
     pub first-here : test (getD slots i freeSlot) ≡ true → firstFrom test i (drop i (take count slots)) ≡ At i
     unfolding firstFrom
-    first-here e = rw (drop-cons (take count slots) i freeSlot inside, getD-take count slots i freeSlot b, e)
+    first-here e = rw (one-more slots count i b h, e)
 
     -- this one does not
     pub first-on : test (getD slots i freeSlot) ≡ false → firstFrom test i (drop i (take count slots)) ≡ firstFrom test (i + 1) (drop (i + 1) (take count slots))
     unfolding firstFrom
-    first-on e = rw (drop-cons (take count slots) i freeSlot inside, getD-take count slots i freeSlot b, e, add-one)
+    first-on e = rw (one-more slots count i b h, e, add-one)
 
 pub both-only : (a : Bool) → both a true ≡ a
 both-only true = refl
@@ -59,3 +49,8 @@ accepts-last last n b p e = rw e refl
 
 pub accepts-full : (last : Bool) (n k : ℕ) (b : Bounds) → last ≡ false → ltb n (room b (addPart last n k noRecord)) ≡ acceptsIn last n b (addPart last n k noRecord) []
 accepts-full last n k b e = rw (e, spent {A = ℕ} [] (room b (addPart false n k noRecord)) (omega arith)) (sym (both-only (ltb n (room b (addPart false n k noRecord)))))
+
+-- ---- a share of a store, lent from its start to its end
+
+pub share-lent : (w i : ℕ) (l : List ℕ) → take (i * w + w - i * w) (drop (i * w) l) ≡ share w i l
+share-lent w i l = let e : i * w + w - i * w ≡ w = omega arith in rw e refl

@@ -11,7 +11,8 @@ use slot::Outcome;
 use slot::Slot;
 use slot::Stage;
 ghost use mathlib.Core.Path.{_≡_};
-ghost use Prim.Native.Nat.{_+_, _<_};
+ghost use Prim.Native.Nat.{_+_, _*_, _≤_, _<_};
+ghost use lib.ListN.{length, take, drop};
 ghost use mathlib.Core.List.{[]};
 ghost use Rattle.cut.specs.Decision.{addPart};
 ghost use Rattle.cut.specs.Sums.{acceptsIn};
@@ -19,6 +20,7 @@ ghost use Rattle.slot.specs.Inner.{otherPart};
 ghost use Rattle.slots.specs.Stores.{noRecord, freeSlot};
 ghost use Rattle.slots.specs.Find.{isFree, holds, findIn, freeIn, findFrom};
 ghost use Rattle.slots.specs.Alone.{coreAlone, fitsAlone};
+ghost use Rattle.slots.specs.State.{withinLimits, unlike, distinct, rightBy, soundSlots};
 
 pub const SLOTS_MOST: usize = 16;
 
@@ -169,4 +171,102 @@ pub fn fits_alone(part: Part, limit: usize, last: bool, number: usize, bytes: &[
     }
     let other = other_part(part);
     cut::alone(cut::bounds_of(other, limit, core), no_record())
+}
+
+// Whether the limit and the number of slots are within their bounds, and each lent length is the one that they give.
+pub fn within_limits(limit: usize, count: usize, header: usize, body: usize, marks: usize) -> bool
+    ensures { λ r. ⌜ r ≡ withinLimits limit count header body marks ⌝ }
+{
+    if limit < cut::LIMIT_LEAST {
+        return false;
+    }
+    if cut::LIMIT_MOST < limit {
+        return false;
+    }
+    if count < 1 {
+        return false;
+    }
+    if SLOTS_MOST < count {
+        return false;
+    }
+    if header != count * cut::HEADER_MOST {
+        return false;
+    }
+    if body != count * limit {
+        return false;
+    }
+    marks == count * SLOT_MARKS
+}
+
+// Whether a slot is free, or none of the slots from one on holds its number.
+fn is_unlike(slot: Slot, from: usize, count: usize, slots: [Slot; 16]) -> bool
+    ensures { λ r. ⌜ r ≡ unlike slot (drop from (take count slots)) ⌝ }
+{
+    if is_free(slot) {
+        return true;
+    }
+    match find_from(slot.number, from, count, slots) {
+        Found::Nothing => true,
+        Found::At(_) => false,
+    }
+}
+
+// Whether no two of the first count slots hold one number.
+fn all_distinct(count: usize, slots: [Slot; 16]) -> bool
+    requires { ⌜ count ≤ 16 ⌝ }
+    ensures { λ r. ⌜ r ≡ distinct (take count slots) ⌝ }
+{
+    let mut i = 0;
+    while i < count {
+        let slot = slots[i];
+        if !is_unlike(slot, i + 1, count, slots) {
+            return false;
+        }
+        i += 1;
+    }
+    true
+}
+
+// Whether a free slot has no mark set, or a held one is sound.
+fn right_at(limit: usize, i: usize, slot: Slot, header: &[u8], marks: &[u8]) -> bool
+    requires { ⌜ i * 1024 + 1024 ≤ length (now header) ⌝ }
+    requires { ⌜ i * 1088 + 1088 ≤ length (now marks) ⌝ }
+    ensures { λ r. ⌜ r ≡ rightBy limit i slot (now (header .entry)) (now (marks .entry)) ⌝ }
+{
+    let first = i * SLOT_MARKS;
+    let end = first + SLOT_MARKS;
+    if is_free(slot) {
+        return octets::largest(&marks[first..end]) == 0;
+    }
+    let start = i * cut::HEADER_MOST;
+    let stop = start + cut::HEADER_MOST;
+    slot::is_sound(slot, limit, &header[start..stop], &marks[first..end])
+}
+
+// Whether a state is not damaged, the counts left aside: document 01's list for STATE.
+pub fn sound(
+    limit: usize,
+    count: usize,
+    slots: [Slot; 16],
+    header: &[u8],
+    body: &[u8],
+    marks: &[u8],
+) -> bool
+    ensures { λ r. ⌜ r ≡ soundSlots limit count slots (record { header = now (header .entry); body = now (body .entry); marks = now (marks .entry) }) ⌝ }
+{
+    if !within_limits(limit, count, header.len(), body.len(), marks.len()) {
+        return false;
+    }
+    if !all_distinct(count, slots) {
+        return false;
+    }
+    let mut i = 0;
+    while i < count {
+        let slot = slots[i];
+        if !right_at(limit, i, slot, header, marks) {
+            return false;
+        }
+        i += 1;
+    }
+    true
 }
