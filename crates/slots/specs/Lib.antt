@@ -6,3 +6,4 @@ pub mod State
 pub mod StateTests
 pub mod Take
 pub mod Show
+pub mod Ready

@@ -7,9 +7,9 @@ use lib.ListN.{length, set}
 use Rattle.octets.specs.Octets.{over, zeros, sumOf}
 use Rattle.answer.specs.declared.Part.{Part}
 use Rattle.cut.specs.Requirement.{headerMost, limitLeast, Segment}
-use Rattle.slot.specs.declared.Slot.{Slot}
-use Rattle.slot.specs.declared.Outcome.{Outcome}
-use Rattle.slot.specs.Take.{Taken, takeInto}
+use Rattle.gathering.specs.declared.Slot.{Slot}
+use Rattle.gathering.specs.declared.Outcome.{Outcome}
+use Rattle.gathering.specs.Take.{Taken, takeInto}
 use Rattle.slot.specs.Inner.{Offered}
 use Rattle.slots.specs.Stores.{slotsMost, slotMarks, Stores, lentAt, withLent, freeSlot, freshSlot, slotAt}
 
