@@ -7,6 +7,8 @@ use Rattle.octets.specs.Octets.{zeros}
 use Rattle.answer.specs.declared.Answer.{Answer}
 use Rattle.answer.specs.declared.Answer.the-variants as Answer
 use Rattle.answer.specs.declared.Heard.{Heard}
+use Rattle.answer.specs.declared.Refusal.{Refusal}
+use Rattle.answer.specs.declared.Refusal.the-variants as Refusal
 use Rattle.counts.specs.declared.Counts.{Counts}
 use Rattle.counts.specs.Counted.{noneYet, counted, within}
 use Rattle.group.specs.declared.Segment.{Segment as Carried}
@@ -86,6 +88,11 @@ intoHeld Nothing carried s c counts stores = ifAlone (fitsAlone (carried .part) 
 abbrev pub takeRead : Reading → List ℕ → Collector → Counts → Stores → Answered
 takeRead (Refused refusal) group c counts stores = answeredBy (Answer.Refused refusal) c counts stores
 takeRead (Read carried) group c counts stores = intoHeld (findIn (carried .number) (c .count) (c .slots)) carried (segmentIn group carried) c counts stores
+
+-- why a group is not read; a group that is read is never asked this
+abbrev pub refusalOf : Reading → Refusal
+refusalOf (Refused refusal) = refusal
+refusalOf (Read carried) = Refusal.Length
 
 -- STATE, then the reading checks, then CONFLICT, then FULL
 unfoldable pub takeGroup : List ℕ → Collector → Counts → Stores → Answered

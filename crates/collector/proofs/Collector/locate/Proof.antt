@@ -36,7 +36,7 @@ unfolding locate
 returns-2 c = rw (sym (c .before .before .before .before .sound .ensures) ∙ not-false _ (c .before .before .before .if1 .left), sym (c .before .before .find .ensures) ∙ c .enum-told .given .1)
 
 returns-3 : tie.Need-returns-3
-returns-3 c = 
+returns-3 c =
     let a = c .before .before .before .before .before .before .before .before .before .before .before .args in
     let within = found-inside (a .self .limit) (a .self .count) (a .self .slots) (record { header = c .before .before .before .before .before .before .before .before .before .before .before .args .header .now; body = c .before .before .before .before .before .before .before .before .before .before .before .args .body .now; marks = c .before .before .before .before .before .before .before .before .before .before .before .args .marks .now }) (sym (c .before .before .before .before .before .before .sound .ensures) ∙ not-false _ (c .before .before .before .before .before .if1 .left)) (a .number) _ (sym (c .before .before .before .before .find .ensures) ∙ c .before .before .i .given .1) in
     absurd (omega (arith, within .slot))
@@ -52,7 +52,7 @@ located-as-requires c κs = search needs
 
 returns-4 : tie.Need-returns-4
 unfolding locate slotAt freeSlot
-returns-4 c = 
+returns-4 c =
     rw (sym (c .before .before .before .before .before .before .before .before .sound .ensures) ∙ not-false _ (c .before .before .before .before .before .before .before .if1 .left), sym (c .before .before .before .before .before .before .find .ensures) ∙ c .before .before .before .before .i .given .1) (c .located-as .ensures)
 
 pub locate-spec : {M : Type 1} → statement M

@@ -1,13 +1,13 @@
--- `collector::Collector::open` meets its contract: refused, or opened with marks and counts of 0.
+-- `collector::Collector::opened` meets its contract: refused, or opened with marks and counts of 0.
 -- Assumes nothing.
 use Rattle.collector.specs.Calls.{openedBy}
 use borrow.Author.Tests.{not-true, not-false}
 use mathlib.Core.Path.{sym, _∙_}
 use borrow.Author.Needs.{needs}
-use Rattle.collector.proofs.Collector.open.Statement.{statement}
-use Rattle.collector.proofs.Collector.open.Tie as tie
-use Rattle.collector.proofs.Collector.open.Reads as reads
-use Rattle.collector.proofs.Collector.open.Lts as lts
+use Rattle.collector.proofs.Collector.opened.Statement.{statement}
+use Rattle.collector.proofs.Collector.opened.Tie as tie
+use Rattle.collector.proofs.Collector.opened.Reads as reads
+use Rattle.collector.proofs.Collector.opened.Lts as lts
 use Rattle.counts.proofs.none_yet.Reads as none-yet-reads
 use Rattle.octets.proofs.clear.Reads as clear-reads
 use Rattle.slots.proofs.free_slot.Reads as free-slot-reads
@@ -36,8 +36,8 @@ returns-2 : tie.Need-returns-2
 unfolding openedBy
 returns-2 c = rw (sym (c .before .before .before .before .before .before .within-limits .ensures) ∙ not-false _ (c .before .before .before .before .before .if1 .left), c .before .before .before .before .before .before .before .free-slot .ensures, c .none-yet .ensures, c .before .before .before .clear .ensures)
 
-pub open-spec : {M : Type 1} → statement M
-open-spec =
+pub opened-spec : {M : Type 1} → statement M
+opened-spec =
     tie.close
     (tie.spec
     free-slot-requires
