@@ -13,22 +13,31 @@ use Rattle.slot.specs.Take.{Taken, takeInto}
 use Rattle.slot.specs.Inner.{Offered}
 use Rattle.slots.specs.Stores.{slotsMost, slotMarks, Stores, lentAt, withLent, freeSlot, freshSlot, slotAt}
 
+-- what a slot has taken, with all that is lent
+pub record Placed : Type 0 where
+  pub outcome : Outcome
+  pub slot : Slot
+  pub stores : Stores
+
+abbrev pub placedAt : ℕ → ℕ → Stores → Taken → Placed
+placedAt limit i stores taken = record { outcome = taken .outcome; slot = taken .slot; stores = withLent limit i (taken .lent) stores }
+
 pub record TakenAt : Type 0 where
   pub outcome : Outcome
   pub slots : List Slot
   pub stores : Stores
 
--- what a slot has taken, among the others
-abbrev pub takenAt : ℕ → ℕ → List Slot → Stores → Taken → TakenAt
-takenAt limit i slots stores taken = record { outcome = taken .outcome; slots = set slots i (taken .slot); stores = withLent limit i (taken .lent) stores }
+-- and among the other slots
+abbrev pub among : ℕ → List Slot → Placed → TakenAt
+among i slots placed = record { outcome = placed .outcome; slots = set slots i (placed .slot); stores = placed .stores }
 
 -- a segment offered to slot i
 unfoldable pub takeAt : Part → ℕ → ℕ → Segment → List Slot → Stores → TakenAt
-takeAt part limit i s slots stores = takenAt limit i slots stores (takeInto part limit s (slotAt i slots) (lentAt limit i stores))
+takeAt part limit i s slots stores = among i slots (placedAt limit i stores (takeInto part limit s (slotAt i slots) (lentAt limit i stores)))
 
 -- the first segment of a transport number, which takes the free slot i
 unfoldable pub takeNew : ℕ → Part → ℕ → ℕ → Segment → List Slot → Stores → TakenAt
-takeNew transport part limit i s slots stores = takenAt limit i slots stores (takeInto part limit s (freshSlot transport) (lentAt limit i stores))
+takeNew transport part limit i s slots stores = among i slots (placedAt limit i stores (takeInto part limit s (freshSlot transport) (lentAt limit i stores)))
 
 pub record DroppedAt : Type 0 where
   pub slots : List Slot
