@@ -2,7 +2,7 @@
 use mathlib.Core.Bool.{Bool, true, false}
 use mathlib.Core.List.{List}
 use Prim.Native.Nat.{ℕ}
-use lib.ListN.{length, take, drop, replicate}
+use lib.ListN.{length, replicate}
 use Rattle.octets.specs.Octets.{zeros}
 use Rattle.answer.specs.declared.Answer.{Answer}
 use Rattle.answer.specs.declared.Answer.the-variants as Answer
@@ -30,7 +30,7 @@ use Rattle.slots.specs.Stores.{slotsMost, Stores, freeSlot, slotAt}
 use Rattle.slots.specs.Find.{findIn, freeIn}
 use Rattle.slots.specs.Alone.{fitsAlone}
 use Rattle.slots.specs.State.{withinLimits, soundSlots}
-use Rattle.slots.specs.Take.{TakenAt, takeAt, takeNew, DroppedAt, dropAt}
+use Rattle.slots.specs.Take.{TakenAt, takeAt, takeNew, dropAt}
 use Rattle.collector.specs.declared.Collector.{Collector}
 use Rattle.collector.specs.declared.Located.{Located}
 use Rattle.collector.specs.declared.Located.the-variants as Located

@@ -17,7 +17,7 @@ ghost use mathlib.Core.Bool.{true};
 ghost use Rattle.counts.specs.Counted.{counted};
 ghost use Rattle.slots.specs.Find.{findIn};
 ghost use Rattle.slots.specs.State.{soundSlots};
-ghost use Rattle.collector.specs.Calls.{Answered, Opening, soundState, heardAs, answerAs, refusalOf, intoHeld, takeGroup, dropNumber, openedBy, locatedAs, locate};
+ghost use Rattle.collector.specs.Calls.{Answered, soundState, heardAs, answerAs, refusalOf, intoHeld, takeGroup, dropNumber, openedBy, locatedAs, locate};
 
 // A collector: the limit on a body, how many slots it has, and the slots.
 pub struct Collector {

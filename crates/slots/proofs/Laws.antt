@@ -3,12 +3,11 @@
 use mathlib.Core.Path.{_≡_, refl, sym}
 use mathlib.Core.Bool.{Bool, true, false}
 use mathlib.Core.List.{List, []}
-use Prim.Native.Nat.{ℕ, _+_, _-_, _*_, _≤_, _<_}
+use Prim.Native.Nat.{ℕ, _+_, _≤_, _<_}
 use native.Mathlib.Numerals.{add-one}
 use native.Mathlib.Omega.{arith}
 use lib.ListN.{length, getD, take, drop}
 use lib.Dec.{ltb}
-use Rattle.octets.specs.Shares.{share}
 use Rattle.cut.specs.declared.Bounds.{Bounds}
 use Rattle.cut.specs.declared.Record.{Record}
 use Rattle.cut.specs.Decision.{both, room, alone, addPart}
@@ -49,8 +48,3 @@ accepts-last last n b p e = rw e refl
 
 pub accepts-full : (last : Bool) (n k : ℕ) (b : Bounds) → last ≡ false → ltb n (room b (addPart last n k noRecord)) ≡ acceptsIn last n b (addPart last n k noRecord) []
 accepts-full last n k b e = rw (e, spent {A = ℕ} [] (room b (addPart false n k noRecord)) (omega arith)) (sym (both-only (ltb n (room b (addPart false n k noRecord)))))
-
--- ---- a share of a store, lent from its start to its end
-
-pub share-lent : (w i : ℕ) (l : List ℕ) → take (i * w + w - i * w) (drop (i * w) l) ≡ share w i l
-share-lent w i l = let e : i * w + w - i * w ≡ w = omega arith in rw e refl

@@ -5,5 +5,7 @@ pub mod AloneTests
 pub mod State
 pub mod StateTests
 pub mod Take
+pub mod Shares
+pub mod Fresh
 pub mod Show
 pub mod Ready

@@ -1,5 +1,5 @@
 -- A sound state offers each of its slots: what the code that takes a segment asks follows from the test of the state.
-use mathlib.Core.Path.{_≡_, refl, sym, ap, _∙_}
+use mathlib.Core.Path.{_≡_, refl}
 use mathlib.Core.Bool.{Bool, true, false}
 use mathlib.Core.List.{List, [], _∷_}
 use Prim.Native.Nat.{ℕ, zero, suc, _+_, _*_, _≤_, _<_}
@@ -14,15 +14,12 @@ use Rattle.octets.specs.Over.{part-length}
 use Rattle.octets.specs.Marks.{sum-none, largest-each}
 use Rattle.cut.specs.Requirement.{headerMost, limitLeast, limitMost}
 use Rattle.cut.specs.Lists.{pick}
-use Rattle.cut.specs.Decision.{both, all}
 use Rattle.cut.specs.LawsDecision.{both-true, all-true}
 use Rattle.gathering.specs.declared.Slot.{Slot}
 use Rattle.gathering.specs.Take.{Lent}
 use Rattle.gathering.specs.Sound.{soundSlot}
 use Rattle.gathering.specs.Inside.{sound-slot}
-use Rattle.slot.specs.Inner.{Offered}
-use Rattle.slots.specs.declared.Found.{Found}
-use Rattle.slots.specs.declared.Found.the-variants.{Nothing, At}
+use Rattle.slots.specs.declared.Found.the-variants.{At}
 use Rattle.slots.specs.Stores.{slotsMost, slotMarks, Stores, lentAt, freeSlot, slotAt}
 use Rattle.slots.specs.Find.{freeStage, isFree, holds, firstFrom, findIn, freeIn}
 use Rattle.slots.specs.State.{withinLimits, distinct, rightSlot, rightFrom, soundSlots}

@@ -10,17 +10,20 @@ use cut::Record;
 use gathering::Outcome;
 use gathering::Slot;
 use gathering::Stage;
+use slot::Took;
 ghost use mathlib.Core.Path.{_≡_};
 ghost use Prim.Native.Nat.{_+_, _*_, _≤_, _<_};
 ghost use lib.ListN.{length, take, drop};
 ghost use mathlib.Core.List.{[]};
 ghost use Rattle.cut.specs.Decision.{addPart};
 ghost use Rattle.cut.specs.Sums.{acceptsIn};
-ghost use Rattle.slot.specs.Inner.{otherPart};
-ghost use Rattle.slots.specs.Stores.{noRecord, freeSlot};
+ghost use Rattle.gathering.specs.Take.{takeInto};
+ghost use Rattle.slot.specs.Inner.{otherPart, Offered};
+ghost use Rattle.slots.specs.Stores.{noRecord, freeSlot, lentAt};
 ghost use Rattle.slots.specs.Find.{isFree, holds, findIn, freeIn, findFrom};
 ghost use Rattle.slots.specs.Alone.{coreAlone, fitsAlone};
 ghost use Rattle.slots.specs.State.{withinLimits, unlike, distinct, rightBy, soundSlots};
+ghost use Rattle.slots.specs.Take.{placedAt, takeAt, takeNew, dropAt, Inside, OfferedAt, OpenAt};
 
 pub const SLOTS_MOST: usize = 16;
 
@@ -269,4 +272,144 @@ pub fn sound(
         i += 1;
     }
     true
+}
+
+// What comes of a segment, and all the slots afterwards.
+pub struct TookAt {
+    pub outcome: Outcome,
+    pub slots: [Slot; 16],
+}
+
+// A segment is offered to a slot that stands, or is to stand, at i; its shares are lent to it.
+fn take_into(
+    slot: Slot,
+    part: Part,
+    limit: usize,
+    i: usize,
+    last: bool,
+    number: usize,
+    bytes: &[u8],
+    header: &mut [u8],
+    body: &mut [u8],
+    marks: &mut [u8],
+) -> Took
+    requires { ⌜ Inside limit i (record { header = now header; body = now body; marks = now marks }) ⌝ }
+    requires { ⌜ Offered limit slot (lentAt limit i (record { header = now header; body = now body; marks = now marks })) ⌝ }
+    ensures { λ r. ⌜ record { outcome = r .outcome; slot = r .slot; stores = record { header = now (header .exit); body = now (body .exit); marks = now (marks .exit) } } ≡ placedAt limit i (record { header = now (header .entry); body = now (body .entry); marks = now (marks .entry) }) (takeInto part limit (record { number = number; last = last; bytes = now (bytes .entry) }) slot (lentAt limit i (record { header = now (header .entry); body = now (body .entry); marks = now (marks .entry) }))) ⌝ }
+{
+    let header_start = i * cut::HEADER_MOST;
+    let header_end = header_start + cut::HEADER_MOST;
+    let body_start = i * limit;
+    let body_end = body_start + limit;
+    let marks_start = i * SLOT_MARKS;
+    let marks_end = marks_start + SLOT_MARKS;
+    slot::take(
+        slot,
+        limit,
+        part,
+        last,
+        number,
+        bytes,
+        &mut header[header_start..header_end],
+        &mut body[body_start..body_end],
+        &mut marks[marks_start..marks_end],
+    )
+}
+
+// A segment is offered to slot i.
+pub fn take_at(
+    part: Part,
+    limit: usize,
+    i: usize,
+    last: bool,
+    number: usize,
+    bytes: &[u8],
+    slots: [Slot; 16],
+    header: &mut [u8],
+    body: &mut [u8],
+    marks: &mut [u8],
+) -> TookAt
+    requires { ⌜ OfferedAt limit i slots (record { header = now header; body = now body; marks = now marks }) ⌝ }
+    ensures { λ r. ⌜ record { outcome = r .outcome; slots = r .slots; stores = record { header = now (header .exit); body = now (body .exit); marks = now (marks .exit) } } ≡ takeAt part limit i (record { number = number; last = last; bytes = now (bytes .entry) }) slots (record { header = now (header .entry); body = now (body .entry); marks = now (marks .entry) }) ⌝ }
+{
+    let old = slots[i];
+    let took = take_into(
+        old,
+        part,
+        limit,
+        i,
+        last,
+        number,
+        bytes,
+        header,
+        body,
+        marks,
+    );
+    let outcome = took.outcome;
+    let slot = took.slot;
+    let mut all = slots;
+    all[i] = slot;
+    TookAt {
+        outcome,
+        slots: all,
+    }
+}
+
+// The first segment of a transport number takes the free slot i.
+pub fn take_new(
+    transport: u16,
+    part: Part,
+    limit: usize,
+    i: usize,
+    last: bool,
+    number: usize,
+    bytes: &[u8],
+    slots: [Slot; 16],
+    header: &mut [u8],
+    body: &mut [u8],
+    marks: &mut [u8],
+) -> TookAt
+    requires { ⌜ OpenAt limit i (record { header = now header; body = now body; marks = now marks }) ⌝ }
+    ensures { λ r. ⌜ record { outcome = r .outcome; slots = r .slots; stores = record { header = now (header .exit); body = now (body .exit); marks = now (marks .exit) } } ≡ takeNew transport part limit i (record { number = number; last = last; bytes = now (bytes .entry) }) slots (record { header = now (header .entry); body = now (body .entry); marks = now (marks .entry) }) ⌝ }
+{
+    let fresh = Slot {
+        number: transport,
+        stage: Stage::Gathering,
+        header: no_record(),
+        body: no_record(),
+    };
+    let took = take_into(
+        fresh,
+        part,
+        limit,
+        i,
+        last,
+        number,
+        bytes,
+        header,
+        body,
+        marks,
+    );
+    let outcome = took.outcome;
+    let slot = took.slot;
+    let mut all = slots;
+    all[i] = slot;
+    TookAt {
+        outcome,
+        slots: all,
+    }
+}
+
+// Slot i is dropped: its marks are 0 and it is free; its store bytes stay.
+pub fn drop_at(i: usize, slots: [Slot; 16], marks: &mut [u8]) -> [Slot; 16]
+    requires { ⌜ (i < 16) × (i * 1088 + 1088 ≤ length (now marks)) ⌝ }
+    ensures { λ r. ⌜ record { slots = r; marks = now (marks .exit) } ≡ dropAt i slots (now (marks .entry)) ⌝ }
+{
+    let start = i * SLOT_MARKS;
+    let end = start + SLOT_MARKS;
+    octets::clear(&mut marks[start..end]);
+    let slot = free_slot();
+    let mut all = slots;
+    all[i] = slot;
+    all
 }

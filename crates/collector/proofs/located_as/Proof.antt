@@ -3,8 +3,6 @@
 use borrow.Author.Needs.{needs}
 use Rattle.collector.proofs.located_as.Statement.{statement}
 use Rattle.collector.proofs.located_as.Tie as tie
-use Rattle.collector.proofs.located_as.Reads as reads
-use Rattle.collector.proofs.located_as.Lts as lts
 
 enum-told : tie.Need-enum-told
 enum-told c = search needs

@@ -6,10 +6,6 @@ use mathlib.Core.Path.{sym, _∙_}
 use borrow.Author.Needs.{needs}
 use Rattle.collector.proofs.Collector.is_sound.Statement.{statement}
 use Rattle.collector.proofs.Collector.is_sound.Tie as tie
-use Rattle.collector.proofs.Collector.is_sound.Reads as reads
-use Rattle.collector.proofs.Collector.is_sound.Lts as lts
-use Rattle.counts.proofs.are_within.Reads as are-within-reads
-use Rattle.slots.proofs.sound.Reads as sound-reads
 
 sound-requires : tie.Need-sound-requires
 sound-requires c κs = search needs

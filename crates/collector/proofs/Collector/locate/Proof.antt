@@ -9,11 +9,6 @@ use mathlib.Core.Path.{sym, _∙_}
 use borrow.Author.Needs.{needs}
 use Rattle.collector.proofs.Collector.locate.Statement.{statement}
 use Rattle.collector.proofs.Collector.locate.Tie as tie
-use Rattle.collector.proofs.Collector.locate.Reads as reads
-use Rattle.collector.proofs.Collector.locate.Lts as lts
-use Rattle.collector.proofs.located_as.Reads as located-as-reads
-use Rattle.slots.proofs.find.Reads as find-reads
-use Rattle.slots.proofs.sound.Reads as sound-reads
 
 sound-requires : tie.Need-sound-requires
 sound-requires c κs = search needs

@@ -6,12 +6,6 @@ use mathlib.Core.Path.{sym, _∙_}
 use borrow.Author.Needs.{needs}
 use Rattle.collector.proofs.Collector.opened.Statement.{statement}
 use Rattle.collector.proofs.Collector.opened.Tie as tie
-use Rattle.collector.proofs.Collector.opened.Reads as reads
-use Rattle.collector.proofs.Collector.opened.Lts as lts
-use Rattle.counts.proofs.none_yet.Reads as none-yet-reads
-use Rattle.octets.proofs.clear.Reads as clear-reads
-use Rattle.slots.proofs.free_slot.Reads as free-slot-reads
-use Rattle.slots.proofs.within_limits.Reads as within-limits-reads
 
 free-slot-requires : tie.Need-free-slot-requires
 free-slot-requires c κs = search needs
