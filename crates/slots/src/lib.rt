@@ -1,0 +1,415 @@
+// All the slots of a collector by value, with the stores and the marks that are lent for them: which slot holds a number
+// or is free, whether a segment fits alone, whether a state is damaged (document 01, STATE), a segment taken into one of
+// the slots, a slot dropped, and a finished object's part of a store. Everything that runs over slots or marks stands here;
+// the collector above has the type, the answers and the counts. Each function is one definition (specs/), and slot i has
+// share i of each store and of the marks.
+use answer::Part;
+use cut::Bounds;
+use cut::Core;
+use cut::Record;
+use gathering::Outcome;
+use gathering::Slot;
+use gathering::Stage;
+use slot::Took;
+ghost use mathlib.Core.Path.{_≡_};
+ghost use Prim.Native.Nat.{_+_, _*_, _≤_, _<_};
+ghost use lib.ListN.{length, take, drop};
+ghost use mathlib.Core.List.{[]};
+ghost use Rattle.cut.specs.Decision.{addPart};
+ghost use Rattle.cut.specs.Sums.{acceptsIn};
+ghost use Rattle.gathering.specs.Take.{takeInto};
+ghost use Rattle.slot.specs.Inner.{otherPart, Offered};
+ghost use Rattle.slots.specs.Stores.{noRecord, freeSlot, lentAt};
+ghost use Rattle.slots.specs.Find.{isFree, holds, findIn, freeIn, findFrom};
+ghost use Rattle.slots.specs.Alone.{coreAlone, fitsAlone};
+ghost use Rattle.slots.specs.State.{withinLimits, unlike, distinct, rightBy, soundSlots};
+ghost use Rattle.slots.specs.Take.{placedAt, takeAt, takeNew, dropAt, Inside, OfferedAt, OpenAt};
+
+pub const SLOTS_MOST: usize = 16;
+
+pub const SLOT_MARKS: usize = 1088;
+
+// Where a slot is found, or that none is.
+pub enum Found {
+    Nothing,
+    At(usize),
+}
+
+// What is kept of a part that has no segment yet.
+fn no_record() -> Record
+    ensures { λ r. ⌜ r ≡ noRecord ⌝ }
+{
+    Record {
+        size: 0,
+        end: 0,
+        tail: 0,
+    }
+}
+
+pub fn free_slot() -> Slot
+    ensures { λ r. ⌜ r ≡ freeSlot ⌝ }
+{
+    Slot {
+        number: 0,
+        stage: Stage::Free,
+        header: no_record(),
+        body: no_record(),
+    }
+}
+
+fn is_free(slot: Slot) -> bool
+    ensures { λ r. ⌜ r ≡ isFree slot ⌝ }
+{
+    let stage = slot.stage;
+    match stage {
+        Stage::Free => true,
+        Stage::Gathering => false,
+        Stage::Finished(_, _) => false,
+    }
+}
+
+fn holds(number: u16, slot: Slot) -> bool
+    ensures { λ r. ⌜ r ≡ holds number slot ⌝ }
+{
+    if is_free(slot) {
+        return false;
+    }
+    slot.number == number
+}
+
+// The lowest of the first count slots, from one on, that holds a number.
+fn find_from(number: u16, from: usize, count: usize, slots: [Slot; 16]) -> Found
+    ensures { λ r. ⌜ r ≡ findFrom number from count slots ⌝ }
+{
+    let mut i = from;
+    while i < count {
+        if SLOTS_MOST <= i {
+            return Found::Nothing;
+        }
+        let slot = slots[i];
+        if holds(number, slot) {
+            return Found::At(i);
+        }
+        i += 1;
+    }
+    Found::Nothing
+}
+
+// The lowest of the first count slots that holds a number.
+pub fn find(number: u16, count: usize, slots: [Slot; 16]) -> Found
+    ensures { λ r. ⌜ r ≡ findIn number count slots ⌝ }
+{
+    find_from(number, 0, count, slots)
+}
+
+// The lowest of the first count slots that is free.
+pub fn free(count: usize, slots: [Slot; 16]) -> Found
+    ensures { λ r. ⌜ r ≡ freeIn count slots ⌝ }
+{
+    let mut i = 0;
+    while i < count {
+        if SLOTS_MOST <= i {
+            return Found::Nothing;
+        }
+        let slot = slots[i];
+        if is_free(slot) {
+            return Found::At(i);
+        }
+        i += 1;
+    }
+    Found::Nothing
+}
+
+// What header segment 0 says, where this segment is the only one.
+fn core_said(part: Part, number: usize, bytes: &[u8]) -> Core
+    ensures { λ r. ⌜ r ≡ coreAlone part number (now (bytes .entry)) ⌝ }
+{
+    match part {
+        Part::Body => Core::Unseen,
+        Part::Header => {
+            if number != 0 {
+                return Core::Unseen;
+            }
+            let body = core_fields::body_size(bytes) as usize;
+            let header = core_fields::header_size(bytes) as usize;
+            Core::Seen { body, header }
+        }
+    }
+}
+
+// Whether the part of a segment that is its only one can be.
+fn part_alone(bounds: Bounds, last: bool, number: usize, count: usize) -> bool
+    requires { ⌜ number < 32768 ⌝ }
+    ensures { λ r. ⌜ r ≡ acceptsIn last number bounds (addPart last number count noRecord) [] ⌝ }
+{
+    let kept = cut::add(last, number, count, no_record());
+    if last {
+        return cut::alone(bounds, kept);
+    }
+    number < cut::room(bounds, kept)
+}
+
+fn other_part(part: Part) -> Part
+    ensures { λ r. ⌜ r ≡ otherPart part ⌝ }
+{
+    match part {
+        Part::Header => Part::Body,
+        Part::Body => Part::Header,
+    }
+}
+
+// Whether a segment fits some object and cut by itself.
+pub fn fits_alone(part: Part, limit: usize, last: bool, number: usize, bytes: &[u8]) -> bool
+    ensures { λ r. ⌜ r ≡ fitsAlone part limit (record { number = number; last = last; bytes = now (bytes .entry) }) ⌝ }
+{
+    if cut::BODY_NUMBERS <= number {
+        return false;
+    }
+    let core = core_said(part, number, bytes);
+    if !cut::core_fits(limit, core) {
+        return false;
+    }
+    if !part_alone(cut::bounds_of(part, limit, core), last, number, bytes.len()) {
+        return false;
+    }
+    let other = other_part(part);
+    cut::alone(cut::bounds_of(other, limit, core), no_record())
+}
+
+// Whether the limit and the number of slots are within their bounds, and each lent length is the one that they give.
+pub fn within_limits(limit: usize, count: usize, header: usize, body: usize, marks: usize) -> bool
+    ensures { λ r. ⌜ r ≡ withinLimits limit count header body marks ⌝ }
+{
+    if limit < cut::LIMIT_LEAST {
+        return false;
+    }
+    if cut::LIMIT_MOST < limit {
+        return false;
+    }
+    if count < 1 {
+        return false;
+    }
+    if SLOTS_MOST < count {
+        return false;
+    }
+    if header != count * cut::HEADER_MOST {
+        return false;
+    }
+    if body != count * limit {
+        return false;
+    }
+    marks == count * SLOT_MARKS
+}
+
+// Whether a slot is free, or none of the slots from one on holds its number.
+fn is_unlike(slot: Slot, from: usize, count: usize, slots: [Slot; 16]) -> bool
+    ensures { λ r. ⌜ r ≡ unlike slot (drop from (take count slots)) ⌝ }
+{
+    if is_free(slot) {
+        return true;
+    }
+    match find_from(slot.number, from, count, slots) {
+        Found::Nothing => true,
+        Found::At(_) => false,
+    }
+}
+
+// Whether no two of the first count slots hold one number.
+fn all_distinct(count: usize, slots: [Slot; 16]) -> bool
+    requires { ⌜ count ≤ 16 ⌝ }
+    ensures { λ r. ⌜ r ≡ distinct (take count slots) ⌝ }
+{
+    let mut i = 0;
+    while i < count {
+        let slot = slots[i];
+        if !is_unlike(slot, i + 1, count, slots) {
+            return false;
+        }
+        i += 1;
+    }
+    true
+}
+
+// Whether a free slot has no mark set, or a held one is sound.
+fn right_at(limit: usize, i: usize, slot: Slot, header: &[u8], marks: &[u8]) -> bool
+    requires { ⌜ i * 1024 + 1024 ≤ length (now header) ⌝ }
+    requires { ⌜ i * 1088 + 1088 ≤ length (now marks) ⌝ }
+    ensures { λ r. ⌜ r ≡ rightBy limit i slot (now (header .entry)) (now (marks .entry)) ⌝ }
+{
+    let first = i * SLOT_MARKS;
+    let end = first + SLOT_MARKS;
+    if is_free(slot) {
+        return octets::largest(&marks[first..end]) == 0;
+    }
+    let start = i * cut::HEADER_MOST;
+    let stop = start + cut::HEADER_MOST;
+    slot::is_sound(slot, limit, &header[start..stop], &marks[first..end])
+}
+
+// Whether a state is not damaged, the counts left aside: document 01's list for STATE.
+pub fn sound(
+    limit: usize,
+    count: usize,
+    slots: [Slot; 16],
+    header: &[u8],
+    body: &[u8],
+    marks: &[u8],
+) -> bool
+    ensures { λ r. ⌜ r ≡ soundSlots limit count slots (record { header = now (header .entry); body = now (body .entry); marks = now (marks .entry) }) ⌝ }
+{
+    if !within_limits(limit, count, header.len(), body.len(), marks.len()) {
+        return false;
+    }
+    if !all_distinct(count, slots) {
+        return false;
+    }
+    let mut i = 0;
+    while i < count {
+        let slot = slots[i];
+        if !right_at(limit, i, slot, header, marks) {
+            return false;
+        }
+        i += 1;
+    }
+    true
+}
+
+// What comes of a segment, and all the slots afterwards.
+pub struct TookAt {
+    pub outcome: Outcome,
+    pub slots: [Slot; 16],
+}
+
+// A segment is offered to a slot that stands, or is to stand, at i; its shares are lent to it.
+fn take_into(
+    slot: Slot,
+    part: Part,
+    limit: usize,
+    i: usize,
+    last: bool,
+    number: usize,
+    bytes: &[u8],
+    header: &mut [u8],
+    body: &mut [u8],
+    marks: &mut [u8],
+) -> Took
+    requires { ⌜ Inside limit i (record { header = now header; body = now body; marks = now marks }) ⌝ }
+    requires { ⌜ Offered limit slot (lentAt limit i (record { header = now header; body = now body; marks = now marks })) ⌝ }
+    ensures { λ r. ⌜ record { outcome = r .outcome; slot = r .slot; stores = record { header = now (header .exit); body = now (body .exit); marks = now (marks .exit) } } ≡ placedAt limit i (record { header = now (header .entry); body = now (body .entry); marks = now (marks .entry) }) (takeInto part limit (record { number = number; last = last; bytes = now (bytes .entry) }) slot (lentAt limit i (record { header = now (header .entry); body = now (body .entry); marks = now (marks .entry) }))) ⌝ }
+{
+    let header_start = i * cut::HEADER_MOST;
+    let header_end = header_start + cut::HEADER_MOST;
+    let body_start = i * limit;
+    let body_end = body_start + limit;
+    let marks_start = i * SLOT_MARKS;
+    let marks_end = marks_start + SLOT_MARKS;
+    slot::take(
+        slot,
+        limit,
+        part,
+        last,
+        number,
+        bytes,
+        &mut header[header_start..header_end],
+        &mut body[body_start..body_end],
+        &mut marks[marks_start..marks_end],
+    )
+}
+
+// A segment is offered to slot i.
+pub fn take_at(
+    part: Part,
+    limit: usize,
+    i: usize,
+    last: bool,
+    number: usize,
+    bytes: &[u8],
+    slots: [Slot; 16],
+    header: &mut [u8],
+    body: &mut [u8],
+    marks: &mut [u8],
+) -> TookAt
+    requires { ⌜ OfferedAt limit i slots (record { header = now header; body = now body; marks = now marks }) ⌝ }
+    ensures { λ r. ⌜ record { outcome = r .outcome; slots = r .slots; stores = record { header = now (header .exit); body = now (body .exit); marks = now (marks .exit) } } ≡ takeAt part limit i (record { number = number; last = last; bytes = now (bytes .entry) }) slots (record { header = now (header .entry); body = now (body .entry); marks = now (marks .entry) }) ⌝ }
+{
+    let old = slots[i];
+    let took = take_into(
+        old,
+        part,
+        limit,
+        i,
+        last,
+        number,
+        bytes,
+        header,
+        body,
+        marks,
+    );
+    let outcome = took.outcome;
+    let slot = took.slot;
+    let mut all = slots;
+    all[i] = slot;
+    TookAt {
+        outcome,
+        slots: all,
+    }
+}
+
+// The first segment of a transport number takes the free slot i.
+pub fn take_new(
+    transport: u16,
+    part: Part,
+    limit: usize,
+    i: usize,
+    last: bool,
+    number: usize,
+    bytes: &[u8],
+    slots: [Slot; 16],
+    header: &mut [u8],
+    body: &mut [u8],
+    marks: &mut [u8],
+) -> TookAt
+    requires { ⌜ OpenAt limit i (record { header = now header; body = now body; marks = now marks }) ⌝ }
+    ensures { λ r. ⌜ record { outcome = r .outcome; slots = r .slots; stores = record { header = now (header .exit); body = now (body .exit); marks = now (marks .exit) } } ≡ takeNew transport part limit i (record { number = number; last = last; bytes = now (bytes .entry) }) slots (record { header = now (header .entry); body = now (body .entry); marks = now (marks .entry) }) ⌝ }
+{
+    let fresh = Slot {
+        number: transport,
+        stage: Stage::Gathering,
+        header: no_record(),
+        body: no_record(),
+    };
+    let took = take_into(
+        fresh,
+        part,
+        limit,
+        i,
+        last,
+        number,
+        bytes,
+        header,
+        body,
+        marks,
+    );
+    let outcome = took.outcome;
+    let slot = took.slot;
+    let mut all = slots;
+    all[i] = slot;
+    TookAt {
+        outcome,
+        slots: all,
+    }
+}
+
+// Slot i is dropped: its marks are 0 and it is free; its store bytes stay.
+pub fn drop_at(i: usize, slots: [Slot; 16], marks: &mut [u8]) -> [Slot; 16]
+    requires { ⌜ (i < 16) × (i * 1088 + 1088 ≤ length (now marks)) ⌝ }
+    ensures { λ r. ⌜ record { slots = r; marks = now (marks .exit) } ≡ dropAt i slots (now (marks .entry)) ⌝ }
+{
+    let start = i * SLOT_MARKS;
+    let end = start + SLOT_MARKS;
+    octets::clear(&mut marks[start..end]);
+    let slot = free_slot();
+    let mut all = slots;
+    all[i] = slot;
+    all
+}
