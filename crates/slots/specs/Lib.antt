@@ -8,3 +8,4 @@ pub mod Take
 pub mod Shares
 pub mod Fresh
 pub mod Show
+pub mod Calls
