@@ -2,6 +2,7 @@
 //! compared. The word after the program's name says which comparison; whatever differs ends it
 //! with a status that is not zero.
 
+mod decision;
 mod proved;
 mod readings;
 
@@ -11,7 +12,8 @@ fn main() -> ExitCode {
     let asked = std::env::args().nth(1).unwrap_or_default();
     let outcome = match asked.as_str() {
         "readings" => readings::run(),
-        _ => Err("say which comparison: readings".to_string()),
+        "decision" => decision::run(),
+        _ => Err("say which comparison: readings or decision".to_string()),
     };
     match outcome {
         Ok(said) => {

@@ -2,10 +2,42 @@
 //! against the source, so they are few and on numbers and slices alone.
 
 use independent::group::{Part, Reading, Refusal, Segment};
+use independent::object::Piece;
 
 extern "C" {
     fn compared_check_word(bytes: *const u8, length: usize) -> u16;
     fn compared_reading(group: *const u8, length: usize, field: u8) -> u64;
+    fn compared_accepts(
+        part: u8,
+        limit: usize,
+        seen: bool,
+        body: usize,
+        header: usize,
+        header_top: usize,
+        header_size: usize,
+        header_end: usize,
+        header_tail: usize,
+        body_top: usize,
+        body_size: usize,
+        body_end: usize,
+        body_tail: usize,
+        number: u16,
+        last: bool,
+        bytes: *const u8,
+        length: usize,
+    ) -> bool;
+    fn compared_kept(
+        last: bool,
+        number: u16,
+        length: usize,
+        top: usize,
+        size: usize,
+        end: usize,
+        tail: usize,
+        field: u8,
+    ) -> usize;
+    fn compared_body_size(bytes: *const u8, length: usize) -> u32;
+    fn compared_header_size(bytes: *const u8, length: usize) -> u32;
 }
 
 pub fn check_word(bytes: &[u8]) -> u16 {
@@ -38,4 +70,95 @@ pub fn reading(group: &[u8]) -> Reading {
         start: field(group, 5) as usize,
         length: field(group, 6) as usize,
     })
+}
+
+/// What is kept of the segments of a part.
+#[derive(Clone, Copy, Debug, Default)]
+struct Kept {
+    top: usize,
+    size: usize,
+    end: usize,
+    tail: usize,
+}
+
+impl Kept {
+    fn with(&self, piece: &Piece) -> Kept {
+        // SAFETY: numbers alone.
+        let field = |number| unsafe {
+            compared_kept(
+                piece.last,
+                piece.number,
+                piece.bytes.len(),
+                self.top,
+                self.size,
+                self.end,
+                self.tail,
+                number,
+            )
+        };
+        Kept {
+            top: field(0),
+            size: field(1),
+            end: field(2),
+            tail: field(3),
+        }
+    }
+}
+
+/// The numbers that are kept of an object's segments: all that the decision goes by.
+#[derive(Clone, Copy, Debug, Default)]
+pub struct Numbers {
+    seen: bool,
+    body_size: usize,
+    header_size: usize,
+    header: Kept,
+    body: Kept,
+}
+
+impl Numbers {
+    /// The proved decision on a segment of a new number.
+    pub fn accept(&self, limit: usize, part: Part, piece: &Piece) -> bool {
+        // SAFETY: numbers, and a slice's own pointer and length.
+        unsafe {
+            compared_accepts(
+                match part {
+                    Part::Header => 0,
+                    Part::Body => 1,
+                },
+                limit,
+                self.seen,
+                self.body_size,
+                self.header_size,
+                self.header.top,
+                self.header.size,
+                self.header.end,
+                self.header.tail,
+                self.body.top,
+                self.body.size,
+                self.body.end,
+                self.body.tail,
+                piece.number,
+                piece.last,
+                piece.bytes.as_ptr(),
+                piece.bytes.len(),
+            )
+        }
+    }
+
+    /// Keeps a segment that was accepted.
+    pub fn keep(&mut self, part: Part, piece: &Piece) {
+        match part {
+            Part::Header => self.header = self.header.with(piece),
+            Part::Body => self.body = self.body.with(piece),
+        }
+        if part == Part::Header && piece.number == 0 {
+            let bytes = &piece.bytes;
+            self.seen = true;
+            // SAFETY: as above.
+            unsafe {
+                self.body_size = compared_body_size(bytes.as_ptr(), bytes.len()) as usize;
+                self.header_size = compared_header_size(bytes.as_ptr(), bytes.len()) as usize;
+            }
+        }
+    }
 }

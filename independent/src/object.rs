@@ -128,12 +128,12 @@ pub fn fits_by_trying_all(limit: usize, header: &[Piece], body: &[Piece]) -> boo
         return false;
     }
     (0..=limit)
-        .filter(|&length| some_cut_sends(length, BODY_SEGMENTS, body))
-        .any(|body_length| {
+        .filter(|&body_length| {
             header_lengths
                 .iter()
                 .any(|&header_length| core_says(header_length, body_length))
         })
+        .any(|length| some_cut_sends(length, BODY_SEGMENTS, body))
 }
 
 /// One segment size, and the lengths that a part can still have if it is cut at it.
@@ -167,18 +167,14 @@ impl Choice {
 /// Whether a part of one of these lengths, cut at some size into at most so many segments, sends
 /// all these pieces: every size is tried, and for each the lengths that every piece allows.
 fn some_cut_sends_all(lengths: RangeInclusive<usize>, segments: usize, pieces: &[Piece]) -> bool {
-    let mut choices: Vec<Choice> = SEGMENT_SIZES
-        .map(|size| Choice {
+    SEGMENT_SIZES.into_iter().any(|size| {
+        let mut choice = Choice {
             size,
             shortest: *lengths.start(),
             longest: *lengths.end().min(&(segments * size)),
-        })
-        .filter(|choice| choice.shortest <= choice.longest)
-        .collect();
-    for piece in pieces {
-        choices.retain_mut(|choice| choice.narrow(piece));
-    }
-    !choices.is_empty()
+        };
+        choice.shortest <= choice.longest && pieces.iter().all(|piece| choice.narrow(piece))
+    })
 }
 
 /// Whether some object within the bounds, cut in some way, sends all these segments. For any body

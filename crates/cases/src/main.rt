@@ -1,11 +1,49 @@
-// The worked cases of document 01, "Both sides of the line", that are not starred, and others at each bound: each is run on
-// the decision of crate `cut`, and its verdict is written. What must be written was found by a search over every length and
-// every size.
+// The worked cases of document 01, "Both sides of the line", and others at each bound, run on the decision of crate `cut`
+// and written with its verdict, one case a line. What must be written comes from the independent program, which searches
+// every length and every size (independent/src/bin/cases.rs).
 use cut::Core;
 use cut::Record;
 ghost use mathlib.Core.Path.{_≡_};
+ghost use mathlib.Core.Bool.{true, false};
+ghost use Prim.Native.Nat.{_<_};
+ghost use Rattle.cases.specs.Pieces.{isThere, countOf, keptWith, topWith, goesWith};
 
 const LIMIT: usize = 12288;
+
+const MOST: usize = 1048576;
+
+// A segment, as far as the decision looks at it. One without bytes, or with a number of more than 15 bits, is none.
+struct Piece {
+    number: usize,
+    last: bool,
+    length: usize,
+}
+
+fn full(number: usize, length: usize) -> Piece
+    ensures { λ r. ⌜ r ≡ record { number = number; last = false; length = length } ⌝ }
+{
+    Piece {
+        number,
+        last: false,
+        length,
+    }
+}
+
+fn last(number: usize, length: usize) -> Piece
+    ensures { λ r. ⌜ r ≡ record { number = number; last = true; length = length } ⌝ }
+{
+    Piece {
+        number,
+        last: true,
+        length,
+    }
+}
+
+fn none() -> Piece
+    ensures { λ r. ⌜ r ≡ record { number = 0; last = false; length = 0 } ⌝ }
+{
+    full(0, 0)
+}
 
 fn nothing() -> Record
     ensures { λ r. ⌜ r ≡ record { size = 0; end = 0; tail = 0 } ⌝ }
@@ -17,123 +55,229 @@ fn nothing() -> Record
     }
 }
 
-fn say(name: &[u8], verdict: bool) {
+// A header whose segment 0 says these two lengths.
+fn says(header: usize, body: usize) -> Core
+    ensures { λ r. ⌜ r ≡ Core.Seen body header ⌝ }
+{
+    Core::Seen { body, header }
+}
+
+fn is_there(piece: Piece) -> bool
+    ensures { λ r. ⌜ r ≡ isThere piece ⌝ }
+{
+    if piece.length == 0 {
+        return false;
+    }
+    piece.number < 32768
+}
+
+fn count_of(piece: Piece) -> usize
+    ensures { λ r. ⌜ (r ≡ countOf piece) × (r < 2) ⌝ }
+{
+    if is_there(piece) { 1 } else { 0 }
+}
+
+fn kept_with(piece: Piece, kept: Record) -> Record
+    ensures { λ r. ⌜ r ≡ keptWith piece kept ⌝ }
+{
+    if is_there(piece) {
+        return cut::add(piece.last, piece.number, piece.length, kept);
+    }
+    kept
+}
+
+fn top_with(piece: Piece, top: usize) -> usize
+    ensures { λ r. ⌜ r ≡ topWith piece top ⌝ }
+{
+    if !is_there(piece) {
+        return top;
+    }
+    if piece.last {
+        return top;
+    }
+    if piece.number < top {
+        return top;
+    }
+    piece.number + 1
+}
+
+fn goes_with(piece: Piece, top: usize, kept: Record) -> bool
+    ensures { λ r. ⌜ r ≡ goesWith piece top kept ⌝ }
+{
+    if is_there(piece) {
+        return cut::joins(0 < top, piece.last, piece.length, kept);
+    }
+    true
+}
+
+fn say_number(name: &[u8], number: usize) {
     io::write_all(1, name);
-    if verdict {
-        io::write_all(1, b": fits\n");
+    io::print_decimal(1, number as u64);
+}
+
+fn say_piece(part: &[u8], piece: Piece) {
+    if !is_there(piece) {
+        return;
+    }
+    say_number(part, piece.number);
+    if piece.last {
+        io::write_all(1, b", last");
     } else {
+        io::write_all(1, b", not last");
+    }
+    say_number(b", length ", piece.length);
+}
+
+fn say_core(core: Core) {
+    if let Core::Seen { body, header } = core {
+        say_number(b", HeaderSize ", header);
+        say_number(b", BodySize ", body);
+    }
+}
+
+fn say_verdict(fits: bool, finished: bool) {
+    if !fits {
         io::write_all(1, b": conflicts\n");
-    }
-}
-
-// A header segment alone.
-fn header_alone(name: &[u8], last: bool, number: usize, length: usize) {
-    let p = nothing();
-    if number < 32768 {
-        let q = cut::add(last, number, length, p);
-        let top = if last { 0 } else { number + 1 };
-        say(name, cut::suits(LIMIT, Core::Unseen, top, q, 0, p));
-    }
-}
-
-// A body segment alone.
-fn body_alone(name: &[u8], limit: usize, last: bool, number: usize, length: usize) {
-    let p = nothing();
-    if number < 32768 {
-        let q = cut::add(last, number, length, p);
-        let top = if last { 0 } else { number + 1 };
-        say(name, cut::suits(limit, Core::Unseen, 0, p, top, q));
-    }
-}
-
-// A whole header of 7 bytes that says BodySize, and body segment 0 of that length, not the last; of length 0, none.
-fn sized(name: &[u8], limit: usize, body: usize, length: usize) {
-    let core = Core::Seen { body, header: 7 };
-    let p = nothing();
-    let h = cut::add(true, 0, 7, p);
-    let q = cut::add(false, 0, length, p);
-    if length == 0 {
-        say(name, cut::suits(limit, core, 0, h, 0, p));
+    } else if finished {
+        io::write_all(1, b": completes\n");
     } else {
-        say(name, cut::suits(limit, core, 0, h, 1, q));
+        io::write_all(1, b": fits\n");
     }
+}
+
+// A header segment, what it says if it is number 0, and two body segments, the second one new.
+fn case(limit: usize, core: Core, header: Piece, first: Piece, second: Piece) {
+    say_number(b"limit ", limit);
+    say_piece(b"; header ", header);
+    say_core(core);
+    say_piece(b"; body ", first);
+    say_piece(b"; body ", second);
+    let h = kept_with(header, nothing());
+    let held = kept_with(first, nothing());
+    let top = top_with(first, 0);
+    let b = kept_with(second, held);
+    let count = count_of(first) + count_of(second);
+    if goes_with(second, top, held) {
+        say_verdict(
+            cut::suits(
+                limit,
+                core,
+                top_with(header, 0),
+                h,
+                top_with(second, top),
+                b,
+            ),
+            cut::finished(core, count_of(header), h, count, b),
+        );
+    } else {
+        say_verdict(false, false);
+    }
+}
+
+fn header_alone(header: Piece) {
+    case(LIMIT, Core::Unseen, header, none(), none());
+}
+
+fn header_first(header: Piece, size: usize) {
+    case(LIMIT, says(size, 0), header, none(), none());
+}
+
+fn body_alone(limit: usize, body: Piece) {
+    case(limit, Core::Unseen, none(), body, none());
+}
+
+// A whole header of 7 bytes that says BodySize, and body segments.
+fn sized(limit: usize, size: usize, first: Piece, second: Piece) {
+    case(limit, says(7, size), last(0, 7), first, second);
+}
+
+fn pair(first: Piece, second: Piece) {
+    case(LIMIT, Core::Unseen, none(), first, second);
+}
+
+fn cases_of_document_01() {
+    sized(LIMIT, 20, none(), none());
+    sized(LIMIT, 0, none(), none());
+    sized(LIMIT, 100, last(3, 10), none());
+    sized(LIMIT, 99, last(3, 10), none());
+    sized(LIMIT, 40, last(3, 10), none());
+    sized(LIMIT, 58, last(3, 10), none());
+    sized(LIMIT, 68, last(3, 20), none());
+    sized(LIMIT, 32, full(0, 16), full(1, 16));
+    sized(LIMIT, 32, full(0, 16), last(1, 16));
+    header_first(full(0, 16), 16);
+    header_first(full(0, 16), 17);
+    header_alone(last(63, 16));
+    header_alone(last(63, 17));
+    header_alone(last(0, 6));
+}
+
+// A header's numbers and lengths, and the body size that it says.
+fn cases_of_headers() {
+    header_alone(last(64, 7));
+    header_alone(full(62, 16));
+    header_alone(full(63, 16));
+    header_first(last(0, 1024), 1024);
+    header_first(last(0, 1025), 1025);
+    sized(1024, 1024, none(), none());
+    sized(1024, 1025, none(), none());
+    sized(LIMIT, LIMIT, none(), none());
+    sized(LIMIT, LIMIT + 1, none(), none());
+    sized(MOST, MOST, none(), none());
+    sized(MOST, MOST + 1, none(), none());
+}
+
+// A body's numbers and sizes, and how far they reach.
+fn cases_of_bodies() {
+    sized(MOST, 16384, full(0, 16), none());
+    sized(MOST, 16385, full(0, 16), none());
+    body_alone(16384, last(1023, 16));
+    body_alone(16384, full(1022, 16));
+    body_alone(16384, full(1023, 16));
+    body_alone(16400, last(1024, 1));
+    body_alone(MOST, last(1023, 16));
+    body_alone(MOST, full(1023, 16));
+    body_alone(MOST, last(1024, 16));
+    body_alone(MOST, full(1024, 16));
+    sized(MOST, MOST, full(0, 8189), none());
+    sized(MOST, MOST, full(0, 8190), none());
+    sized(MOST, 8385536, full(0, 8189), none());
+}
+
+// The last one alone, number n of length k: n times the greater of 16 and k, and k, at the limit and one or as little as
+// can be over.
+fn cases_of_the_last_alone() {
+    body_alone(1024, last(63, 16));
+    body_alone(1024, last(63, 17));
+    body_alone(LIMIT, last(767, 16));
+    body_alone(LIMIT, last(767, 17));
+    body_alone(LIMIT, last(768, 1));
+    body_alone(LIMIT, last(511, 24));
+    body_alone(LIMIT - 1, last(511, 24));
+    body_alone(LIMIT, last(2, 4096));
+    body_alone(LIMIT, last(2, 4097));
+    body_alone(MOST, last(1023, 1024));
+    body_alone(MOST, last(1023, 1025));
+    body_alone(MOST, last(127, 8189));
+    body_alone(MOST, last(128, 8128));
+    body_alone(MOST, last(128, 8129));
+}
+
+// Two segments of a part: there is one last one, full ones have one length, and the last one is no longer and comes after.
+fn cases_of_two_segments() {
+    pair(full(0, 16), full(1, 17));
+    pair(full(0, 17), full(1, 17));
+    pair(last(1, 16), last(2, 16));
+    pair(full(0, 16), last(1, 17));
+    pair(full(0, 17), last(1, 17));
+    pair(full(1, 16), last(1023, 16));
+    pair(full(2, 16), last(1, 16));
 }
 
 fn main() {
-    header_alone(b"header 63, last, 16 bytes", true, 63, 16);
-    header_alone(b"header 63, last, 17 bytes", true, 63, 17);
-    header_alone(b"header 0, last, 6 bytes", true, 0, 6);
-    header_alone(b"header 64, last, 7 bytes", true, 64, 7);
-    header_alone(b"header 62, not last, 16 bytes", false, 62, 16);
-    header_alone(b"header 63, not last, 16 bytes", false, 63, 16);
-    sized(
-        b"body 0, not last, 16 bytes, BodySize 16384, limit 1048576",
-        1048576,
-        16384,
-        16,
-    );
-    sized(
-        b"body 0, not last, 16 bytes, BodySize 16385, limit 1048576",
-        1048576,
-        16385,
-        16,
-    );
-    sized(b"BodySize 12288", LIMIT, 12288, 0);
-    sized(b"BodySize 12289", LIMIT, 12289, 0);
-    body_alone(
-        b"body 1023, last, 16 bytes, limit 16384",
-        16384,
-        true,
-        1023,
-        16,
-    );
-    body_alone(
-        b"body 1023, not last, 16 bytes, limit 16384",
-        16384,
-        false,
-        1023,
-        16,
-    );
-    body_alone(
-        b"body 1022, not last, 16 bytes, limit 16384",
-        16384,
-        false,
-        1022,
-        16,
-    );
-    body_alone(
-        b"body 1024, last, 1 byte, limit 16400",
-        16400,
-        true,
-        1024,
-        1,
-    );
-    sized(
-        b"body 0, not last, 8189 bytes, BodySize 1048576, limit 1048576",
-        1048576,
-        1048576,
-        8189,
-    );
-    sized(
-        b"body 0, not last, 8189 bytes, BodySize 8385536, limit 1048576",
-        1048576,
-        8385536,
-        8189,
-    );
-    sized(
-        b"body 0, not last, 8190 bytes, BodySize 1048576, limit 1048576",
-        1048576,
-        1048576,
-        8190,
-    );
-    body_alone(b"body 767, last, 16 bytes", LIMIT, true, 767, 16);
-    body_alone(b"body 768, last, 1 byte", LIMIT, true, 768, 1);
-    body_alone(b"body 511, last, 24 bytes", LIMIT, true, 511, 24);
-    body_alone(
-        b"body 511, last, 24 bytes, limit 12287",
-        12287,
-        true,
-        511,
-        24,
-    );
+    cases_of_document_01();
+    cases_of_headers();
+    cases_of_bodies();
+    cases_of_the_last_alone();
+    cases_of_two_segments();
 }

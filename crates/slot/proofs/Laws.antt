@@ -20,8 +20,8 @@ use Rattle.cut.specs.declared.Record.{Record}
 use Rattle.cut.specs.Lists.{pick}
 use Rattle.cut.specs.Decision.{both, all, boundsOf, room, roomAs, openTests, endedTests}
 use Rattle.cut.specs.Sums.{acceptsIn}
-use Rattle.slot.specs.Memory.{placeOf, movedAs}
-use Rattle.slot.specs.Sound.{endRight}
+use Rattle.gathering.specs.Memory.{placeOf, movedAs}
+use Rattle.gathering.specs.Sound.{endRight}
 use Rattle.slot.specs.Inner.{marksOf}
 use Rattle.cut.specs.LawsDecision.{all-true}
 

@@ -5,6 +5,9 @@ use answer::Part;
 use cut::Bounds;
 use cut::Core;
 use cut::Record;
+use gathering::Outcome;
+use gathering::Slot;
+use gathering::Stage;
 ghost use mathlib.Core.Path.{_≡_};
 ghost use Prim.Native.Nat.{suc, _*_, _≤_, _<_};
 ghost use lib.Dec.{eqb};
@@ -14,34 +17,10 @@ ghost use Rattle.cut.specs.Requirement.{bodySize, headerSize};
 ghost use Rattle.cut.specs.declared.Core.the-variants.{Seen};
 ghost use Rattle.cut.specs.Lists.{pick};
 ghost use Rattle.cut.specs.Sums.{ended, possibleIn, acceptsIn, fullIn, suitsIn};
-ghost use Rattle.slot.specs.Memory.{placeOf, lengthOf, movedAs};
-ghost use Rattle.slot.specs.Take.{stageBy, sameFlag, outcomeBy, takeInto};
-ghost use Rattle.slot.specs.Sound.{endRight, sameStage};
+ghost use Rattle.gathering.specs.Memory.{placeOf, lengthOf, movedAs};
+ghost use Rattle.gathering.specs.Take.{stageBy, sameFlag, outcomeBy, takeInto};
+ghost use Rattle.gathering.specs.Sound.{endRight, sameStage};
 ghost use Rattle.slot.specs.Inner.{otherPart, marksOf, keptOf, coreFrom, takesAs, recordAs, recordStill, putIn, slotFrom, sameAs, CanMove, CanPut, headerStored, bodyStored, Ready, Offered, rightAs, soundBy};
-
-// Free comes first: a free slot is what an unused one is made of.
-pub enum Stage {
-    Free,
-    Gathering,
-    Finished(usize, usize),
-}
-
-// What a slot holds: a transport number, how far its object has come, and what is kept of its two
-// parts. The two lengths of a finished object are the header's and the body's.
-pub struct Slot {
-    pub number: u16,
-    pub stage: Stage,
-    pub header: Record,
-    pub body: Record,
-}
-
-// What comes of a segment that is offered to a slot.
-pub enum Outcome {
-    Stored,
-    Complete,
-    Repeat,
-    Conflict,
-}
 
 fn other_part(part: Part) -> Part
     ensures { λ r. ⌜ r ≡ otherPart part ⌝ }

@@ -8,4 +8,4 @@ pub mod Take
 pub mod Shares
 pub mod Fresh
 pub mod Show
-pub mod Calls
+pub mod Ready

@@ -11,9 +11,9 @@ use Rattle.octets.specs.Octets.{over, zeros}
 use Rattle.octets.specs.Over.{over-exact, cleared-whole, over-length, over-inside, part-length}
 use Rattle.octets.specs.Shares.{share, share-other}
 use Rattle.cut.specs.Requirement.{headerMost}
-use Rattle.slot.specs.declared.Slot.{Slot}
-use Rattle.slot.specs.declared.Outcome.{Outcome}
-use Rattle.slot.specs.Take.{Lent, Taken}
+use Rattle.gathering.specs.declared.Slot.{Slot}
+use Rattle.gathering.specs.declared.Outcome.{Outcome}
+use Rattle.gathering.specs.Take.{Lent, Taken}
 use Rattle.slots.specs.Stores.{slotMarks, Stores, lentAt, withLent}
 use Rattle.slots.specs.Take.{Placed, placedAt, Inside}
 

@@ -13,7 +13,7 @@ use Rattle.cut.specs.Requirement.{headerMost, limitLeast, limitMost}
 use Rattle.cut.specs.Lists.{pick}
 use Rattle.cut.specs.Decision.{both, all}
 use Rattle.cut.specs.LawsDecision.{all-true}
-use Rattle.slot.specs.declared.Slot.{Slot}
+use Rattle.gathering.specs.declared.Slot.{Slot}
 use Rattle.slot.specs.Meets.{sound-meets}
 use Rattle.slots.specs.declared.Found.{Found}
 use Rattle.slots.specs.declared.Found.the-variants.{Nothing, At}

@@ -1,20 +1,15 @@
-//! Prints the worked cases near the bounds with the search's verdict on each, the published check
-//! words, and what the parameter reader makes of document 01's parameters, one case a line, for a
-//! program that prints the same lines its own way to be compared with.
+//! The worked cases of document 01, "Both sides of the line", and others at each bound, with the
+//! search's verdict on each, one case a line. Program `crates/cases` runs the same cases on the
+//! proved decision, and what it must write is what this one writes.
 
-use independent::check_word;
-use independent::header;
-use independent::object::{fits, Core, Piece};
+use independent::collector::{Held, Stage};
+use independent::object::{fits, fits_by_trying_all, Core, Piece};
 
-fn core(header_size: usize, body_size: usize) -> Vec<u8> {
-    let core = Core {
-        body_size,
-        header_size,
-        content_type: 0,
-        content_subtype: 0,
-    };
-    core.bytes().to_vec()
-}
+const LIMIT: usize = 12_288;
+const MOST: usize = 1_048_576;
+
+/// Up to this body limit every body length is tried too, where no header says it.
+const TRIED: usize = 16_400;
 
 fn piece(number: u16, last: bool, length: usize) -> Piece {
     Piece {
@@ -24,135 +19,150 @@ fn piece(number: u16, last: bool, length: usize) -> Piece {
     }
 }
 
-/// A whole header of 7 bytes that says this body size.
-fn says(body_size: usize) -> Vec<Piece> {
-    vec![Piece {
-        number: 0,
-        last: true,
-        bytes: core(7, body_size),
-    }]
+fn full(number: u16, length: usize) -> Piece {
+    piece(number, false, length)
 }
 
-/// Header segment 0 of 16 bytes, not last, that says this header size.
-fn starts(header_size: usize) -> Vec<Piece> {
-    let mut bytes = core(header_size, 0);
-    bytes.resize(16, 0);
-    vec![Piece {
-        number: 0,
-        last: false,
-        bytes,
-    }]
+fn last(number: u16, length: usize) -> Piece {
+    piece(number, true, length)
 }
 
-fn verdict(case: &str, limit: usize, header: &[Piece], body: &[Piece]) {
-    let word = if fits(limit, header, body) {
-        "fits"
-    } else {
-        "CONFLICT"
+/// This header segment 0 with these two lengths written into its core.
+fn saying(mut first: Piece, header_size: usize, body_size: usize) -> Piece {
+    let core = Core {
+        body_size,
+        header_size,
+        content_type: 0,
+        content_subtype: 0,
     };
-    println!("limit {limit}, {case}: {word}");
+    first.bytes[..7].copy_from_slice(&core.bytes());
+    first
+}
+
+/// A whole header of 7 bytes that says this body size.
+fn says(body_size: usize) -> Piece {
+    saying(last(0, 7), 7, body_size)
+}
+
+fn shown(part: &str, piece: &Piece) -> String {
+    let flag = if piece.last { "last" } else { "not last" };
+    let (number, length) = (piece.number, piece.bytes.len());
+    format!("; {part} {number}, {flag}, length {length}")
+}
+
+fn case(limit: usize, header: &[Piece], body: &[Piece]) {
+    let held = Held {
+        transport: 0,
+        header: header.to_vec(),
+        body: body.to_vec(),
+    };
+    let found = fits(limit, header, body);
+    if limit <= TRIED || held.core().is_some() {
+        assert_eq!(found, fits_by_trying_all(limit, header, body));
+    }
+    let mut line = format!("limit {limit}");
+    for piece in header {
+        line += &shown("header", piece);
+    }
+    if let Some(core) = held.core() {
+        let (header_size, body_size) = (core.header_size, core.body_size);
+        line += &format!(", HeaderSize {header_size}, BodySize {body_size}");
+    }
+    for piece in body {
+        line += &shown("body", piece);
+    }
+    let verdict = match held.stage() {
+        _ if !found => "conflicts",
+        Stage::Finished { .. } => "completes",
+        Stage::Gathering => "fits",
+    };
+    println!("{line}: {verdict}");
 }
 
 fn cases_of_document_01() {
-    let limit = 12_288;
+    case(LIMIT, &[says(20)], &[]);
+    case(LIMIT, &[says(0)], &[]);
     for body_size in [100, 99, 40, 58] {
-        let case = format!("body last n 3 k 10, BodySize {body_size}");
-        verdict(&case, limit, &says(body_size), &[piece(3, true, 10)]);
+        case(LIMIT, &[says(body_size)], &[last(3, 10)]);
     }
-    let case = "body last n 3 k 20, BodySize 68";
-    verdict(case, limit, &says(68), &[piece(3, true, 20)]);
-    for (flag, last) in [("not last", false), ("last", true)] {
-        let case = format!("BodySize 32, body 0 and 1 of 16, 1 {flag}");
-        let body = [piece(0, false, 16), piece(1, last, 16)];
-        verdict(&case, limit, &says(32), &body);
-    }
-    for header_size in [16, 17] {
-        let case = format!("header 0 of 16, not last, HeaderSize {header_size}");
-        verdict(&case, limit, &starts(header_size), &[]);
-    }
+    case(LIMIT, &[says(68)], &[last(3, 20)]);
+    case(LIMIT, &[says(32)], &[full(0, 16), full(1, 16)]);
+    case(LIMIT, &[says(32)], &[full(0, 16), last(1, 16)]);
+    case(LIMIT, &[saying(full(0, 16), 16, 0)], &[]);
+    case(LIMIT, &[saying(full(0, 16), 17, 0)], &[]);
     for (number, length) in [(63, 16), (63, 17), (0, 6)] {
-        let case = format!("header last n {number} k {length}");
-        verdict(&case, limit, &[piece(number, true, length)], &[]);
+        case(LIMIT, &[last(number, length)], &[]);
     }
 }
 
-fn cases_at_the_bounds() {
-    let most = 1_048_576;
-    for body_size in [16_384, 16_385] {
-        let case = format!("body 0 of 16, not last, BodySize {body_size}");
-        verdict(&case, most, &says(body_size), &[piece(0, false, 16)]);
+/// A header's numbers and lengths, and the body size that it says.
+fn cases_of_headers() {
+    case(LIMIT, &[last(64, 7)], &[]);
+    case(LIMIT, &[full(62, 16)], &[]);
+    case(LIMIT, &[full(63, 16)], &[]);
+    case(LIMIT, &[saying(last(0, 1_024), 1_024, 0)], &[]);
+    case(LIMIT, &[saying(last(0, 1_025), 1_025, 0)], &[]);
+    for limit in [1_024, LIMIT, MOST] {
+        case(limit, &[says(limit)], &[]);
+        case(limit, &[says(limit + 1)], &[]);
     }
-    for limit in [1_024, 12_288, most] {
-        for body_size in [limit, limit + 1] {
-            let case = format!("BodySize {body_size}");
-            verdict(&case, limit, &says(body_size), &[]);
-        }
-    }
-    for (number, last) in [(1_023, true), (1_023, false), (1_024, true), (1_024, false)] {
-        let flag = if last { "last" } else { "not last" };
-        let case = format!("body {number} of 16, {flag}");
-        verdict(&case, most, &[], &[piece(number, last, 16)]);
-    }
-    let case = "body 0 of 8189, not last, BodySize 8385536";
-    verdict(case, most, &says(8_385_536), &[piece(0, false, 8_189)]);
-    // n times the greater of 16 and k, and k: at the limit and one or as little as can be over.
+}
+
+/// A body's numbers and sizes, and how far they reach.
+fn cases_of_bodies() {
+    case(MOST, &[says(16_384)], &[full(0, 16)]);
+    case(MOST, &[says(16_385)], &[full(0, 16)]);
+    case(16_384, &[], &[last(1_023, 16)]);
+    case(16_384, &[], &[full(1_022, 16)]);
+    case(16_384, &[], &[full(1_023, 16)]);
+    case(16_400, &[], &[last(1_024, 1)]);
+    case(MOST, &[], &[last(1_023, 16)]);
+    case(MOST, &[], &[full(1_023, 16)]);
+    case(MOST, &[], &[last(1_024, 16)]);
+    case(MOST, &[], &[full(1_024, 16)]);
+    case(MOST, &[says(MOST)], &[full(0, 8_189)]);
+    case(MOST, &[says(MOST)], &[full(0, 8_190)]);
+    case(MOST, &[says(8_385_536)], &[full(0, 8_189)]);
+}
+
+/// The last one alone, number n of length k: n times the greater of 16 and k, and k, at the limit
+/// and one or as little as can be over.
+fn cases_of_the_last_alone() {
     for (limit, number, length) in [
         (1_024, 63, 16),
         (1_024, 63, 17),
-        (12_288, 767, 16),
-        (12_288, 767, 17),
-        (12_288, 768, 1),
-        (12_288, 2, 4_096),
-        (12_288, 2, 4_097),
-        (most, 1_023, 1_024),
-        (most, 1_023, 1_025),
-        (most, 127, 8_189),
-        (most, 128, 8_128),
-        (most, 128, 8_129),
+        (LIMIT, 767, 16),
+        (LIMIT, 767, 17),
+        (LIMIT, 768, 1),
+        (LIMIT, 511, 24),
+        (LIMIT - 1, 511, 24),
+        (LIMIT, 2, 4_096),
+        (LIMIT, 2, 4_097),
+        (MOST, 1_023, 1_024),
+        (MOST, 1_023, 1_025),
+        (MOST, 127, 8_189),
+        (MOST, 128, 8_128),
+        (MOST, 128, 8_129),
     ] {
-        let case = format!("body last n {number} k {length}");
-        verdict(&case, limit, &[], &[piece(number, true, length)]);
+        case(limit, &[], &[last(number, length)]);
     }
 }
 
-fn check_words() {
-    for text in ["", "123456789", "A"] {
-        let word = check_word::of(text.as_bytes());
-        println!("check word of \"{text}\": {word:04x}");
-    }
-    for byte in [0xFF, 0x00] {
-        println!("check word of {byte:02x}: {:04x}", check_word::of(&[byte]));
-    }
-}
-
-fn parameters() {
-    for list in [
-        &[0x4A, 0x05][..],
-        &[0xCC, 0x02, 0x40, 0x61],
-        &[0x4A, 0x05, 0xCC, 0x02, 0x40, 0x61],
-        &[0xCC, 0x05, 0x40, 0x61],
-        &[0x4A, 0x05, 0x4A, 0x05],
-    ] {
-        let whole = [&core(7 + list.len(), 0)[..], list].concat();
-        let shown: String = list.iter().map(|byte| format!(" {byte:02x}")).collect();
-        match header::read(&whole) {
-            Ok(reading) => {
-                let priority = reading
-                    .priority
-                    .map_or("-".to_string(), |byte| byte.to_string());
-                let name = reading.name.map_or("-".to_string(), |data| {
-                    format!("{} at {}", data.len(), data.start)
-                });
-                println!("parameters{shown}: priority {priority}, name {name}");
-            }
-            Err(answer) => println!("parameters{shown}: {}", answer.name()),
-        }
-    }
+/// Two segments of a part: there is one last one, no shorter one is full, and no longer one last.
+fn cases_of_two_segments() {
+    case(LIMIT, &[], &[full(0, 16), full(1, 17)]);
+    case(LIMIT, &[], &[full(0, 17), full(1, 17)]);
+    case(LIMIT, &[], &[last(1, 16), last(2, 16)]);
+    case(LIMIT, &[], &[full(0, 16), last(1, 17)]);
+    case(LIMIT, &[], &[full(0, 17), last(1, 17)]);
+    case(LIMIT, &[], &[full(1, 16), last(1_023, 16)]);
+    case(LIMIT, &[], &[full(2, 16), last(1, 16)]);
 }
 
 fn main() {
     cases_of_document_01();
-    cases_at_the_bounds();
-    check_words();
-    parameters();
+    cases_of_headers();
+    cases_of_bodies();
+    cases_of_the_last_alone();
+    cases_of_two_segments();
 }

@@ -3,8 +3,8 @@
 use Rattle.slot.proofs.Laws.{through₂, marks-numbers, header-numbers, both-only, some-sum}
 use Rattle.slot.specs.Meets.{sound-tests}
 use Rattle.slot.specs.Inner.{coreFrom}
-use Rattle.slot.specs.Sound.{sameStage}
-use Rattle.slot.specs.declared.Slot.{Slot}
+use Rattle.gathering.specs.Sound.{sameStage}
+use Rattle.gathering.specs.declared.Slot.{Slot}
 use Rattle.cut.specs.declared.Core.the-variants.{Unseen}
 use Rattle.octets.specs.Marks.{summed-short}
 use Rattle.answer.specs.declared.Part.the-variants.{Header}

@@ -2,7 +2,7 @@
 -- Assumes nothing.
 use Rattle.slot.proofs.Laws.{through₂, marks-short}
 use Rattle.slot.specs.Inner.{rightAs}
-use Rattle.slot.specs.Sound.{endRight}
+use Rattle.gathering.specs.Sound.{endRight}
 use Rattle.cut.specs.Sums.{fullIn}
 use Rattle.cut.specs.Decision.{settle}
 use Rattle.cut.specs.declared.Record.{Record}

@@ -1,7 +1,7 @@
 use borrow.Author.Needs.{needs}
 use Rattle.slot.specs.Inner.{coreFrom}
-use Rattle.slot.specs.Take.{stageBy}
-use Rattle.slot.specs.declared.Stage.{Stage}
+use Rattle.gathering.specs.Take.{stageBy}
+use Rattle.gathering.specs.declared.Stage.{Stage}
 use Rattle.octets.specs.Octets.{sumOf}
 use Rattle.cut.specs.Decision.{finished}
 use Rattle.slot.proofs.Laws.{through₂, through₃}

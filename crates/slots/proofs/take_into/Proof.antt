@@ -2,7 +2,7 @@
 -- Assumes nothing.
 use mathlib.Core.Path.{subst, sym, ap, _∙_}
 use lib.ListN.{length}
-use Rattle.slot.specs.Take.{Lent, takeInto}
+use Rattle.gathering.specs.Take.{Lent, takeInto}
 use Rattle.slot.specs.Inner.{Offered}
 use Rattle.slots.specs.Stores.{Stores, lentAt}
 use Rattle.slots.specs.Shares.{shares-lent, shares-back, lent-wide}

@@ -2,8 +2,8 @@
 -- Assumes nothing.
 use mathlib.Core.Path.{ap, ap₂, _∙_}
 use Rattle.cut.specs.declared.Record.{Record}
-use Rattle.slot.specs.declared.Stage.the-variants.{Gathering}
-use Rattle.slot.specs.Take.{takeInto}
+use Rattle.gathering.specs.declared.Stage.the-variants.{Gathering}
+use Rattle.gathering.specs.Take.{takeInto}
 use Rattle.slots.specs.Stores.{Stores, lentAt, freshSlot}
 use Rattle.slots.specs.Take.{Placed, placedAt, among, takeNew}
 use Rattle.slots.specs.Fresh.{fresh-offered}

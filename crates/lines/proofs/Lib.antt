@@ -1,0 +1,3 @@
+mod Hex
+mod Cases
+mod Pieces

@@ -1,0 +1,159 @@
+-- A sound state offers each of its slots: what the code that takes a segment asks follows from the test of the state.
+use mathlib.Core.Path.{_≡_, refl}
+use mathlib.Core.Bool.{Bool, true, false}
+use mathlib.Core.List.{List, [], _∷_}
+use Prim.Native.Nat.{ℕ, zero, suc, _+_, _*_, _≤_, _<_}
+use native.Mathlib.Nat.{add-zero, zero-add, suc-mul, mul-le-mul-right}
+use native.Mathlib.Omega.{arith}
+use lib.Dec.{eqb, leb}
+use lib.ListN.{length, take, getD, length-take}
+use lib.Seq.{getD-take}
+use borrow.Author.Tests.{eqb-true, leb-true}
+use Rattle.octets.specs.Octets.{sumOf, largestOf}
+use Rattle.octets.specs.Over.{part-length}
+use Rattle.octets.specs.Marks.{sum-none, largest-each}
+use Rattle.cut.specs.Requirement.{headerMost, limitLeast, limitMost}
+use Rattle.cut.specs.Lists.{pick}
+use Rattle.cut.specs.LawsDecision.{both-true, all-true}
+use Rattle.gathering.specs.declared.Slot.{Slot}
+use Rattle.gathering.specs.Take.{Lent}
+use Rattle.gathering.specs.Sound.{soundSlot}
+use Rattle.gathering.specs.Inside.{sound-slot}
+use Rattle.slots.specs.declared.Found.the-variants.{At}
+use Rattle.slots.specs.Stores.{slotsMost, slotMarks, Stores, lentAt, freeSlot, slotAt}
+use Rattle.slots.specs.Find.{freeStage, isFree, holds, firstFrom, findIn, freeIn}
+use Rattle.slots.specs.State.{withinLimits, distinct, rightSlot, rightFrom, soundSlots}
+use Rattle.slots.specs.Take.{Inside, OfferedAt, OpenAt}
+
+-- ---- what the test of a state says
+
+pub record Within (limit count : ℕ) (stores : Stores) : Type 0 where
+  pub header : length (stores .header) ≡ count * headerMost
+  pub body : length (stores .body) ≡ count * limit
+  pub marks : length (stores .marks) ≡ count * slotMarks
+  pub least : limitLeast ≤ limit
+  pub most : limit ≤ limitMost
+  pub some : 1 ≤ count
+  pub slots : count ≤ slotsMost
+
+abbrev limitTests : ℕ → ℕ → ℕ → ℕ → ℕ → List Bool
+limitTests limit count header body marks =
+    eqb header (count * headerMost) ∷ eqb body (count * limit) ∷ eqb marks (count * slotMarks) ∷ leb limitLeast limit ∷ leb limit limitMost ∷ leb 1 count ∷ leb count slotsMost ∷ []
+
+abbrev soundTests : ℕ → ℕ → List Slot → Stores → List Bool
+soundTests limit count slots stores =
+    withinLimits limit count (length (stores .header)) (length (stores .body)) (length (stores .marks)) ∷ distinct (take count slots) ∷ rightFrom limit 0 (take count slots) stores ∷ []
+
+pub sound-within : (limit count : ℕ) (slots : List Slot) (stores : Stores) → soundSlots limit count slots stores ≡ true → Within limit count stores
+unfolding soundSlots withinLimits
+sound-within limit count slots stores e =
+    let t = all-true (limitTests limit count (length (stores .header)) (length (stores .body)) (length (stores .marks))) (all-true (soundTests limit count slots stores) e .0) in
+    record {
+      header = eqb-true _ _ (t .0);
+      body = eqb-true _ _ (t .1 .0);
+      marks = eqb-true _ _ (t .1 .1 .0);
+      least = leb-true _ _ (t .1 .1 .1 .0);
+      most = leb-true _ _ (t .1 .1 .1 .1 .0);
+      some = leb-true _ _ (t .1 .1 .1 .1 .1 .0);
+      slots = leb-true _ _ (t .1 .1 .1 .1 .1 .1 .0);
+    }
+
+-- each slot is right
+right-at : (limit first i : ℕ) (slots : List Slot) (stores : Stores) → rightFrom limit first slots stores ≡ true → i < length slots → rightSlot limit (getD slots i freeSlot) (lentAt limit (first + i) stores) ≡ true
+unfolding rightFrom
+right-at limit first i [] stores e h = absurd (omega arith)
+right-at limit first zero (slot ∷ slots) stores e h =
+    let t = both-true (rightSlot limit slot (lentAt limit first stores)) (rightFrom limit (suc first) slots stores) e in
+    rw (add-zero first) (t .0)
+right-at limit first (suc i) (slot ∷ slots) stores e h =
+    let t = both-true (rightSlot limit slot (lentAt limit first stores)) (rightFrom limit (suc first) slots stores) e in
+    let g : first + suc i ≡ suc first + i = omega arith in
+    rw g (right-at limit (suc first) i slots stores (t .1) (omega arith))
+
+-- the first slot that passes a test is one of them, and passes
+found-passes : (test : Slot → Bool) (first i : ℕ) (slots : List Slot) → firstFrom test first slots ≡ At i → (j : ℕ) × (i ≡ first + j) × (j < length slots) × (test (getD slots j freeSlot) ≡ true)
+unfolding firstFrom
+found-passes test first i [] e = let z : _≡_ {A = ℕ} 0 1 = cc in absurd (omega arith)
+found-passes test first i (slot ∷ slots) e = go (test slot) refl e (λ g. found-passes test (suc first) i slots g)
+  where
+    go : (b : Bool) → test slot ≡ b → pick b (At first) (firstFrom test (suc first) slots) ≡ At i
+        → (firstFrom test (suc first) slots ≡ At i → (j : ℕ) × (i ≡ suc first + j) × (j < length slots) × (test (getD slots j freeSlot) ≡ true))
+        → (j : ℕ) × (i ≡ first + j) × (j < suc (length slots)) × (test (getD (slot ∷ slots) j freeSlot) ≡ true)
+    go true f g later = let h : first ≡ i = cc in (0, omega arith, omega arith, f)
+    go false f g later =
+        let r = later g in
+        (suc (r .0), omega (arith, r .1), omega (arith, r .2), r .3)
+
+-- ---- of the slots of a sound state
+
+-- share i lies inside a store of count shares
+inside-store : (width count i : ℕ) → i < count → i * width + width ≤ count * width
+inside-store width count i h = let g : suc i * width ≤ count * width = mul-le-mul-right width h in omega (arith, suc-mul i width)
+
+-- a slot that holds a number is sound, where it is right; a free one has no mark set
+held-sound : (limit number : ℕ) (slot : Slot) (lent : Lent) → holds number slot ≡ true → rightSlot limit slot lent ≡ true → soundSlot limit slot lent ≡ true
+unfolding holds isFree rightSlot
+held-sound limit number slot lent h r = go (freeStage (slot .stage)) h r
+  where
+    go : (free : Bool) → pick free false (eqb (slot .number) number) ≡ true → pick free (eqb (largestOf (lent .marks)) 0) (soundSlot limit slot lent) ≡ true → soundSlot limit slot lent ≡ true
+    go true h r = let z : _≡_ {A = ℕ} 0 1 = cc in absurd (omega arith)
+    go false h r = r
+
+free-unmarked : (limit : ℕ) (slot : Slot) (lent : Lent) → isFree slot ≡ true → rightSlot limit slot lent ≡ true → sumOf (lent .marks) ≡ 0
+unfolding rightSlot
+free-unmarked limit slot lent h r =
+    let none : largestOf (lent .marks) ≡ 0 = eqb-true (largestOf (lent .marks)) 0 (rw h at r) in
+    sum-none (lent .marks) .1 (λ i. zero-of (getD (lent .marks) i 0) (largest-each (lent .marks) 0 .0 (omega arith) i))
+  where
+    zero-of : (x : ℕ) → x ≤ 0 → x ≡ 0
+    zero-of x h = omega arith
+
+module _ (limit count : ℕ) (slots : List Slot) (stores : Stores) (sound : soundSlots limit count slots stores ≡ true) where
+  w : Within limit count stores
+  w = sound-within limit count slots stores sound
+
+  sound-inside : (i : ℕ) → i < count → Inside limit i stores
+  sound-inside i h = record {
+    slot = omega (arith, w .slots);
+    header = omega (arith, w .header, inside-store headerMost count i h);
+    body = omega (arith, w .body, inside-store limit count i h);
+    marks = omega (arith, w .marks, inside-store slotMarks count i h);
+  }
+
+  -- the slot that is found is one of them, right, and passes the test
+  found-right : (test : Slot → Bool) (i : ℕ) → firstFrom test 0 (take count slots) ≡ At i → (i < count) × (test (slotAt i slots) ≡ true) × (rightSlot limit (slotAt i slots) (lentAt limit i stores) ≡ true)
+  unfolding soundSlots slotAt
+  found-right test i e =
+      let r = found-passes test 0 i (take count slots) e in
+      let same : i ≡ r .0 = omega (arith, r .1) in
+      let h : i < length (take count slots) = omega (arith, r .2) in
+      let short : i < count = omega (arith, rw length-take at h) in
+      let at : getD (take count slots) i freeSlot ≡ getD slots i freeSlot = getD-take count slots i freeSlot short in
+      let passes : test (getD (take count slots) i freeSlot) ≡ true = rw same (r .3) in
+      let right = right-at limit 0 i (take count slots) stores (all-true (soundTests limit count slots stores) sound .1 .1 .0) h in
+      (short, rw at at passes, rw (at, zero-add i) at right)
+
+  shares : (i : ℕ) → Inside limit i stores → (length (lentAt limit i stores .header) ≡ headerMost) × (length (lentAt limit i stores .body) ≡ limit) × (length (lentAt limit i stores .marks) ≡ 1088)
+  unfolding lentAt
+  shares i h = (part-length (stores .header) (i * headerMost) headerMost (h .header), part-length (stores .body) (i * limit) limit (h .body), part-length (stores .marks) (i * slotMarks) slotMarks (h .marks))
+
+  -- a slot that holds a number can be offered a segment
+  pub sound-offered : (number i : ℕ) → findIn number count slots ≡ At i → OfferedAt limit i slots stores
+  unfolding findIn
+  sound-offered number i e =
+      let f = found-right (holds number) i e in
+      let within = sound-inside i (f .0) in
+      let long = shares i within in
+      let passed = sound-slot limit (slotAt i slots) (lentAt limit i stores) (held-sound limit number (slotAt i slots) (lentAt limit i stores) (f .1) (f .2)) in
+      record { inside = within; offered = record { header = long .0; body = long .1; marks = long .2; bits = passed .0; sound = passed .2 } }
+
+  -- a free slot can be taken
+  pub sound-open : (i : ℕ) → freeIn count slots ≡ At i → OpenAt limit i stores
+  unfolding freeIn
+  sound-open i e =
+      let f = found-right isFree i e in
+      record { inside = sound-inside i (f .0); enough = w .least; unmarked = free-unmarked limit (slotAt i slots) (lentAt limit i stores) (f .1) (f .2) }
+
+  -- a slot that holds a number is one of those lent for
+  pub found-inside : (number i : ℕ) → findIn number count slots ≡ At i → Inside limit i stores
+  found-inside number i e = sound-offered number i e .inside

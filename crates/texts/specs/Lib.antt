@@ -1,0 +1,4 @@
+pub mod Number
+pub mod Put
+pub mod Text
+pub mod Example
