@@ -1,22 +1,33 @@
 -- Laws that the proofs of the code share.
 -- Assumes nothing.
-use mathlib.Core.Path.{_≡_, refl, sym}
+use mathlib.Core.Path.{_≡_, refl, sym, _∙_}
+use mathlib.Core.Logic.{_≢_, ⊎-elim}
 use mathlib.Core.Bool.{Bool, true, false}
-use mathlib.Core.List.{List, []}
-use Prim.Native.Nat.{ℕ, _+_, _≤_, _<_}
+use mathlib.Core.List.{List, [], _∷_}
+use Prim.Native.Nat.{ℕ, _+_, _-_, _*_, _/_, _≤_, _<_}
+use native.Mathlib.Nat.{le-div-iff-mul-le}
+use native.Mathlib.Decide.{decLe}
 use native.Mathlib.Numerals.{add-one}
 use native.Mathlib.Omega.{arith}
 use lib.ListN.{length, getD, take, drop}
-use lib.Dec.{ltb}
+use lib.Dec.{ltb, leb}
+use borrow.Author.Tests.{le-leb, lt-leb}
+use types.Run.{OneOf}
+use denote.Enum.Declared.{tagOf}
+use Rattle.answer.specs.declared.Part.{Part}
 use Rattle.cut.specs.declared.Bounds.{Bounds}
 use Rattle.cut.specs.declared.Record.{Record}
 use Rattle.cut.specs.Decision.{both, room, alone, addPart}
 use Rattle.cut.specs.Sums.{acceptsIn}
 use Rattle.gathering.specs.declared.Slot.{Slot}
+use Rattle.gathering.specs.declared.Stage.{Stage}
+use Rattle.gathering.specs.declared.Stage.the-variants.{Free, Gathering, Finished}
+use Rattle.gathering.proofs.Stage.{the-type}
 use Rattle.slots.specs.declared.Found.the-variants.{Nothing, At}
 use Rattle.slots.specs.Stores.{noRecord, freeSlot}
 use Rattle.slots.specs.Find.{firstFrom}
 use Rattle.slots.specs.StateTests.{spent, one-more}
+use Rattle.slots.specs.Show.{startOf, shownAs}
 
 -- ---- a turn of a loop that looks for a slot
 
@@ -48,3 +59,33 @@ accepts-last last n b p e = rw e refl
 
 pub accepts-full : (last : Bool) (n k : ℕ) (b : Bounds) → last ≡ false → ltb n (room b (addPart last n k noRecord)) ≡ acceptsIn last n b (addPart last n k noRecord) []
 accepts-full last n k b e = rw (e, spent {A = ℕ} [] (room b (addPart false n k noRecord)) (omega arith)) (sym (both-only (ltb n (room b (addPart false n k noRecord)))))
+
+-- ---- a share that starts inside its store
+
+pub starts-by : (w i l : ℕ) → w ≢ 0 → leb i (l / w) ≡ leb (i * w) l
+starts-by w i l h = go (decLe (i * w) l)
+  where
+    some : 0 < w
+    some = omega arith
+
+    go : Dec (i * w ≤ l) → leb i (l / w) ≡ leb (i * w) l
+    go (yes p) = le-leb i (l / w) (le-div-iff-mul-le some .1 p) ∙ sym (le-leb (i * w) l p)
+    go (no p) =
+        let q : ¬ (i ≤ l / w) = λ r. p (le-div-iff-mul-le some .0 r) in
+        lt-leb i (l / w) (omega arith) ∙ sym (lt-leb (i * w) l (omega arith))
+
+module _ (w i count : ℕ) (store : List ℕ) where
+  pub start-none : length store < i * w + count → [] ≡ startOf w i count store
+  unfolding startOf
+  start-none h = rw (lt-leb (i * w + count) (length store) h) refl
+
+  pub start-some : i * w + count ≤ length store → take (i * w + count - i * w) (drop (i * w) store) ≡ startOf w i count store
+  unfolding startOf
+  start-some h = let e : i * w + count - i * w ≡ count = omega arith in rw (le-leb (i * w + count) (length store) h, e) refl
+
+-- ---- an object that is not finished: the tag is that of another stage
+
+pub unfinished : (part : Part) (stage : Stage) (limit i : ℕ) (header body : List ℕ) → OneOf (0 ∷ 1 ∷ []) (tagOf the-type stage) → [] ≡ shownAs part stage limit i header body
+unfinished part Free limit i header body h = refl
+unfinished part Gathering limit i header body h = refl
+unfinished part (Finished m n) limit i header body h = ⊎-elim (λ e. absurd (omega arith)) (λ e. absurd (omega arith)) h

@@ -1,23 +1,29 @@
 -- A slot that a transport number has just taken can be offered its first segment.
 use mathlib.Core.Path.{_≡_, refl}
-use mathlib.Core.Bool.{true}
+use mathlib.Core.Bool.{Bool, true, false}
 use mathlib.Core.List.{List, [], _∷_}
 use Prim.Native.Nat.{ℕ, _≤_}
 use native.Mathlib.Omega.{arith}
-use lib.ListN.{take, drop}
+use lib.ListN.{length, take, drop, getD}
 use borrow.Author.Tests.{le-leb}
 use Rattle.octets.specs.Octets.{sumOf, largestOf}
 use Rattle.octets.specs.Marks.{sum-split, sum-none}
-use Rattle.cut.specs.Requirement.{headerNumbers}
+use Rattle.answer.specs.declared.Part.{Part}
+use Rattle.answer.specs.declared.Part.the-variants.{Header, Body}
+use Rattle.cut.specs.Requirement.{headerNumbers, Segment}
+use Rattle.cut.specs.declared.Core.{Core}
+use Rattle.cut.specs.declared.Bounds.{Bounds}
+use Rattle.cut.specs.declared.Record.{Record}
 use Rattle.cut.specs.declared.Core.the-variants.{Unseen}
-use Rattle.cut.specs.Decision.{boundsOf, coreFits, alone}
-use Rattle.cut.specs.Sums.{possibleIn, suitsIn}
+use Rattle.cut.specs.Decision.{boundsOf, coreFits, alone, room, addPart, coreAfter}
+use Rattle.cut.specs.Sums.{possibleIn, suitsIn, acceptsIn, fullIn, takes}
 use Rattle.gathering.specs.Memory.{Memory}
 use Rattle.gathering.specs.declared.Stage.the-variants.{Gathering}
-use Rattle.gathering.specs.Take.{Lent, partsOf, coreIn, stageOf}
+use Rattle.gathering.specs.Take.{Lent, partsOf, memoryOf, coreIn, takesIn, stageOf, ifNew, takeInto}
 use Rattle.gathering.specs.Sound.{recordRight, soundParts}
 use Rattle.slot.specs.Inner.{Offered}
-use Rattle.slots.specs.Stores.{Stores, lentAt, freshSlot}
+use Rattle.slots.specs.Stores.{Stores, lentAt, noRecord, freshSlot}
+use Rattle.slots.specs.Alone.{fitsAlone}
 use Rattle.slots.specs.Take.{OpenAt}
 use Rattle.slots.specs.Shares.{lent-wide}
 
@@ -65,3 +71,41 @@ fresh-offered limit i number stores opened =
       bits = omega (arith, largest-sum (lentAt limit i stores .marks), opened .unmarked);
       sound = fresh-sound limit number (lentAt limit i stores) (opened .unmarked);
     }
+
+-- ---- its first segment is taken exactly when it fits alone
+
+-- marks of which none is set are as good as none at all
+module _ (b : Bounds) (p : Record) (marks : List ℕ) (none : sumOf marks ≡ 0) where
+  full-none : fullIn p marks ≡ fullIn p []
+  full-none = rw none refl
+
+  possible-none : possibleIn b p marks ≡ possibleIn b p []
+  unfolding possibleIn
+  possible-none = rw (none, rest-none (room b p) marks none, rest-none (room b p) [] refl) refl
+
+  accepts-none : (last : Bool) (n : ℕ) → acceptsIn last n b p marks ≡ acceptsIn last n b p []
+  accepts-none true n = rw none refl
+  accepts-none false n = rw (rest-none (room b p) marks none, rest-none (room b p) [] refl) refl
+
+takes-none : (part : Part) (limit : ℕ) (core : Core) (p q : Record) (headerMarks bodyMarks : List ℕ) (s : Segment) → sumOf headerMarks ≡ 0 → sumOf bodyMarks ≡ 0 → takes part limit core p headerMarks q bodyMarks s ≡ takes part limit core p [] q [] s
+takes-none Header limit core p q headerMarks bodyMarks s h b =
+    let c : Core = coreAfter s core in
+    let x : Record = addPart (s .last) (s .number) (length (s .bytes)) p in
+    rw (full-none (boundsOf Header limit c) p headerMarks h, accepts-none (boundsOf Header limit c) x headerMarks h (s .last) (s .number), possible-none (boundsOf Body limit c) q bodyMarks b) refl
+takes-none Body limit core p q headerMarks bodyMarks s h b =
+    let x : Record = addPart (s .last) (s .number) (length (s .bytes)) q in
+    rw (full-none (boundsOf Body limit core) q bodyMarks b, accepts-none (boundsOf Body limit core) x bodyMarks b (s .last) (s .number), possible-none (boundsOf Header limit core) p headerMarks h) refl
+
+module _ (part : Part) (limit number : ℕ) (s : Segment) (lent : Lent) (none : sumOf (lent .marks) ≡ 0) where
+  fresh-fits : takesIn part limit s (partsOf (freshSlot number) lent) ≡ fitsAlone part limit s
+  unfolding takesIn fitsAlone partsOf freshSlot
+  fresh-fits = rw (fresh-core limit number lent none) (takes-none part limit Unseen noRecord noRecord (take headerNumbers (lent .marks)) (drop headerNumbers (lent .marks)) s (header-none limit number lent none) (body-none limit number lent none))
+
+  unmarked : (part : Part) → getD (memoryOf part (partsOf (freshSlot number) lent) .marks) (s .number) 0 ≡ 0
+  unfolding partsOf freshSlot
+  unmarked Header = sum-none (take headerNumbers (lent .marks)) .0 (header-none limit number lent none) (s .number)
+  unmarked Body = sum-none (drop headerNumbers (lent .marks)) .0 (body-none limit number lent none) (s .number)
+
+  pub fresh-taken : takeInto part limit s (freshSlot number) lent ≡ ifNew (fitsAlone part limit s) part limit s (freshSlot number) lent
+  unfolding takeInto
+  fresh-taken = rw (unmarked part, fresh-fits) refl

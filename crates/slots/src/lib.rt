@@ -13,6 +13,7 @@ use gathering::Stage;
 use slot::Took;
 ghost use mathlib.Core.Path.{_≡_};
 ghost use Prim.Native.Nat.{_+_, _*_, _≤_, _<_};
+ghost use lib.Dec.{leb};
 ghost use lib.ListN.{length, take, drop};
 ghost use mathlib.Core.List.{[]};
 ghost use Rattle.cut.specs.Decision.{addPart};
@@ -23,6 +24,7 @@ ghost use Rattle.slots.specs.Stores.{noRecord, freeSlot, lentAt};
 ghost use Rattle.slots.specs.Find.{isFree, holds, findIn, freeIn, findFrom};
 ghost use Rattle.slots.specs.Alone.{coreAlone, fitsAlone};
 ghost use Rattle.slots.specs.State.{withinLimits, unlike, distinct, rightBy, soundSlots};
+ghost use Rattle.slots.specs.Show.{startOf, shownOf};
 ghost use Rattle.slots.specs.Take.{placedAt, takeAt, takeNew, dropAt, Inside, OfferedAt, OpenAt};
 
 pub const SLOTS_MOST: usize = 16;
@@ -412,4 +414,51 @@ pub fn drop_at(i: usize, slots: [Slot; 16], marks: &mut [u8]) -> [Slot; 16]
     let mut all = slots;
     all[i] = slot;
     all
+}
+
+// Whether share i starts inside a store of that length, by division: the product could wrap.
+fn starts_inside(width: usize, i: usize, length: usize) -> bool
+    ensures { λ r. ⌜ r ≡ leb (i * width) length ⌝ }
+{
+    if width == 0 {
+        return true;
+    }
+    i <= length / width
+}
+
+// The first bytes of share i of a store, or nothing where the store ends before them.
+fn start_of(store: &[u8], width: usize, i: usize, count: usize) -> &[u8]
+    ensures { λ r. ⌜ now r ≡ startOf width i count (now (store .entry)) ⌝ }
+{
+    if !starts_inside(width, i, store.len()) {
+        return &store[..0];
+    }
+    let start = i * width;
+    if store.len() - start < count {
+        return &store[..0];
+    }
+    let end = start + count;
+    &store[start..end]
+}
+
+// A finished object's header or body, as the part of the one of the two stores that has it; nothing where the slot is not
+// finished or its share does not hold so many bytes.
+pub fn shown<'a>(
+    part: Part,
+    i: usize,
+    limit: usize,
+    slot: Slot,
+    header: &'a [u8],
+    body: &'a [u8],
+) -> &'a [u8]
+    ensures { λ r. ⌜ now r ≡ shownOf part i limit slot (now (header .entry)) (now (body .entry)) ⌝ }
+{
+    let stage = slot.stage;
+    let Stage::Finished(header_length, body_length) = stage else {
+        return &header[..0];
+    };
+    match part {
+        Part::Header => start_of(header, cut::HEADER_MOST, i, header_length),
+        Part::Body => start_of(body, limit, i, body_length),
+    }
 }
