@@ -1,12 +1,13 @@
 -- What each call of the collector answers, and the collector, the counts and everything lent afterwards.
 use mathlib.Core.Bool.{Bool, true, false}
-use mathlib.Core.List.{List}
+use mathlib.Core.List.{List, []}
 use Prim.Native.Nat.{ℕ}
 use lib.ListN.{length, replicate}
 use Rattle.octets.specs.Octets.{zeros}
 use Rattle.answer.specs.declared.Answer.{Answer}
 use Rattle.answer.specs.declared.Answer.the-variants as Answer
 use Rattle.answer.specs.declared.Heard.{Heard}
+use Rattle.answer.specs.declared.Part.{Part}
 use Rattle.answer.specs.declared.Refusal.{Refusal}
 use Rattle.answer.specs.declared.Refusal.the-variants as Refusal
 use Rattle.counts.specs.declared.Counts.{Counts}
@@ -30,6 +31,7 @@ use Rattle.slots.specs.Stores.{slotsMost, Stores, freeSlot, slotAt}
 use Rattle.slots.specs.Find.{findIn, freeIn}
 use Rattle.slots.specs.Alone.{fitsAlone}
 use Rattle.slots.specs.State.{withinLimits, soundSlots}
+use Rattle.slots.specs.Show.{shownOf}
 use Rattle.slots.specs.Take.{TakenAt, takeAt, takeNew, dropAt}
 use Rattle.collector.specs.declared.Collector.{Collector}
 use Rattle.collector.specs.declared.Located.{Located}
@@ -142,3 +144,11 @@ locatedIn (At i) c = locatedAs (slotAt i (c .slots) .stage) i
 -- STATE, NOTHELD, UNFINISHED; a question is not handed the counts
 unfoldable pub locate : ℕ → Collector → Stores → Located
 locate number c stores = pick (soundSlots (c .limit) (c .count) (c .slots) stores) (locatedIn (findIn number (c .count) (c .slots)) c) (Located.Refused Answer.State)
+
+abbrev pub shownAt : Located → Part → Collector → Stores → List ℕ
+shownAt (Located.Refused why) part c stores = []
+shownAt (Located.At i) part c stores = shownOf part i (c .limit) (slotAt i (c .slots)) (stores .header) (stores .body)
+
+-- its header or body, as the part of the store that has it; nothing where it can't be shown
+unfoldable pub show : ℕ → Part → Collector → Stores → List ℕ
+show number part c stores = shownAt (locate number c stores) part c stores

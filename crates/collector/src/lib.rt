@@ -4,6 +4,7 @@
 // it leaves is one definition (specs/Calls.antt).
 use answer::Answer;
 use answer::Heard;
+use answer::Part;
 use answer::Refusal;
 use counts::Counts;
 use gathering::Outcome;
@@ -17,7 +18,7 @@ ghost use mathlib.Core.Bool.{true};
 ghost use Rattle.counts.specs.Counted.{counted};
 ghost use Rattle.slots.specs.Find.{findIn};
 ghost use Rattle.slots.specs.State.{soundSlots};
-ghost use Rattle.collector.specs.Calls.{Answered, soundState, heardAs, answerAs, refusalOf, intoHeld, takeGroup, dropNumber, openedBy, locatedAs, locate};
+ghost use Rattle.collector.specs.Calls.{Answered, soundState, heardAs, answerAs, refusalOf, intoHeld, takeGroup, dropNumber, openedBy, locatedAs, locate, show};
 
 // A collector: the limit on a body, how many slots it has, and the slots.
 pub struct Collector {
@@ -165,6 +166,29 @@ impl Collector {
         let slot = slots[i];
         let stage = slot.stage;
         located_as(stage, i)
+    }
+
+    // A finished object's header or body, as the part of the store that has it, without copying;
+    // nothing where `locate` says why.
+    pub fn show<'a>(
+        self,
+        number: u16,
+        part: Part,
+        header: &'a [u8],
+        body: &'a [u8],
+        marks: &[u8],
+    ) -> &'a [u8]
+        ensures { λ r. ⌜ now r ≡ show number part self (record { header = now (header .entry); body = now (body .entry); marks = now (marks .entry) }) ⌝ }
+    {
+        let Located::At(i) = self.locate(number, header, body, marks) else {
+            return &header[..0];
+        };
+        if 16 <= i {
+            return &header[..0];
+        }
+        let slots = self.slots;
+        let slot = slots[i];
+        slots::shown(part, i, self.limit, slot, header, body)
     }
 
     // The answer is counted, and nothing else changes.
