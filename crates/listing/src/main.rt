@@ -8,7 +8,11 @@ use libc::STDIN_FILENO;
 use libc::STDOUT_FILENO;
 use lines::Line;
 ghost use mathlib.Core.Path.{_≡_};
+ghost use Prim.Native.Nat.{_+_};
+ghost use lib.Dec.{ltb};
 ghost use lib.ListN.{take};
+ghost use Rattle.cut.specs.Lists.{pick};
+ghost use Rattle.collector.specs.Calls.{Answered, takeGroup, dropNumber};
 
 // The collector, and the counts that are lent to it.
 struct Held {
@@ -34,12 +38,14 @@ struct Went {
     more: bool,
 }
 
-fn next(number: u64) -> u64 {
+// The number of the next line, as far as numbers go.
+fn next(number: u64) -> u64
+    ensures { λ r. ⌜ r ≡ pick (ltb number 18446744073709551615) (number + 1) number ⌝ }
+{
     if number < 18446744073709551615 {
-        number + 1
-    } else {
-        number
+        return number + 1;
     }
+    number
 }
 
 // The front of a memory, as far as it is there.
@@ -52,13 +58,9 @@ fn front(memory: &[u8], count: usize) -> &[u8]
     &memory[..count]
 }
 
-fn taken(
-    held: Held,
-    group: &[u8],
-    header: &mut [u8],
-    body: &mut [u8],
-    marks: &mut [u8],
-) -> Answered {
+fn taken(held: Held, group: &[u8], header: &mut [u8], body: &mut [u8], marks: &mut [u8]) -> Answered
+    ensures { λ r. ⌜ record { answer = r .answer; collector = r .held .collector; counts = r .held .counts; stores = record { header = now (header .exit); body = now (body .exit); marks = now (marks .exit) } } ≡ takeGroup (now (group .entry)) (held .collector) (held .counts) (record { header = now (header .entry); body = now (body .entry); marks = now (marks .entry) }) ⌝ }
+{
     let before = held.collector;
     let counts = held.counts;
     let done = before.taken(counts, group, header, body, marks);
@@ -71,7 +73,9 @@ fn taken(
     }
 }
 
-fn dropped(held: Held, number: u16, header: &[u8], body: &[u8], marks: &mut [u8]) -> Answered {
+fn dropped(held: Held, number: u16, header: &[u8], body: &[u8], marks: &mut [u8]) -> Answered
+    ensures { λ r. ⌜ record { answer = r .answer; collector = r .held .collector; counts = r .held .counts; stores = record { header = now (header .entry); body = now (body .entry); marks = now (marks .exit) } } ≡ dropNumber number (held .collector) (held .counts) (record { header = now (header .entry); body = now (body .entry); marks = now (marks .entry) }) ⌝ }
+{
     let before = held.collector;
     let counts = held.counts;
     let done = before.dropped(counts, number, header, body, marks);
