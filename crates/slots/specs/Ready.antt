@@ -5,14 +5,13 @@ use mathlib.Core.List.{List, [], _∷_}
 use Prim.Native.Nat.{ℕ, zero, suc, _+_, _*_, _≤_, _<_}
 use native.Mathlib.Nat.{add-zero, zero-add, suc-mul, mul-le-mul-right}
 use native.Mathlib.Omega.{arith}
-use lib.Dec.{eqb, leb}
+use lib.Dec.{eqb}
 use lib.ListN.{length, take, getD, length-take}
 use lib.Seq.{getD-take}
-use borrow.Author.Tests.{eqb-true, leb-true}
+use borrow.Author.Tests.{eqb-true}
 use Rattle.octets.specs.Octets.{sumOf, largestOf}
-use Rattle.octets.specs.Over.{part-length}
 use Rattle.octets.specs.Marks.{sum-none, largest-each}
-use Rattle.cut.specs.Requirement.{headerMost, limitLeast, limitMost}
+use Rattle.cut.specs.Requirement.{headerMost}
 use Rattle.cut.specs.Lists.{pick}
 use Rattle.cut.specs.LawsDecision.{both-true, all-true}
 use Rattle.gathering.specs.declared.Slot.{Slot}
@@ -20,43 +19,22 @@ use Rattle.gathering.specs.Take.{Lent}
 use Rattle.gathering.specs.Sound.{soundSlot}
 use Rattle.gathering.specs.Inside.{sound-slot}
 use Rattle.slots.specs.declared.Found.the-variants.{At}
-use Rattle.slots.specs.Stores.{slotsMost, slotMarks, Stores, lentAt, freeSlot, slotAt}
+use Rattle.slots.specs.Stores.{slotMarks, Stores, lentAt, freeSlot, slotAt}
 use Rattle.slots.specs.Find.{freeStage, isFree, holds, firstFrom, findIn, freeIn}
 use Rattle.slots.specs.State.{withinLimits, distinct, rightSlot, rightFrom, soundSlots}
+use Rattle.slots.specs.StateTests.{Limits, limits-hold}
 use Rattle.slots.specs.Take.{Inside, OfferedAt, OpenAt}
+use Rattle.slots.specs.Shares.{lent-wide}
 
 -- ---- what the test of a state says
-
-pub record Within (limit count : ℕ) (stores : Stores) : Type 0 where
-  pub header : length (stores .header) ≡ count * headerMost
-  pub body : length (stores .body) ≡ count * limit
-  pub marks : length (stores .marks) ≡ count * slotMarks
-  pub least : limitLeast ≤ limit
-  pub most : limit ≤ limitMost
-  pub some : 1 ≤ count
-  pub slots : count ≤ slotsMost
-
-abbrev limitTests : ℕ → ℕ → ℕ → ℕ → ℕ → List Bool
-limitTests limit count header body marks =
-    eqb header (count * headerMost) ∷ eqb body (count * limit) ∷ eqb marks (count * slotMarks) ∷ leb limitLeast limit ∷ leb limit limitMost ∷ leb 1 count ∷ leb count slotsMost ∷ []
 
 abbrev soundTests : ℕ → ℕ → List Slot → Stores → List Bool
 soundTests limit count slots stores =
     withinLimits limit count (length (stores .header)) (length (stores .body)) (length (stores .marks)) ∷ distinct (take count slots) ∷ rightFrom limit 0 (take count slots) stores ∷ []
 
-pub sound-within : (limit count : ℕ) (slots : List Slot) (stores : Stores) → soundSlots limit count slots stores ≡ true → Within limit count stores
-unfolding soundSlots withinLimits
-sound-within limit count slots stores e =
-    let t = all-true (limitTests limit count (length (stores .header)) (length (stores .body)) (length (stores .marks))) (all-true (soundTests limit count slots stores) e .0) in
-    record {
-      header = eqb-true _ _ (t .0);
-      body = eqb-true _ _ (t .1 .0);
-      marks = eqb-true _ _ (t .1 .1 .0);
-      least = leb-true _ _ (t .1 .1 .1 .0);
-      most = leb-true _ _ (t .1 .1 .1 .1 .0);
-      some = leb-true _ _ (t .1 .1 .1 .1 .1 .0);
-      slots = leb-true _ _ (t .1 .1 .1 .1 .1 .1 .0);
-    }
+pub sound-limits : (limit count : ℕ) (slots : List Slot) (stores : Stores) → soundSlots limit count slots stores ≡ true → Limits limit count (length (stores .header)) (length (stores .body)) (length (stores .marks))
+unfolding soundSlots
+sound-limits limit count slots stores e = limits-hold limit count (length (stores .header)) (length (stores .body)) (length (stores .marks)) (all-true (soundTests limit count slots stores) e .0)
 
 -- each slot is right
 right-at : (limit first i : ℕ) (slots : List Slot) (stores : Stores) → rightFrom limit first slots stores ≡ true → i < length slots → rightSlot limit (getD slots i freeSlot) (lentAt limit (first + i) stores) ≡ true
@@ -109,8 +87,8 @@ free-unmarked limit slot lent h r =
     zero-of x h = omega arith
 
 module _ (limit count : ℕ) (slots : List Slot) (stores : Stores) (sound : soundSlots limit count slots stores ≡ true) where
-  w : Within limit count stores
-  w = sound-within limit count slots stores sound
+  w : Limits limit count (length (stores .header)) (length (stores .body)) (length (stores .marks))
+  w = sound-limits limit count slots stores sound
 
   sound-inside : (i : ℕ) → i < count → Inside limit i stores
   sound-inside i h = record {
@@ -133,19 +111,15 @@ module _ (limit count : ℕ) (slots : List Slot) (stores : Stores) (sound : soun
       let right = right-at limit 0 i (take count slots) stores (all-true (soundTests limit count slots stores) sound .1 .1 .0) h in
       (short, rw at at passes, rw (at, zero-add i) at right)
 
-  shares : (i : ℕ) → Inside limit i stores → (length (lentAt limit i stores .header) ≡ headerMost) × (length (lentAt limit i stores .body) ≡ limit) × (length (lentAt limit i stores .marks) ≡ 1088)
-  unfolding lentAt
-  shares i h = (part-length (stores .header) (i * headerMost) headerMost (h .header), part-length (stores .body) (i * limit) limit (h .body), part-length (stores .marks) (i * slotMarks) slotMarks (h .marks))
-
   -- a slot that holds a number can be offered a segment
   pub sound-offered : (number i : ℕ) → findIn number count slots ≡ At i → OfferedAt limit i slots stores
   unfolding findIn
   sound-offered number i e =
       let f = found-right (holds number) i e in
       let within = sound-inside i (f .0) in
-      let long = shares i within in
+      let wide = lent-wide limit i stores within in
       let passed = sound-slot limit (slotAt i slots) (lentAt limit i stores) (held-sound limit number (slotAt i slots) (lentAt limit i stores) (f .1) (f .2)) in
-      record { inside = within; offered = record { header = long .0; body = long .1; marks = long .2; bits = passed .0; sound = passed .2 } }
+      record { inside = within; offered = record { header = wide .header; body = wide .body; marks = wide .marks; bits = passed .0; sound = passed .2 } }
 
   -- a free slot can be taken
   pub sound-open : (i : ℕ) → freeIn count slots ≡ At i → OpenAt limit i stores
