@@ -3,6 +3,7 @@
 //! with a status that is not zero.
 
 mod decision;
+mod listings;
 mod proved;
 mod readings;
 
@@ -11,9 +12,10 @@ use std::process::ExitCode;
 fn main() -> ExitCode {
     let asked = std::env::args().nth(1).unwrap_or_default();
     let outcome = match asked.as_str() {
+        "listings" => listings::run(),
         "readings" => readings::run(),
         "decision" => decision::run(),
-        _ => Err("say which comparison: readings or decision".to_string()),
+        _ => Err("say which comparison: readings, decision or listings".to_string()),
     };
     match outcome {
         Ok(said) => {

@@ -37,7 +37,7 @@ extern "C" {
         field: u8,
     ) -> usize;
     fn compared_body_size(bytes: *const u8, length: usize) -> u32;
-    fn compared_header_size(bytes: *const u8, length: usize) -> u32;
+    fn compared_header_size(bytes: *const u8, length: usize) -> u16;
 }
 
 pub fn check_word(bytes: &[u8]) -> u16 {

@@ -185,7 +185,7 @@ pub extern "C" fn compared_body_size(bytes: &[u8]) -> u32
 }
 
 #[no_mangle]
-pub extern "C" fn compared_header_size(bytes: &[u8]) -> u32
+pub extern "C" fn compared_header_size(bytes: &[u8]) -> u16
     ensures { λ r. ⌜ r ≡ headerSize (now (bytes .entry)) ⌝ }
 {
     core_fields::header_size(bytes)

@@ -1,0 +1,67 @@
+-- `collector::Collector::locate` meets its contract: STATE, NOTHELD, then the stage.
+-- Assumes nothing.
+use Rattle.collector.specs.Calls.{locate}
+use Rattle.slots.specs.Ready.{found-inside}
+use Rattle.slots.specs.Stores.{freeSlot, slotAt}
+use borrow.Author.Tests.{not-true, not-false}
+use native.Mathlib.Omega.{arith}
+use mathlib.Core.Path.{sym, _∙_}
+use borrow.Author.Needs.{needs}
+use Rattle.collector.proofs.Collector.locate.Statement.{statement}
+use Rattle.collector.proofs.Collector.locate.Tie as tie
+
+sound-requires : tie.Need-sound-requires
+sound-requires c κs = search needs
+
+returns : tie.Need-returns
+unfolding locate
+returns c = rw (sym (c .before .sound .ensures) ∙ not-true _ (c .if1 .taken))
+
+find-requires : tie.Need-find-requires
+find-requires c κs = search needs
+
+enum-known-i : tie.Need-enum-known-i
+enum-known-i c = search needs
+
+enum-told : tie.Need-enum-told
+enum-told c = search needs
+
+returns-2 : tie.Need-returns-2
+unfolding locate
+returns-2 c = rw (sym (c .before .before .before .before .sound .ensures) ∙ not-false _ (c .before .before .before .if1 .left), sym (c .before .before .find .ensures) ∙ c .enum-told .given .1)
+
+returns-3 : tie.Need-returns-3
+returns-3 c =
+    let a = c .before .before .before .before .before .before .before .before .before .before .before .args in
+    let within = found-inside (a .self .limit) (a .self .count) (a .self .slots) (record { header = c .before .before .before .before .before .before .before .before .before .before .before .args .header .now; body = c .before .before .before .before .before .before .before .before .before .before .before .args .body .now; marks = c .before .before .before .before .before .before .before .before .before .before .before .args .marks .now }) (sym (c .before .before .before .before .before .before .sound .ensures) ∙ not-false _ (c .before .before .before .before .before .if1 .left)) (a .number) _ (sym (c .before .before .before .before .find .ensures) ∙ c .before .before .i .given .1) in
+    absurd (omega (arith, within .slot))
+
+mul-slot : tie.Need-mul-slot
+mul-slot c = search needs
+
+array-copy-out-slot : tie.Need-array-copy-out-slot
+array-copy-out-slot c = search needs
+
+located-as-requires : tie.Need-located-as-requires
+located-as-requires c κs = search needs
+
+returns-4 : tie.Need-returns-4
+unfolding locate slotAt freeSlot
+returns-4 c =
+    rw (sym (c .before .before .before .before .before .before .before .before .sound .ensures) ∙ not-false _ (c .before .before .before .before .before .before .before .if1 .left), sym (c .before .before .before .before .before .before .find .ensures) ∙ c .before .before .before .before .i .given .1) (c .located-as .ensures)
+
+pub locate-spec : {M : Type 1} → statement M
+locate-spec =
+    tie.close
+    (tie.spec
+    sound-requires
+    returns
+    find-requires
+    enum-known-i
+    enum-told
+    returns-2
+    returns-3
+    mul-slot
+    array-copy-out-slot
+    located-as-requires
+    returns-4)

@@ -1,0 +1,318 @@
+// The collector (document 01): several objects gathered at once, by value, over stores, marks and
+// counts that the caller lends. Its limits are the type's constants, and opening is a function of
+// the type. Every call checks all that it is given before anything else; what it answers and all that
+// it leaves is one definition (specs/Calls.antt).
+use answer::Answer;
+use answer::Heard;
+use answer::Refusal;
+use counts::Counts;
+use gathering::Outcome;
+use gathering::Slot;
+use gathering::Stage;
+use group::Reading;
+use group::Segment;
+use slots::Found;
+ghost use mathlib.Core.Path.{_≡_};
+ghost use mathlib.Core.Bool.{true};
+ghost use Rattle.counts.specs.Counted.{counted};
+ghost use Rattle.slots.specs.Find.{findIn};
+ghost use Rattle.slots.specs.State.{soundSlots};
+ghost use Rattle.collector.specs.Calls.{Answered, soundState, heardAs, answerAs, refusalOf, intoHeld, takeGroup, dropNumber, openedBy, locatedAs, locate};
+
+// A collector: the limit on a body, how many slots it has, and the slots.
+pub struct Collector {
+    pub limit: usize,
+    pub count: usize,
+    pub slots: [Slot; 16],
+}
+
+// What an opening hands back. A refused one, LIMITS, hands back a collector that every call answers
+// with STATE, and the counts as they were.
+pub struct Opened {
+    pub opened: bool,
+    pub collector: Collector,
+    pub counts: Counts,
+}
+
+// Where a finished object is, or why it can't be shown.
+pub enum Located {
+    At(usize),
+    Refused(Answer),
+}
+
+fn located_as(stage: Stage, i: usize) -> Located
+    ensures { λ r. ⌜ r ≡ locatedAs stage i ⌝ }
+{
+    match stage {
+        Stage::Free => Located::Refused(Answer::NotHeld),
+        Stage::Gathering => Located::Refused(Answer::Unfinished),
+        Stage::Finished(_, _) => Located::At(i),
+    }
+}
+
+// What a call answers, and the collector and the counts afterwards.
+pub struct Answered {
+    pub answer: Answer,
+    pub collector: Collector,
+    pub counts: Counts,
+}
+
+fn answer_as(outcome: Outcome, heard: Heard) -> Answer
+    ensures { λ r. ⌜ r ≡ answerAs outcome heard ⌝ }
+{
+    match outcome {
+        Outcome::Stored => Answer::Stored(heard),
+        Outcome::Complete => Answer::Complete(heard),
+        Outcome::Repeat => Answer::Repeat(heard),
+        Outcome::Conflict => Answer::Conflict(heard),
+    }
+}
+
+fn heard_as(carried: Segment) -> Heard
+    ensures { λ r. ⌜ r ≡ heardAs carried ⌝ }
+{
+    let part = carried.part;
+    Heard {
+        number: carried.number,
+        part,
+        segment: carried.segment,
+    }
+}
+
+fn refusal_of(reading: Reading) -> Refusal
+    ensures { λ r. ⌜ r ≡ refusalOf reading ⌝ }
+{
+    match reading {
+        Reading::Refused(refusal) => refusal,
+        Reading::Read(_) => Refusal::Length,
+    }
+}
+
+impl Collector {
+    pub const HEADER_MOST: usize = 1024;
+
+    pub const LIMIT_LEAST: usize = 1024;
+
+    pub const LIMIT_MOST: usize = 1048576;
+
+    pub const SLOTS_MOST: usize = 16;
+
+    pub const SLOT_MARKS: usize = 1088;
+
+    // Opens a collector over lent memory, by value: all marks and counts are 0. Outside the bounds,
+    // or with a wrong lent length, nothing changes.
+    pub fn opened(
+        limit: usize,
+        count: usize,
+        counts: Counts,
+        header: &[u8],
+        body: &[u8],
+        marks: &mut [u8],
+    ) -> Opened
+        ensures { λ r. ⌜ record { opened = r .opened; collector = r .collector; counts = r .counts; marks = now (marks .exit) } ≡ openedBy limit count counts (record { header = now (header .entry); body = now (body .entry); marks = now (marks .entry) }) ⌝ }
+    {
+        let free = slots::free_slot();
+        if !slots::within_limits(limit, count, header.len(), body.len(), marks.len()) {
+            let none = Collector {
+                limit: 0,
+                count: 0,
+                slots: [free; 16],
+            };
+            return Opened {
+                opened: false,
+                collector: none,
+                counts,
+            };
+        }
+        octets::clear(marks);
+        let fresh = Collector {
+            limit,
+            count,
+            slots: [free; 16],
+        };
+        Opened {
+            opened: true,
+            collector: fresh,
+            counts: counts::none_yet(),
+        }
+    }
+
+    // Whether the state is not damaged.
+    pub fn is_sound(self, counts: Counts, header: &[u8], body: &[u8], marks: &[u8]) -> bool
+        ensures { λ r. ⌜ r ≡ soundState self counts (record { header = now (header .entry); body = now (body .entry); marks = now (marks .entry) }) ⌝ }
+    {
+        let slots = self.slots;
+        if !slots::sound(self.limit, self.count, slots, header, body, marks) {
+            return false;
+        }
+        counts::are_within(counts)
+    }
+
+    // Where the finished object of a number is.
+    pub fn locate(self, number: u16, header: &[u8], body: &[u8], marks: &[u8]) -> Located
+        ensures { λ r. ⌜ r ≡ locate number self (record { header = now (header .entry); body = now (body .entry); marks = now (marks .entry) }) ⌝ }
+    {
+        let slots = self.slots;
+        if !slots::sound(self.limit, self.count, slots, header, body, marks) {
+            return Located::Refused(Answer::State);
+        }
+        let Found::At(i) = slots::find(number, self.count, slots) else {
+            return Located::Refused(Answer::NotHeld);
+        };
+        if 16 <= i {
+            return Located::Refused(Answer::NotHeld);
+        }
+        let slot = slots[i];
+        let stage = slot.stage;
+        located_as(stage, i)
+    }
+
+    // The answer is counted, and nothing else changes.
+    fn answered(self, counts: Counts, answer: Answer) -> Answered
+        ensures { λ r. ⌜ (r .answer ≡ answer) × (r .collector ≡ self) × (r .counts ≡ counted answer counts) ⌝ }
+    {
+        Answered {
+            answer,
+            collector: self,
+            counts: counts::counted(answer, counts),
+        }
+    }
+
+    // A segment whose number holds no slot.
+    fn take_first(
+        self,
+        counts: Counts,
+        carried: Segment,
+        bytes: &[u8],
+        header: &mut [u8],
+        body: &mut [u8],
+        marks: &mut [u8],
+    ) -> Answered
+        requires { ⌜ soundSlots (self .limit) (self .count) (self .slots) (record { header = now header; body = now body; marks = now marks }) ≡ true ⌝ }
+        ensures { λ r. ⌜ record { answer = r .answer; collector = r .collector; counts = r .counts; stores = record { header = now (header .exit); body = now (body .exit); marks = now (marks .exit) } } ≡ intoHeld Found.Nothing carried (record { number = carried .segment; last = carried .last; bytes = now (bytes .entry) }) self counts (record { header = now (header .entry); body = now (body .entry); marks = now (marks .entry) }) ⌝ }
+    {
+        let heard = heard_as(carried);
+        let part = carried.part;
+        let slots = self.slots;
+        let number = carried.segment as usize;
+        if !slots::fits_alone(part, self.limit, carried.last, number, bytes) {
+            return self.answered(counts, Answer::Conflict(heard));
+        }
+        let Found::At(i) = slots::free(self.count, slots) else {
+            return self.answered(counts, Answer::Full(heard));
+        };
+        let took = slots::take_new(
+            carried.number,
+            part,
+            self.limit,
+            i,
+            carried.last,
+            number,
+            bytes,
+            slots,
+            header,
+            body,
+            marks,
+        );
+        let all = took.slots;
+        let outcome = took.outcome;
+        let next = Collector {
+            limit: self.limit,
+            count: self.count,
+            slots: all,
+        };
+        next.answered(counts, answer_as(outcome, heard))
+    }
+
+    // A segment that a group carries.
+    fn take_carried(
+        self,
+        counts: Counts,
+        carried: Segment,
+        bytes: &[u8],
+        header: &mut [u8],
+        body: &mut [u8],
+        marks: &mut [u8],
+    ) -> Answered
+        requires { ⌜ soundSlots (self .limit) (self .count) (self .slots) (record { header = now header; body = now body; marks = now marks }) ≡ true ⌝ }
+        ensures { λ r. ⌜ record { answer = r .answer; collector = r .collector; counts = r .counts; stores = record { header = now (header .exit); body = now (body .exit); marks = now (marks .exit) } } ≡ intoHeld (findIn (carried .number) (self .count) (self .slots)) carried (record { number = carried .segment; last = carried .last; bytes = now (bytes .entry) }) self counts (record { header = now (header .entry); body = now (body .entry); marks = now (marks .entry) }) ⌝ }
+    {
+        let slots = self.slots;
+        let Found::At(i) = slots::find(carried.number, self.count, slots) else {
+            return self.take_first(counts, carried, bytes, header, body, marks);
+        };
+        let heard = heard_as(carried);
+        let part = carried.part;
+        let number = carried.segment as usize;
+        let took = slots::take_at(
+            part,
+            self.limit,
+            i,
+            carried.last,
+            number,
+            bytes,
+            slots,
+            header,
+            body,
+            marks,
+        );
+        let all = took.slots;
+        let outcome = took.outcome;
+        let next = Collector {
+            limit: self.limit,
+            count: self.count,
+            slots: all,
+        };
+        next.answered(counts, answer_as(outcome, heard))
+    }
+
+    // Takes a group, by value.
+    pub fn taken(
+        self,
+        counts: Counts,
+        group: &[u8],
+        header: &mut [u8],
+        body: &mut [u8],
+        marks: &mut [u8],
+    ) -> Answered
+        ensures { λ r. ⌜ record { answer = r .answer; collector = r .collector; counts = r .counts; stores = record { header = now (header .exit); body = now (body .exit); marks = now (marks .exit) } } ≡ takeGroup (now (group .entry)) self counts (record { header = now (header .entry); body = now (body .entry); marks = now (marks .entry) }) ⌝ }
+    {
+        if !self.is_sound(counts, header, body, marks) {
+            return self.answered(counts, Answer::State);
+        }
+        let reading = group::read(group);
+        let Reading::Read(carried) = reading else {
+            return self.answered(counts, Answer::Refused(refusal_of(reading)));
+        };
+        let start = carried.start;
+        let end = start + carried.length;
+        self.take_carried(counts, carried, &group[start..end], header, body, marks)
+    }
+
+    // Drops a number, by value.
+    pub fn dropped(
+        self,
+        counts: Counts,
+        number: u16,
+        header: &[u8],
+        body: &[u8],
+        marks: &mut [u8],
+    ) -> Answered
+        ensures { λ r. ⌜ record { answer = r .answer; collector = r .collector; counts = r .counts; stores = record { header = now (header .entry); body = now (body .entry); marks = now (marks .exit) } } ≡ dropNumber number self counts (record { header = now (header .entry); body = now (body .entry); marks = now (marks .entry) }) ⌝ }
+    {
+        if !self.is_sound(counts, header, body, marks) {
+            return self.answered(counts, Answer::State);
+        }
+        let slots = self.slots;
+        let Found::At(i) = slots::find(number, self.count, slots) else {
+            return self.answered(counts, Answer::NotHeld);
+        };
+        let all = slots::drop_at(i, slots, marks);
+        let next = Collector {
+            limit: self.limit,
+            count: self.count,
+            slots: all,
+        };
+        next.answered(counts, Answer::Dropped(number))
+    }
+}

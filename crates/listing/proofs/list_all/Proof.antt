@@ -1,0 +1,47 @@
+-- `listing::list_all` is safe and ends: the turns count down.
+-- Assumes nothing.
+use native.Mathlib.Omega.{arith}
+use borrow.Author.Needs.{needs}
+use Rattle.listing.proofs.list_all.Statement.{statement}
+use Rattle.listing.proofs.list_all.Tie as tie
+
+abbrev Inv-loop : tie.InvT-loop
+Inv-loop line₀ group₀ header₀ body₀ marks₀ now₀ turns₀ line group header body marks now turns = Unit {0}
+
+abbrev μ-loop : tie.MeasureT-loop
+μ-loop line₀ group₀ header₀ body₀ marks₀ now₀ turns₀ line group header body marks now turns = turns
+
+loop-holds : tie.Need-loop-holds Inv-loop μ-loop
+loop-holds c = tt
+
+list-some-requires : tie.Need-list-some-requires Inv-loop μ-loop
+list-some-requires c κs = search needs
+
+returns : tie.Need-returns Inv-loop μ-loop
+returns c = search needs
+
+sub-turns : tie.Need-sub-turns Inv-loop μ-loop
+sub-turns c = omega arith
+
+loop-less : tie.Need-loop-less Inv-loop μ-loop
+loop-less c = omega arith
+
+loop-again : tie.Need-loop-again Inv-loop μ-loop
+loop-again c = tt
+
+returns-2 : tie.Need-returns-2 Inv-loop μ-loop
+returns-2 c = search needs
+
+pub list-all-spec : {M : Type 1} → statement M
+list-all-spec =
+    tie.close
+    (tie.spec
+    Inv-loop
+    μ-loop
+    loop-holds
+    list-some-requires
+    returns
+    sub-turns
+    loop-less
+    loop-again
+    returns-2)

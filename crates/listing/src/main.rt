@@ -1,0 +1,289 @@
+// The listing program (document 01, "The listing program"): groups and drops from standard input,
+// one a line, and what is answered to each on standard output. A line's answer is written before
+// more of the input is read. All memory is lent here, once, so none grows with the input.
+use answer::Answer;
+use collector::Collector;
+use counts::Counts;
+use libc::STDIN_FILENO;
+use libc::STDOUT_FILENO;
+use lines::Line;
+ghost use mathlib.Core.Path.{_≡_};
+ghost use lib.ListN.{take};
+
+// The collector, and the counts that are lent to it.
+struct Held {
+    collector: Collector,
+    counts: Counts,
+}
+
+struct Answered {
+    held: Held,
+    answer: Answer,
+}
+
+// What is carried from line to line: how many lines came, how many characters of the next one are
+// kept, and what is held.
+struct Listing {
+    lines: u64,
+    kept: usize,
+    held: Held,
+}
+
+struct Went {
+    listing: Listing,
+    more: bool,
+}
+
+fn next(number: u64) -> u64 {
+    if number < 18446744073709551615 {
+        number + 1
+    } else {
+        number
+    }
+}
+
+// The front of a memory, as far as it is there.
+fn front(memory: &[u8], count: usize) -> &[u8]
+    ensures { λ r. ⌜ now r ≡ take count (now (memory .entry)) ⌝ }
+{
+    if memory.len() < count {
+        return memory;
+    }
+    &memory[..count]
+}
+
+fn taken(
+    held: Held,
+    group: &[u8],
+    header: &mut [u8],
+    body: &mut [u8],
+    marks: &mut [u8],
+) -> Answered {
+    let before = held.collector;
+    let counts = held.counts;
+    let done = before.taken(counts, group, header, body, marks);
+    let answer = done.answer;
+    let collector = done.collector;
+    let counts = done.counts;
+    Answered {
+        held: Held { collector, counts },
+        answer,
+    }
+}
+
+fn dropped(held: Held, number: u16, header: &[u8], body: &[u8], marks: &mut [u8]) -> Answered {
+    let before = held.collector;
+    let counts = held.counts;
+    let done = before.dropped(counts, number, header, body, marks);
+    let answer = done.answer;
+    let collector = done.collector;
+    let counts = done.counts;
+    Answered {
+        held: Held { collector, counts },
+        answer,
+    }
+}
+
+// The first bytes of a line that was laid out.
+fn write(out: &[u8; 128], count: usize) {
+    io::write_all(STDOUT_FILENO, front(out, count));
+}
+
+fn say(line: u64, answer: Answer) {
+    let mut out = [0u8; 128];
+    let count = texts::write_answer(line, answer, &mut out);
+    write(&out, count);
+}
+
+fn say_malformed(line: u64) {
+    let mut out = [0u8; 128];
+    let count = texts::write_malformed(line, &mut out);
+    write(&out, count);
+}
+
+fn say_counts(held: Held) {
+    let mut out = [0u8; 128];
+    let counts = held.counts;
+    let count = texts::write_counts(
+        counts.taken,
+        counts.repeated,
+        counts.refused,
+        counts.completed,
+        counts.dropped,
+        &mut out,
+    );
+    write(&out, count);
+}
+
+// One line: what it asks for is done, and the answer written.
+fn list_line(
+    line: &[u8],
+    group: &mut [u8; 8217],
+    header: &mut [u8; 2048],
+    body: &mut [u8; 24576],
+    marks: &mut [u8; 2176],
+    number: u64,
+    held: Held,
+) -> Held {
+    match lines::read(line, group) {
+        Line::Group(count) => {
+            let answered = taken(held, front(group, count), header, body, marks);
+            let held = answered.held;
+            let answer = answered.answer;
+            say(number, answer);
+            held
+        }
+        Line::Drop(transport) => {
+            let answered = dropped(held, transport, header, body, marks);
+            let held = answered.held;
+            let answer = answered.answer;
+            say(number, answer);
+            held
+        }
+        Line::Malformed => {
+            say_malformed(number);
+            held
+        }
+    }
+}
+
+// A line that a newline or the input's end has ended.
+fn list_kept(
+    line: &[u8; 16433],
+    kept: usize,
+    group: &mut [u8; 8217],
+    header: &mut [u8; 2048],
+    body: &mut [u8; 24576],
+    marks: &mut [u8; 2176],
+    listing: Listing,
+) -> Listing {
+    let number = next(listing.lines);
+    let before = listing.held;
+    let held = list_line(
+        front(line, kept),
+        group,
+        header,
+        body,
+        marks,
+        number,
+        before,
+    );
+    Listing {
+        lines: number,
+        kept: 0,
+        held,
+    }
+}
+
+// The lines that a chunk of the input ends, and the start of the next one.
+fn list_chunk(
+    chunk: &[u8],
+    line: &mut [u8; 16433],
+    group: &mut [u8; 8217],
+    header: &mut [u8; 2048],
+    body: &mut [u8; 24576],
+    marks: &mut [u8; 2176],
+    listing: Listing,
+) -> Listing {
+    let mut now = listing;
+    let mut from = 0;
+    while from < chunk.len() {
+        let gathered = lines::gather(chunk, from, line, now.kept);
+        from = gathered.next;
+        if gathered.whole {
+            now = list_kept(line, gathered.kept, group, header, body, marks, now);
+        } else {
+            now.kept = gathered.kept;
+        }
+    }
+    now
+}
+
+// Reads once, and lists what came.
+fn list_some(
+    line: &mut [u8; 16433],
+    group: &mut [u8; 8217],
+    header: &mut [u8; 2048],
+    body: &mut [u8; 24576],
+    marks: &mut [u8; 2176],
+    listing: Listing,
+) -> Went {
+    let mut chunk = io::large_buffer();
+    let got = libc::read(STDIN_FILENO, &mut chunk);
+    if got <= 0 {
+        return Went {
+            listing,
+            more: false,
+        };
+    }
+    let count = io::count(got, &chunk);
+    Went {
+        listing: list_chunk(&chunk[..count], line, group, header, body, marks, listing),
+        more: true,
+    }
+}
+
+// Lists to the input's end. A proved loop has to end, and nothing says that the input does: the
+// turns count down from a number that no run uses up.
+fn list_all(
+    line: &mut [u8; 16433],
+    group: &mut [u8; 8217],
+    header: &mut [u8; 2048],
+    body: &mut [u8; 24576],
+    marks: &mut [u8; 2176],
+    listing: Listing,
+) -> Listing {
+    let mut now = listing;
+    let mut turns = u64::MAX;
+    while 0 < turns {
+        let went = list_some(line, group, header, body, marks, now);
+        now = went.listing;
+        if !went.more {
+            return now;
+        }
+        turns -= 1;
+    }
+    now
+}
+
+fn main() {
+    let mut line = [0u8; 16433];
+    let mut group = [0u8; 8217];
+    // Two slots, and a body of at most 12,288 bytes.
+    let mut header = [0u8; 2048];
+    let mut body = [0u8; 24576];
+    let mut marks = [0u8; 2176];
+    let opened = Collector::opened(12288, 2, counts::none_yet(), &header, &body, &mut marks);
+    let collector = opened.collector;
+    let counts = opened.counts;
+    let start = Listing {
+        lines: 0,
+        kept: 0,
+        held: Held { collector, counts },
+    };
+    let listed = list_all(
+        &mut line,
+        &mut group,
+        &mut header,
+        &mut body,
+        &mut marks,
+        start,
+    );
+    let kept = listed.kept;
+    if 0 < kept {
+        let ended = list_kept(
+            &line,
+            kept,
+            &mut group,
+            &mut header,
+            &mut body,
+            &mut marks,
+            listed,
+        );
+        let held = ended.held;
+        say_counts(held);
+    } else {
+        let held = listed.held;
+        say_counts(held);
+    }
+}
