@@ -17,6 +17,7 @@ pub mod StatePart
 pub mod StateParts
 pub mod StateExact
 pub mod StepSound
+pub mod StateAnswered
 pub mod StepBytes
 pub mod Shown
 pub mod Offers
