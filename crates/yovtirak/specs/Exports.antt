@@ -1,0 +1,87 @@
+-- What each exported call returns, and all that it leaves: the collector's own definitions, over the words that hold the
+-- state and the counts.
+use mathlib.Core.Bool.{Bool, true, false}
+use mathlib.Core.List.{List}
+use Prim.Native.Nat.{ℕ, _+_, _*_}
+use lib.Dec.{eqb}
+use lib.ListN.{length}
+use Rattle.answer.specs.Table.{numberOf, returnedWith}
+use Rattle.answer.specs.declared.Answer.{Answer}
+use Rattle.answer.specs.declared.Answer.the-variants.{Stored, Complete, Repeat, Dropped, Refused, Conflict, Full, NotHeld, Unfinished, Header, Duplicate, Core, NotFound, Limits, State}
+use Rattle.answer.specs.declared.Heard.{Heard}
+use Rattle.answer.specs.declared.Part.{Part}
+use Rattle.answer.specs.declared.Part.the-variants as Part
+use Rattle.answer.specs.declared.Returned.{Returned}
+use Rattle.answer.specs.declared.Returned.the-variants.{Segment, Number, Nothing}
+use Rattle.cut.specs.Lists.{pick}
+use Rattle.cut.specs.Decision.{both}
+use Rattle.slots.specs.Stores.{Stores}
+use Rattle.collector.specs.Calls.{Answered, takeGroup, dropNumber}
+use Rattle.words.specs.Layout.{wordsOf, countWords, collectorFrom, countsFrom, readable}
+
+-- ---- an answer in one word: its number, then the part, the transport number and the segment's number
+
+abbrev pub partWord : Part → ℕ
+partWord Part.Header = 0
+partWord Part.Body = 1
+
+abbrev pub heardWord : Heard → ℕ
+heardWord heard = partWord (heard .part) * 256 + heard .number * 65536 + heard .segment * 4294967296
+
+abbrev pub returnedWord : Returned → ℕ
+returnedWord (Segment heard) = heardWord heard
+returnedWord (Number number) = number * 65536
+returnedWord Nothing = 0
+
+abbrev pub answerWord : Answer → ℕ
+answerWord answer = numberOf answer + returnedWord (returnedWith answer)
+
+-- ---- the calls
+
+-- a call's result, and all that is lent to it afterwards
+pub record Called : Type 0 where
+  pub result : ℕ
+  pub state : List ℕ
+  pub counts : List ℕ
+  pub stores : Stores
+
+-- an object's record is another one now
+abbrev pub changes : Answer → Bool
+changes (Stored heard) = true
+changes (Complete heard) = true
+changes (Dropped number) = true
+changes (Repeat heard) = false
+changes (Refused refusal) = false
+changes (Conflict heard) = false
+changes (Full heard) = false
+changes NotHeld = false
+changes Unfinished = false
+changes Header = false
+changes Duplicate = false
+changes Core = false
+changes NotFound = false
+changes Limits = false
+changes State = false
+
+-- the words lent hold a state and five counts
+abbrev pub lentRight : List ℕ → List ℕ → Bool
+lentRight state counts = both (eqb (length counts) 5) (readable state)
+
+-- a call that is answered: the state's words stay where it did not change
+unfoldable pub left : Answered → List ℕ → Called
+left a state = record {
+  result = answerWord (a .answer);
+  state = pick (changes (a .answer)) (wordsOf (a .collector)) state;
+  counts = countWords (a .counts);
+  stores = a .stores;
+}
+
+-- words that hold no state: STATE, and nothing changes
+abbrev pub noState : List ℕ → List ℕ → Stores → Called
+noState state counts stores = record { result = numberOf State; state = state; counts = counts; stores = stores }
+
+unfoldable pub takeCall : List ℕ → List ℕ → List ℕ → Stores → Called
+takeCall group state counts stores = pick (lentRight state counts) (left (takeGroup group (collectorFrom state) (countsFrom counts) stores) state) (noState state counts stores)
+
+unfoldable pub dropCall : ℕ → List ℕ → List ℕ → Stores → Called
+dropCall number state counts stores = pick (lentRight state counts) (left (dropNumber number (collectorFrom state) (countsFrom counts) stores) state) (noState state counts stores)

@@ -1,0 +1,28 @@
+-- Laws of the calls' words, and of a call whose words hold no state.
+use mathlib.Core.Path.{_≡_, refl, sym, _∙_}
+use mathlib.Core.Bool.{Bool, true, false}
+use mathlib.Core.List.{List}
+use mathlib.Core.Logic.{_≢_}
+use Prim.Native.Nat.{ℕ, _≤_}
+use native.Mathlib.Decide.{ℕ-discrete}
+use native.Mathlib.Omega.{arith}
+use borrow.Author.Tests.{eq-eqb, ne-eqb}
+use lib.Dec.{eqb}
+use lib.ListN.{length}
+use Rattle.answer.specs.declared.Part.{Part}
+use Rattle.answer.specs.declared.Part.the-variants.{Header, Body}
+use Rattle.words.specs.Layout.{readable}
+use Rattle.yovtirak.specs.Exports.{partWord}
+
+pub part-small : (part : Part) → partWord part ≤ 1
+part-small Header = omega arith
+part-small Body = omega arith
+
+-- words that hold a state are as many as a state has
+pub readable-length : (words : List ℕ) → readable words ≡ true → length words ≡ 162
+unfolding readable
+readable-length words e = go (ℕ-discrete (length words) 162)
+  where
+    go : Dec (length words ≡ 162) → length words ≡ 162
+    go (yes d) = d
+    go (no d) = let f : false ≡ true = rw (ne-eqb (length words) 162 d) at e in let z : _≡_ {A = ℕ} 0 1 = cc in absurd (omega arith)

@@ -1,0 +1,142 @@
+// The library that a receiving head links: the collector's calls on numbers and slices. All memory
+// is the caller's, the state and the counts too, as words (crate `words`). Words that are no sound
+// state are answered with STATE, whatever they hold. What each call returns and leaves is one
+// definition (specs/Exports.antt) over the collector's own.
+use answer::Answer;
+use answer::Heard;
+use answer::Part;
+use answer::Returned;
+use collector::Collector;
+ghost use mathlib.Core.Path.{_≡_};
+ghost use Prim.Native.Nat.{_<_};
+ghost use lib.ListN.{length};
+ghost use Rattle.cut.specs.Lists.{pick};
+ghost use Rattle.words.specs.Layout.{wordsOf};
+ghost use Rattle.yovtirak.specs.Exports.{partWord, heardWord, returnedWord, answerWord, changes, takeCall, dropCall};
+
+fn part_word(part: Part) -> u64
+    ensures { λ r. ⌜ r ≡ partWord part ⌝ }
+{
+    match part {
+        Part::Header => 0,
+        Part::Body => 1,
+    }
+}
+
+fn heard_word(heard: Heard) -> u64
+    ensures { λ r. ⌜ (r ≡ heardWord heard) × (r < 281474976710656) ⌝ }
+{
+    let part = heard.part;
+    let number = heard.number as u64;
+    let segment = heard.segment as u64;
+    part_word(part) * 256 + number * 65536 + segment * 4294967296
+}
+
+fn returned_word(returned: Returned) -> u64
+    ensures { λ r. ⌜ (r ≡ returnedWord returned) × (r < 281474976710656) ⌝ }
+{
+    match returned {
+        Returned::Segment(heard) => heard_word(heard),
+        Returned::Number(number) => number as u64 * 65536,
+        Returned::Nothing => 0,
+    }
+}
+
+// An answer and what is returned with it, in one word.
+fn answer_word(answer: Answer) -> u64
+    ensures { λ r. ⌜ r ≡ answerWord answer ⌝ }
+{
+    let returned = answer::returned_with(answer);
+    let number = answer::number_of(answer) as u64;
+    number + returned_word(returned)
+}
+
+// Whether an answer says that an object's record is another one now.
+fn changes(answer: Answer) -> bool
+    ensures { λ r. ⌜ r ≡ changes answer ⌝ }
+{
+    match answer {
+        Answer::Stored(_) => true,
+        Answer::Complete(_) => true,
+        Answer::Dropped(_) => true,
+        Answer::Repeat(_) => false,
+        Answer::Refused(_) => false,
+        Answer::Conflict(_) => false,
+        Answer::Full(_) => false,
+        Answer::NotHeld => false,
+        Answer::Unfinished => false,
+        Answer::Header => false,
+        Answer::Duplicate => false,
+        Answer::Core => false,
+        Answer::NotFound => false,
+        Answer::Limits => false,
+        Answer::State => false,
+    }
+}
+
+// The state's words are written only where the answer says that it changed.
+fn keep(state: &mut [u64], answer: Answer, next: Collector)
+    requires { ⌜ length (now state) ≡ 162 ⌝ }
+    ensures { λ r. ⌜ now (state .exit) ≡ pick (changes answer) (wordsOf next) (now (state .entry)) ⌝ }
+{
+    if !changes(answer) {
+        return;
+    }
+    words::put_collector(state, next);
+}
+
+// Takes a group.
+#[no_mangle]
+pub extern "C" fn yovtirak_take(
+    state: &mut [u64],
+    counts: &mut [u32],
+    group: &[u8],
+    header: &mut [u8],
+    body: &mut [u8],
+    marks: &mut [u8],
+) -> u64
+    ensures { λ r. ⌜ record { result = r; state = now (state .exit); counts = now (counts .exit); stores = record { header = now (header .exit); body = now (body .exit); marks = now (marks .exit) } } ≡ takeCall (now (group .entry)) (now (state .entry)) (now (counts .entry)) (record { header = now (header .entry); body = now (body .entry); marks = now (marks .entry) }) ⌝ }
+{
+    if counts.len() != 5 {
+        return 26;
+    }
+    if !words::readable(state) {
+        return 26;
+    }
+    let collector = words::collector_from(state);
+    let before = words::counts_from(counts);
+    let after = collector.taken(before, group, header, body, marks);
+    let answer = after.answer;
+    let next = after.collector;
+    words::put_counts(counts, after.counts);
+    keep(state, answer, next);
+    answer_word(answer)
+}
+
+// Drops a number.
+#[no_mangle]
+pub extern "C" fn yovtirak_drop(
+    state: &mut [u64],
+    counts: &mut [u32],
+    number: u16,
+    header: &[u8],
+    body: &[u8],
+    marks: &mut [u8],
+) -> u64
+    ensures { λ r. ⌜ record { result = r; state = now (state .exit); counts = now (counts .exit); stores = record { header = now (header .entry); body = now (body .entry); marks = now (marks .exit) } } ≡ dropCall number (now (state .entry)) (now (counts .entry)) (record { header = now (header .entry); body = now (body .entry); marks = now (marks .entry) }) ⌝ }
+{
+    if counts.len() != 5 {
+        return 26;
+    }
+    if !words::readable(state) {
+        return 26;
+    }
+    let collector = words::collector_from(state);
+    let before = words::counts_from(counts);
+    let after = collector.dropped(before, number, header, body, marks);
+    let answer = after.answer;
+    let next = after.collector;
+    words::put_counts(counts, after.counts);
+    keep(state, answer, next);
+    answer_word(answer)
+}
