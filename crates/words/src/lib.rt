@@ -33,7 +33,8 @@ fn stage_tag(stage: Stage) -> u64
     }
 }
 
-fn header_word(stage: Stage) -> u64
+// A finished object's header length, 0 for any other stage.
+pub fn header_word(stage: Stage) -> u64
     ensures { λ r. ⌜ r ≡ headerWord stage ⌝ }
 {
     match stage {
@@ -43,7 +44,8 @@ fn header_word(stage: Stage) -> u64
     }
 }
 
-fn body_word(stage: Stage) -> u64
+// A finished object's body length, 0 for any other stage.
+pub fn body_word(stage: Stage) -> u64
     ensures { λ r. ⌜ r ≡ bodyWord stage ⌝ }
 {
     match stage {

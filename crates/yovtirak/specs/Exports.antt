@@ -1,7 +1,7 @@
 -- What each exported call returns, and all that it leaves: the collector's own definitions, over the words that hold the
 -- state and the counts.
 use mathlib.Core.Bool.{Bool, true, false}
-use mathlib.Core.List.{List}
+use mathlib.Core.List.{List, [], _∷_}
 use Prim.Native.Nat.{ℕ, _+_, _*_}
 use lib.Dec.{eqb}
 use lib.ListN.{length}
@@ -15,9 +15,13 @@ use Rattle.answer.specs.declared.Returned.{Returned}
 use Rattle.answer.specs.declared.Returned.the-variants.{Segment, Number, Nothing}
 use Rattle.cut.specs.Lists.{pick}
 use Rattle.cut.specs.Decision.{both}
-use Rattle.slots.specs.Stores.{Stores}
-use Rattle.collector.specs.Calls.{Answered, takeGroup, dropNumber}
-use Rattle.words.specs.Layout.{wordsOf, countWords, collectorFrom, countsFrom, readable}
+use Rattle.gathering.specs.declared.Stage.{Stage}
+use Rattle.slots.specs.Stores.{Stores, slotAt}
+use Rattle.collector.specs.declared.Collector.{Collector}
+use Rattle.collector.specs.declared.Located.{Located}
+use Rattle.collector.specs.declared.Located.the-variants as Located
+use Rattle.collector.specs.Calls.{Answered, takeGroup, dropNumber, locate}
+use Rattle.words.specs.Layout.{headerWord, bodyWord, wordsOf, countWords, collectorFrom, countsFrom, readable}
 
 -- ---- an answer in one word: its number, then the part, the transport number and the segment's number
 
@@ -85,3 +89,28 @@ takeCall group state counts stores = pick (lentRight state counts) (left (takeGr
 
 unfoldable pub dropCall : ℕ → List ℕ → List ℕ → Stores → Called
 dropCall number state counts stores = pick (lentRight state counts) (left (dropNumber number (collectorFrom state) (countsFrom counts) stores) state) (noState state counts stores)
+
+-- ---- where a finished object is
+
+-- a question's result, and what it tells
+pub record Told : Type 0 where
+  pub result : ℕ
+  pub told : List ℕ
+
+-- the slot, and how long the header and the body are
+abbrev pub placeWords : ℕ → Stage → List ℕ
+placeWords i stage = i ∷ headerWord stage ∷ bodyWord stage ∷ []
+
+abbrev pub refusedWord : Located → ℕ
+refusedWord (Located.Refused why) = numberOf why
+refusedWord (Located.At i) = 0
+
+abbrev pub placeTold : Located → Collector → List ℕ → Told
+placeTold (Located.Refused why) c place = record { result = numberOf why; told = place }
+placeTold (Located.At i) c place = record { result = 0; told = placeWords i (slotAt i (c .slots) .stage) }
+
+unfoldable pub finishedCall : ℕ → List ℕ → Stores → List ℕ → Told
+finishedCall number state stores place =
+    pick (both (eqb (length place) 3) (readable state))
+    (placeTold (locate number (collectorFrom state) stores) (collectorFrom state) place)
+    (record { result = numberOf State; told = place })

@@ -1,14 +1,14 @@
 -- Laws of the calls' words, and of a call whose words hold no state.
 use mathlib.Core.Path.{_≡_, refl, sym, _∙_}
 use mathlib.Core.Bool.{Bool, true, false}
-use mathlib.Core.List.{List}
+use mathlib.Core.List.{List, [], _∷_}
 use mathlib.Core.Logic.{_≢_}
 use Prim.Native.Nat.{ℕ, _≤_}
 use native.Mathlib.Decide.{ℕ-discrete}
 use native.Mathlib.Omega.{arith}
 use borrow.Author.Tests.{eq-eqb, ne-eqb}
 use lib.Dec.{eqb}
-use lib.ListN.{length}
+use lib.ListN.{length, set}
 use Rattle.answer.specs.declared.Part.{Part}
 use Rattle.answer.specs.declared.Part.the-variants.{Header, Body}
 use Rattle.words.specs.Layout.{readable}
@@ -26,3 +26,10 @@ readable-length words e = go (ℕ-discrete (length words) 162)
     go : Dec (length words ≡ 162) → length words ≡ 162
     go (yes d) = d
     go (no d) = let f : false ≡ true = rw (ne-eqb (length words) 162 d) at e in let z : _≡_ {A = ℕ} 0 1 = cc in absurd (omega arith)
+
+pub three-put : (l : List ℕ) (a b c : ℕ) → length l ≡ 3 → set (set (set l 0 a) 1 b) 2 c ≡ a ∷ b ∷ c ∷ []
+three-put [] a b c h = absurd (omega (arith, h))
+three-put (x ∷ []) a b c h = absurd (omega (arith, h))
+three-put (x ∷ y ∷ []) a b c h = absurd (omega (arith, h))
+three-put (x ∷ y ∷ z ∷ []) a b c h = refl
+three-put (x ∷ y ∷ z ∷ w ∷ l) a b c h = absurd (omega (arith, h))

@@ -7,12 +7,16 @@ use answer::Heard;
 use answer::Part;
 use answer::Returned;
 use collector::Collector;
+use collector::Located;
+use gathering::Slot;
+use gathering::Stage;
 ghost use mathlib.Core.Path.{_≡_};
 ghost use Prim.Native.Nat.{_<_};
 ghost use lib.ListN.{length};
 ghost use Rattle.cut.specs.Lists.{pick};
+ghost use Rattle.slots.specs.Stores.{slotAt};
 ghost use Rattle.words.specs.Layout.{wordsOf};
-ghost use Rattle.yovtirak.specs.Exports.{partWord, heardWord, returnedWord, answerWord, changes, takeCall, dropCall};
+ghost use Rattle.yovtirak.specs.Exports.{partWord, heardWord, returnedWord, answerWord, changes, takeCall, dropCall, refusedWord, placeWords, finishedCall};
 
 fn part_word(part: Part) -> u64
     ensures { λ r. ⌜ r ≡ partWord part ⌝ }
@@ -85,6 +89,16 @@ fn keep(state: &mut [u64], answer: Answer, next: Collector)
     words::put_collector(state, next);
 }
 
+// Why an object can't be shown.
+fn refused_word(located: Located) -> u64
+    ensures { λ r. ⌜ r ≡ refusedWord located ⌝ }
+{
+    match located {
+        Located::Refused(answer) => answer::number_of(answer) as u64,
+        Located::At(_) => 0,
+    }
+}
+
 // Takes a group.
 #[no_mangle]
 pub extern "C" fn yovtirak_take(
@@ -139,4 +153,52 @@ pub extern "C" fn yovtirak_drop(
     words::put_counts(counts, after.counts);
     keep(state, answer, next);
     answer_word(answer)
+}
+
+fn stage_at(slots: [Slot; 16], i: usize) -> Stage
+    ensures { λ r. ⌜ r ≡ slotAt i slots .stage ⌝ }
+{
+    if 16 <= i {
+        return Stage::Free;
+    }
+    let slot = slots[i];
+    slot.stage
+}
+
+fn put_place(place: &mut [u64], i: usize, stage: Stage)
+    requires { ⌜ length (now place) ≡ 3 ⌝ }
+    ensures { λ r. ⌜ now (place .exit) ≡ placeWords i stage ⌝ }
+{
+    place[0] = i as u64;
+    place[1] = words::header_word(stage);
+    place[2] = words::body_word(stage);
+}
+
+// Where a finished object is: its slot, and how long its header and its body are. They stand at the
+// start of the slot's shares of the two stores.
+#[no_mangle]
+pub extern "C" fn yovtirak_finished(
+    state: &[u64],
+    number: u16,
+    header: &[u8],
+    body: &[u8],
+    marks: &[u8],
+    place: &mut [u64],
+) -> u64
+    ensures { λ r. ⌜ record { result = r; told = now (place .exit) } ≡ finishedCall number (now (state .entry)) (record { header = now (header .entry); body = now (body .entry); marks = now (marks .entry) }) (now (place .entry)) ⌝ }
+{
+    if place.len() != 3 {
+        return 26;
+    }
+    if !words::readable(state) {
+        return 26;
+    }
+    let collector = words::collector_from(state);
+    let located = collector.locate(number, header, body, marks);
+    let Located::At(i) = located else {
+        return refused_word(located);
+    };
+    let slots = collector.slots;
+    put_place(place, i, stage_at(slots, i));
+    0
 }
