@@ -34,6 +34,8 @@ use Rattle.slots.specs.State.{withinLimits, soundSlots}
 use Rattle.slots.specs.Show.{shownOf}
 use Rattle.slots.specs.Take.{TakenAt, takeAt, takeNew, dropAt}
 use Rattle.collector.specs.declared.Collector.{Collector}
+use Rattle.collector.specs.declared.Opening.{Opening}
+use Rattle.collector.specs.declared.Opening.the-variants as Opening
 use Rattle.collector.specs.declared.Located.{Located}
 use Rattle.collector.specs.declared.Located.the-variants as Located
 
@@ -113,8 +115,8 @@ dropNumber number c counts stores = pick (soundState c counts stores) (dropFound
 
 -- ---- an opening
 
-pub record Opening : Type 0 where
-  pub opened : Bool
+pub record Opened : Type 0 where
+  pub opening : Opening
   pub collector : Collector
   pub counts : Counts
   pub marks : List ℕ
@@ -122,13 +124,13 @@ pub record Opening : Type 0 where
 abbrev pub allFree : ℕ → ℕ → Collector
 allFree limit count = record { limit = limit; count = count; slots = replicate slotsMost freeSlot }
 
--- Within the bounds and the lent lengths all marks and counts are 0; else nothing changes, and the state handed back has
--- no slots, which every call answers with STATE.
-unfoldable pub openedBy : ℕ → ℕ → Counts → Stores → Opening
+-- Within the bounds and the lent lengths all marks and counts are 0; else LIMITS: nothing changes, and the state handed
+-- back has no slots, which every call answers with STATE.
+unfoldable pub openedBy : ℕ → ℕ → Counts → Stores → Opened
 openedBy limit count counts stores =
     pick (withinLimits limit count (length (stores .header)) (length (stores .body)) (length (stores .marks)))
-    (record { opened = true; collector = allFree limit count; counts = noneYet; marks = zeros (length (stores .marks)) })
-    (record { opened = false; collector = allFree 0 0; counts = counts; marks = stores .marks })
+    (record { opening = Opening.Open; collector = allFree limit count; counts = noneYet; marks = zeros (length (stores .marks)) })
+    (record { opening = Opening.Refused Answer.Limits; collector = allFree 0 0; counts = counts; marks = stores .marks })
 
 -- ---- a finished object
 

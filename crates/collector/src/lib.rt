@@ -27,10 +27,16 @@ pub struct Collector {
     pub slots: [Slot; 16],
 }
 
-// What an opening hands back. A refused one, LIMITS, hands back a collector that every call answers
-// with STATE, and the counts as they were.
+// Whether a collector is open, or why it is not.
+pub enum Opening {
+    Open,
+    Refused(Answer),
+}
+
+// What an opening hands back. A refused one hands back a collector that every call answers with
+// STATE, and the counts as they were.
 pub struct Opened {
-    pub opened: bool,
+    pub opening: Opening,
     pub collector: Collector,
     pub counts: Counts,
 }
@@ -101,7 +107,7 @@ impl Collector {
     pub const SLOT_MARKS: usize = 1088;
 
     // Opens a collector over lent memory, by value: all marks and counts are 0. Outside the bounds,
-    // or with a wrong lent length, nothing changes.
+    // or with a wrong lent length, it answers LIMITS and nothing changes.
     pub fn opened(
         limit: usize,
         count: usize,
@@ -110,7 +116,7 @@ impl Collector {
         body: &[u8],
         marks: &mut [u8],
     ) -> Opened
-        ensures { λ r. ⌜ record { opened = r .opened; collector = r .collector; counts = r .counts; marks = now (marks .exit) } ≡ openedBy limit count counts (record { header = now (header .entry); body = now (body .entry); marks = now (marks .entry) }) ⌝ }
+        ensures { λ r. ⌜ record { opening = r .opening; collector = r .collector; counts = r .counts; marks = now (marks .exit) } ≡ openedBy limit count counts (record { header = now (header .entry); body = now (body .entry); marks = now (marks .entry) }) ⌝ }
     {
         let free = slots::free_slot();
         if !slots::within_limits(limit, count, header.len(), body.len(), marks.len()) {
@@ -120,7 +126,7 @@ impl Collector {
                 slots: [free; 16],
             };
             return Opened {
-                opened: false,
+                opening: Opening::Refused(Answer::Limits),
                 collector: none,
                 counts,
             };
@@ -132,7 +138,7 @@ impl Collector {
             slots: [free; 16],
         };
         Opened {
-            opened: true,
+            opening: Opening::Open,
             collector: fresh,
             counts: counts::none_yet(),
         }

@@ -1,4 +1,4 @@
--- `collector::Collector::opened` meets its contract: refused, or opened with marks and counts of 0.
+-- `collector::Collector::opened` meets its contract: LIMITS, or opened with marks and counts of 0.
 -- Assumes nothing.
 use Rattle.collector.specs.Calls.{openedBy}
 use borrow.Author.Tests.{not-true, not-false}
