@@ -20,7 +20,9 @@ use Rattle.slots.specs.Stores.{Stores, slotAt}
 use Rattle.collector.specs.declared.Collector.{Collector}
 use Rattle.collector.specs.declared.Located.{Located}
 use Rattle.collector.specs.declared.Located.the-variants as Located
-use Rattle.collector.specs.Calls.{Answered, takeGroup, dropNumber, locate}
+use Rattle.collector.specs.declared.Opening.{Opening}
+use Rattle.collector.specs.declared.Opening.the-variants as Opening
+use Rattle.collector.specs.Calls.{Answered, Opened, takeGroup, dropNumber, openedBy, locate}
 use Rattle.words.specs.Layout.{headerWord, bodyWord, wordsOf, countWords, collectorFrom, countsFrom, readable}
 
 -- ---- an answer in one word: its number, then the part, the transport number and the segment's number
@@ -89,6 +91,32 @@ takeCall group state counts stores = pick (lentRight state counts) (left (takeGr
 
 unfoldable pub dropCall : ℕ → List ℕ → List ℕ → Stores → Called
 dropCall number state counts stores = pick (lentRight state counts) (left (dropNumber number (collectorFrom state) (countsFrom counts) stores) state) (noState state counts stores)
+
+-- ---- an opening
+
+-- 0 where the collector is open
+abbrev pub openingWord : Opening → ℕ
+openingWord Opening.Open = 0
+openingWord (Opening.Refused why) = numberOf why
+
+abbrev pub isOpen : Opening → Bool
+isOpen Opening.Open = true
+isOpen (Opening.Refused why) = false
+
+unfoldable pub leftOpen : Opened → List ℕ → Stores → Called
+leftOpen o state stores = record {
+  result = openingWord (o .opening);
+  state = pick (isOpen (o .opening)) (wordsOf (o .collector)) state;
+  counts = countWords (o .counts);
+  stores = record { header = stores .header; body = stores .body; marks = o .marks };
+}
+
+-- LIMITS too where the words lent are too few or too many
+unfoldable pub openCall : ℕ → ℕ → List ℕ → List ℕ → Stores → Called
+openCall limit slots state counts stores =
+    pick (both (eqb (length state) 162) (eqb (length counts) 5))
+    (leftOpen (openedBy limit slots (countsFrom counts) stores) state stores)
+    (record { result = numberOf Limits; state = state; counts = counts; stores = stores })
 
 -- ---- where a finished object is
 

@@ -8,6 +8,7 @@ use answer::Part;
 use answer::Returned;
 use collector::Collector;
 use collector::Located;
+use collector::Opening;
 use gathering::Slot;
 use gathering::Stage;
 ghost use mathlib.Core.Path.{_≡_};
@@ -16,7 +17,7 @@ ghost use lib.ListN.{length};
 ghost use Rattle.cut.specs.Lists.{pick};
 ghost use Rattle.slots.specs.Stores.{slotAt};
 ghost use Rattle.words.specs.Layout.{wordsOf};
-ghost use Rattle.yovtirak.specs.Exports.{partWord, heardWord, returnedWord, answerWord, changes, takeCall, dropCall, refusedWord, placeWords, finishedCall};
+ghost use Rattle.yovtirak.specs.Exports.{openingWord, isOpen, openCall, partWord, heardWord, returnedWord, answerWord, changes, takeCall, dropCall, refusedWord, placeWords, finishedCall};
 
 fn part_word(part: Part) -> u64
     ensures { λ r. ⌜ r ≡ partWord part ⌝ }
@@ -97,6 +98,63 @@ fn refused_word(located: Located) -> u64
         Located::Refused(answer) => answer::number_of(answer) as u64,
         Located::At(_) => 0,
     }
+}
+
+fn opening_word(opening: Opening) -> u64
+    ensures { λ r. ⌜ r ≡ openingWord opening ⌝ }
+{
+    match opening {
+        Opening::Open => 0,
+        Opening::Refused(answer) => answer::number_of(answer) as u64,
+    }
+}
+
+fn is_open(opening: Opening) -> bool
+    ensures { λ r. ⌜ r ≡ isOpen opening ⌝ }
+{
+    match opening {
+        Opening::Open => true,
+        Opening::Refused(_) => false,
+    }
+}
+
+// The state's words are written only where the collector is open.
+fn keep_opened(state: &mut [u64], opening: Opening, fresh: Collector)
+    requires { ⌜ length (now state) ≡ 162 ⌝ }
+    ensures { λ r. ⌜ now (state .exit) ≡ pick (isOpen opening) (wordsOf fresh) (now (state .entry)) ⌝ }
+{
+    if !is_open(opening) {
+        return;
+    }
+    words::put_collector(state, fresh);
+}
+
+// Opens a collector over lent memory. A refusal, LIMITS, changes nothing.
+#[no_mangle]
+pub extern "C" fn yovtirak_open(
+    limit: usize,
+    slots: usize,
+    state: &mut [u64],
+    counts: &mut [u32],
+    header: &[u8],
+    body: &[u8],
+    marks: &mut [u8],
+) -> u64
+    ensures { λ r. ⌜ record { result = r; state = now (state .exit); counts = now (counts .exit); stores = record { header = now (header .entry); body = now (body .entry); marks = now (marks .exit) } } ≡ openCall limit slots (now (state .entry)) (now (counts .entry)) (record { header = now (header .entry); body = now (body .entry); marks = now (marks .entry) }) ⌝ }
+{
+    if state.len() != 162 {
+        return 25;
+    }
+    if counts.len() != 5 {
+        return 25;
+    }
+    let before = words::counts_from(counts);
+    let opened = Collector::opened(limit, slots, before, header, body, marks);
+    let opening = opened.opening;
+    let fresh = opened.collector;
+    words::put_counts(counts, opened.counts);
+    keep_opened(state, opening, fresh);
+    opening_word(opening)
 }
 
 // Takes a group.
