@@ -2,20 +2,27 @@
 //! compared. The word after the program's name says which comparison; whatever differs ends it
 //! with a status that is not zero.
 
+mod collectors;
 mod decision;
+mod lent;
 mod listings;
 mod proved;
 mod readings;
+mod states;
 
 use std::process::ExitCode;
 
 fn main() -> ExitCode {
     let asked = std::env::args().nth(1).unwrap_or_default();
     let outcome = match asked.as_str() {
+        "collectors" => collectors::run(),
         "listings" => listings::run(),
         "readings" => readings::run(),
         "decision" => decision::run(),
-        _ => Err("say which comparison: readings, decision or listings".to_string()),
+        "states" => states::run(),
+        _ => Err(
+            "say which comparison: readings, decision, collectors, states or listings".to_string(),
+        ),
     };
     match outcome {
         Ok(said) => {

@@ -1,0 +1,141 @@
+//! The proved collector, as a head links it, against the independent one: random histories of calls,
+//! and after every call the answer, the counts, the marks, the records and what is shown compared;
+//! the stores whole at the end of each history, and after every call where they are small. A part of
+//! the histories begins with counts next to the most that is counted.
+
+use crate::lent::Lent;
+use independent::answer::Answer;
+use independent::collector::{Collector, Counts, Memory, MOST_COUNTED};
+use independent::group::Part;
+use independent::random::histories::{calls, Call};
+use independent::random::Random;
+use std::collections::BTreeMap;
+
+const SEED: u64 = 300_401;
+const HISTORIES: u64 = 2_000;
+const CALLS: usize = 60;
+const LIMITS: [usize; 4] = [1_024, 12_288, 65_536, 1_048_576];
+/// Stores up to this many bytes are compared after every call.
+const SMALL: usize = 40_000;
+
+/// How often each answer was given.
+pub type Tally = BTreeMap<&'static str, usize>;
+
+fn differ(what: &str, ours: impl std::fmt::Debug, theirs: impl std::fmt::Debug) -> String {
+    format!("{what}: {ours:?}, not {theirs:?}")
+}
+
+fn counts_near_the_most(random: &mut Random) -> Counts {
+    let mut near = || MOST_COUNTED - random.within(0, 4) as u32;
+    Counts {
+        taken: near(),
+        repeated: near(),
+        refused: near(),
+        completed: near(),
+        dropped: near(),
+    }
+}
+
+/// One call of both.
+pub fn call(
+    lent: &mut Lent,
+    collector: &mut Collector,
+    call: &Call,
+    tally: &mut Tally,
+) -> Result<(), String> {
+    let answer = match call {
+        Call::Take(group) => {
+            let (ours, theirs) = (lent.take(group), collector.take(group));
+            if ours != theirs {
+                return Err(differ("a group", ours, theirs));
+            }
+            theirs.answer
+        }
+        Call::Drop(transport) => {
+            let (ours, theirs) = (lent.drop(*transport), collector.drop_number(*transport));
+            if ours != theirs {
+                return Err(differ("a drop", ours, theirs));
+            }
+            theirs.answer
+        }
+        Call::Show(transport, part) => {
+            let (ours, theirs) = (
+                lent.show(*transport, *part),
+                collector.show(*transport, *part),
+            );
+            if ours != theirs {
+                return Err(differ("a shown part", ours, theirs));
+            }
+            match theirs {
+                Ok(_) => return Ok(()),
+                Err(answer) => answer,
+            }
+        }
+        Call::ReadHeader(_) | Call::Find(_) => return Ok(()),
+    };
+    *tally.entry(answer.name()).or_default() += 1;
+    Ok(())
+}
+
+/// All that can be seen of both.
+pub fn same(lent: &Lent, collector: &Collector, with_stores: bool) -> Result<(), String> {
+    if lent.counts != collector.counts.in_order() {
+        return Err(differ("counts", &lent.counts, collector.counts));
+    }
+    if lent.memory.marks != collector.memory.marks {
+        return Err("the marks differ".to_string());
+    }
+    if lent.state() != Lent::words_of(collector) {
+        return Err("the records differ".to_string());
+    }
+    for held in collector.slots().iter().flatten() {
+        for part in [Part::Header, Part::Body] {
+            let theirs = collector.show(held.transport, part);
+            if lent.show(held.transport, part) != theirs {
+                return Err(format!("{part:?} of {:04x} differs", held.transport));
+            }
+        }
+    }
+    if with_stores && lent.memory != collector.memory {
+        return Err("the stores differ".to_string());
+    }
+    Ok(())
+}
+
+fn history(random: &mut Random, tally: &mut Tally) -> Result<(), String> {
+    let limit = random.one_of(&LIMITS);
+    let slots = random.within(1, 16);
+    let memory = Memory::filled(limit, slots, random.byte());
+    let mut lent = Lent::open(limit, slots, memory.clone()).map_err(|why| format!("{why:?}"))?;
+    let mut collector = Collector::open(limit, slots, memory).map_err(|why| format!("{why:?}"))?;
+    if random.once_in(5) {
+        collector.counts = counts_near_the_most(random);
+        lent.counts = collector.counts.in_order().to_vec();
+    }
+    let small = slots * (limit + 1_024) <= SMALL;
+    for (number, each) in calls(random, limit, slots, CALLS).iter().enumerate() {
+        call(&mut lent, &mut collector, each, tally)
+            .and_then(|()| same(&lent, &collector, small))
+            .map_err(|said| format!("limit {limit}, {slots} slots, call {number}: {said}"))?;
+    }
+    same(&lent, &collector, true)
+}
+
+pub fn run() -> Result<String, String> {
+    let mut tally = Tally::new();
+    for number in 0..HISTORIES {
+        history(&mut Random::from_seed(SEED + number), &mut tally)
+            .map_err(|said| format!("history {number}: {said}"))?;
+    }
+    let missing: Vec<_> = Answer::ALL[..15]
+        .iter()
+        .filter(|answer| !tally.contains_key(answer.name()))
+        .collect();
+    if !missing.is_empty() {
+        return Err(format!("never given: {missing:?}"));
+    }
+    let calls: usize = tally.values().sum();
+    Ok(format!(
+        "{HISTORIES} histories, {calls} answers compared {tally:?}"
+    ))
+}

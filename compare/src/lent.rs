@@ -1,0 +1,132 @@
+//! The proved collector over memory that is lent to it, in the independent program's words.
+
+use independent::answer::{Answer, Reply};
+use independent::collector::{Collector, Memory, HEADER_SHARE};
+use independent::group::Part;
+use independent::state::{StageRecord, State};
+use yovtirak::lent::{self, COUNTS, PLACE_WORDS, STATE_WORDS};
+
+pub struct Lent {
+    pub state: Vec<u64>,
+    pub counts: Vec<u32>,
+    pub memory: Memory,
+}
+
+fn answer_of(number: u64) -> Answer {
+    Answer::ALL
+        .into_iter()
+        .find(|answer| u64::from(answer.number()) == number)
+        .expect("an answer's number is one of document 01's")
+}
+
+/// What a word says, in the independent program's words.
+fn reply_of(word: u64) -> Reply {
+    let answer = answer_of(word & 0xFF);
+    let transport = (word >> 16) as u16;
+    match answer.number() {
+        0..=2 | 17 | 18 => {
+            let part = if word >> 8 & 0xFF == 0 {
+                Part::Header
+            } else {
+                Part::Body
+            };
+            Reply::of_segment(answer, transport, part, (word >> 32) as u16)
+        }
+        3 => Reply::of_number(answer, transport),
+        _ => Reply::bare(answer),
+    }
+}
+
+impl Lent {
+    pub fn open(limit: usize, slots: usize, mut memory: Memory) -> Result<Lent, Answer> {
+        let mut state = vec![0; STATE_WORDS];
+        let mut counts = vec![0; COUNTS];
+        let said = lent::open(
+            limit,
+            slots,
+            &mut state,
+            &mut counts,
+            &memory.header_store,
+            &memory.body_store,
+            &mut memory.marks,
+        );
+        if said != 0 {
+            return Err(answer_of(said));
+        }
+        Ok(Lent {
+            state,
+            counts,
+            memory,
+        })
+    }
+
+    pub fn take(&mut self, group: &[u8]) -> Reply {
+        reply_of(lent::take(
+            &mut self.state,
+            &mut self.counts,
+            group,
+            &mut self.memory.header_store,
+            &mut self.memory.body_store,
+            &mut self.memory.marks,
+        ))
+    }
+
+    pub fn drop(&mut self, transport: u16) -> Reply {
+        reply_of(lent::drop(
+            &mut self.state,
+            &mut self.counts,
+            transport,
+            &self.memory.header_store,
+            &self.memory.body_store,
+            &mut self.memory.marks,
+        ))
+    }
+
+    pub fn show(&self, transport: u16, part: Part) -> Result<&[u8], Answer> {
+        let mut place = [0; PLACE_WORDS];
+        let said = lent::finished(
+            &self.state,
+            transport,
+            &self.memory.header_store,
+            &self.memory.body_store,
+            &self.memory.marks,
+            &mut place,
+        );
+        if said != 0 {
+            return Err(answer_of(said));
+        }
+        let [slot, header, body] = place.map(|word| word as usize);
+        Ok(match part {
+            Part::Header => &self.memory.header_store[slot * HEADER_SHARE..][..header],
+            Part::Body => &self.memory.body_store[slot * self.state[0] as usize..][..body],
+        })
+    }
+
+    /// The state's words.
+    pub fn state(&self) -> &[u64] {
+        &self.state
+    }
+
+    /// The words of an independent collector's state.
+    pub fn words_of(collector: &Collector) -> Vec<u64> {
+        words(&State::of(collector))
+    }
+}
+
+/// The words of a state.
+pub fn words(state: &State) -> Vec<u64> {
+    let mut words = vec![state.limit as u64, state.count as u64];
+    for slot in &state.slots {
+        let (stage, header, body) = match slot.stage {
+            StageRecord::Free => (0, 0, 0),
+            StageRecord::Gathering => (1, 0, 0),
+            StageRecord::Finished { header, body } => (2, header, body),
+        };
+        words.push(u64::from(slot.transport));
+        words.extend([stage, header, body].map(|word| word as u64));
+        for part in [slot.header, slot.body] {
+            words.extend([part.size, part.end, part.tail].map(|word| word as u64));
+        }
+    }
+    words
+}

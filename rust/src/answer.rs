@@ -1,0 +1,136 @@
+//! The answers of document 01, "What comes back", and what is returned with them.
+
+/// An answer, with document 01's number.
+#[derive(Clone, Copy, Debug, PartialEq, Eq, Hash)]
+#[repr(u8)]
+pub enum Answer {
+    /// A new segment; the object is not finished.
+    Stored = 0,
+    /// A new segment; the object is now finished.
+    Complete = 1,
+    /// A segment that is in already.
+    Repeat = 2,
+    /// A held number is dropped.
+    Dropped = 3,
+    /// A size out of bounds, or a field missing.
+    Length = 10,
+    /// No check word.
+    NoCheck = 11,
+    /// The check word differs.
+    BadCheck = 12,
+    /// Neither a header nor a body segment.
+    Kind = 13,
+    /// No segment field or no user access field.
+    NoSegment = 14,
+    /// No transport number.
+    Address = 15,
+    /// The segment's size field is wrong.
+    Size = 16,
+    /// No object and cut could have sent it with what is stored under its number.
+    Conflict = 17,
+    /// Its number holds no slot, and none is free.
+    Full = 18,
+    /// The number holds no slot.
+    NotHeld = 19,
+    /// The object is not finished.
+    Unfinished = 20,
+    /// The header's parameter list is broken.
+    Header = 21,
+    /// A single parameter comes twice.
+    Duplicate = 22,
+    /// A finished header of fewer than 7 bytes.
+    Core = 23,
+    /// No finished object has the name.
+    NotFound = 24,
+    /// An opening outside the bounds, or a lent length is wrong.
+    Limits = 25,
+    /// The state is damaged.
+    State = 26,
+}
+
+impl Answer {
+    /// All answers, in the order of their numbers.
+    pub const ALL: [Answer; 21] = [
+        Answer::Stored,
+        Answer::Complete,
+        Answer::Repeat,
+        Answer::Dropped,
+        Answer::Length,
+        Answer::NoCheck,
+        Answer::BadCheck,
+        Answer::Kind,
+        Answer::NoSegment,
+        Answer::Address,
+        Answer::Size,
+        Answer::Conflict,
+        Answer::Full,
+        Answer::NotHeld,
+        Answer::Unfinished,
+        Answer::Header,
+        Answer::Duplicate,
+        Answer::Core,
+        Answer::NotFound,
+        Answer::Limits,
+        Answer::State,
+    ];
+
+    /// Document 01's number.
+    pub fn number(self) -> u8 {
+        self as u8
+    }
+
+    /// The answer of a number that a call returned.
+    pub(crate) fn of(number: u64) -> Answer {
+        Answer::ALL
+            .into_iter()
+            .find(|answer| u64::from(answer.number()) == number)
+            .expect("the library is proved to return no other number")
+    }
+}
+
+/// Which part of an object.
+#[derive(Clone, Copy, Debug, PartialEq, Eq, Hash)]
+pub enum Part {
+    Header,
+    Body,
+}
+
+/// The segment that an answer speaks of.
+#[derive(Clone, Copy, Debug, PartialEq, Eq, Hash)]
+pub struct Segment {
+    pub number: u16,
+    pub part: Part,
+    pub segment: u16,
+}
+
+/// What a group or a drop is answered.
+#[derive(Clone, Copy, Debug, PartialEq, Eq)]
+pub struct Reply {
+    pub answer: Answer,
+    /// The transport number, part and segment number, where the answer returns them.
+    pub segment: Option<Segment>,
+}
+
+impl Reply {
+    /// The reply that a word says.
+    pub fn of(word: u64) -> Reply {
+        let answer = Answer::of(word & 0xFF);
+        let returns = matches!(
+            answer,
+            Answer::Stored | Answer::Complete | Answer::Repeat | Answer::Conflict | Answer::Full
+        );
+        let part = if word >> 8 & 0xFF == 0 {
+            Part::Header
+        } else {
+            Part::Body
+        };
+        Reply {
+            answer,
+            segment: returns.then_some(Segment {
+                number: (word >> 16) as u16,
+                part,
+                segment: (word >> 32) as u16,
+            }),
+        }
+    }
+}

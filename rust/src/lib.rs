@@ -1,0 +1,142 @@
+//! The proved collector of broadcast objects, owned.
+//!
+//! [`Collector`] owns the memory that the library works in; [`lent`] has the same calls on memory
+//! that is lent, for a head that maps its state or keeps it across restarts.
+//!
+//! ```
+//! use yovtirak::{Answer, Collector};
+//!
+//! // A header segment 0, the last one, of object 5: a header of 7 bytes and no body.
+//! let group = [
+//!     0x73, 0x00, 0x80, 0x00, 0x12, 0x00, 0x05, 0x00, 0x07, // data group and segment headers
+//!     0x00, 0x00, 0x00, 0x00, 0x03, 0x84, 0x01, // the header core
+//!     0x69, 0x0F, // the check word
+//! ];
+//! let mut collector = Collector::open(12_288, 2).unwrap();
+//! let reply = collector.take(&group);
+//! assert_eq!(reply.answer, Answer::Complete);
+//! assert_eq!(reply.segment.unwrap().number, 5);
+//! assert_eq!(collector.header(5).unwrap(), &group[9..16]);
+//! assert_eq!(collector.body(5).unwrap(), &[]);
+//! assert_eq!(collector.counts().completed, 1);
+//! ```
+
+mod answer;
+pub mod lent;
+
+pub use answer::{Answer, Part, Reply, Segment};
+use lent::{COUNTS, HEADER_SHARE, MARKS_SHARE, PLACE_WORDS, STATE_WORDS};
+
+/// How many answers of each kind there were since opening; each stays at 2147483647.
+#[derive(Clone, Copy, Debug, Default, PartialEq, Eq)]
+pub struct Counts {
+    pub taken: u32,
+    pub repeated: u32,
+    pub refused: u32,
+    pub completed: u32,
+    pub dropped: u32,
+}
+
+/// A collector that owns its memory.
+pub struct Collector {
+    limit: usize,
+    state: [u64; STATE_WORDS],
+    counts: [u32; COUNTS],
+    header: Vec<u8>,
+    body: Vec<u8>,
+    marks: Vec<u8>,
+}
+
+impl Collector {
+    /// Opens a collector for bodies up to `limit` bytes (1,024 to 1,048,576), with 1 to 16 slots.
+    pub fn open(limit: usize, slots: usize) -> Result<Collector, Answer> {
+        // Nothing is set aside for a limit or a number of slots that is out of bounds.
+        if limit > 1_048_576 || slots > 16 {
+            return Err(Answer::Limits);
+        }
+        let mut collector = Collector {
+            limit,
+            state: [0; STATE_WORDS],
+            counts: [0; COUNTS],
+            header: vec![0; slots * HEADER_SHARE],
+            body: vec![0; slots * limit],
+            marks: vec![0; slots * MARKS_SHARE],
+        };
+        match lent::open(
+            limit,
+            slots,
+            &mut collector.state,
+            &mut collector.counts,
+            &collector.header,
+            &collector.body,
+            &mut collector.marks,
+        ) {
+            0 => Ok(collector),
+            refused => Err(Answer::of(refused)),
+        }
+    }
+
+    /// Takes one MSC data group, of any bytes.
+    pub fn take(&mut self, group: &[u8]) -> Reply {
+        Reply::of(lent::take(
+            &mut self.state,
+            &mut self.counts,
+            group,
+            &mut self.header,
+            &mut self.body,
+            &mut self.marks,
+        ))
+    }
+
+    /// Drops what is held under a transport number.
+    pub fn drop_number(&mut self, number: u16) -> Answer {
+        Reply::of(lent::drop(
+            &mut self.state,
+            &mut self.counts,
+            number,
+            &self.header,
+            &self.body,
+            &mut self.marks,
+        ))
+        .answer
+    }
+
+    /// A finished object's header.
+    pub fn header(&self, number: u16) -> Result<&[u8], Answer> {
+        let [slot, length, _] = self.finished(number)?;
+        Ok(&self.header[slot * HEADER_SHARE..][..length])
+    }
+
+    /// A finished object's body.
+    pub fn body(&self, number: u16) -> Result<&[u8], Answer> {
+        let [slot, _, length] = self.finished(number)?;
+        Ok(&self.body[slot * self.limit..][..length])
+    }
+
+    pub fn counts(&self) -> Counts {
+        let [taken, repeated, refused, completed, dropped] = self.counts;
+        Counts {
+            taken,
+            repeated,
+            refused,
+            completed,
+            dropped,
+        }
+    }
+
+    /// Where a finished object is: its slot and the two lengths.
+    fn finished(&self, number: u16) -> Result<[usize; PLACE_WORDS], Answer> {
+        let mut place = [0; PLACE_WORDS];
+        match lent::finished(
+            &self.state,
+            number,
+            &self.header,
+            &self.body,
+            &self.marks,
+            &mut place,
+        ) {
+            0 => Ok(place.map(|word| word as usize)),
+            refused => Err(Answer::of(refused)),
+        }
+    }
+}
