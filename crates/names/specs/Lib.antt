@@ -1,0 +1,3 @@
+pub mod Requirement
+pub mod Finding
+pub mod Theorems
