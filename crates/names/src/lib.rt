@@ -4,9 +4,16 @@
 // that is refused has no name.
 use gathering::Slot;
 use gathering::Stage;
+use header::Found;
 use header::Name;
+use header::Parameter;
+use header::Reading;
 ghost use mathlib.Core.Path.{_≡_};
-ghost use Rattle.names.specs.Finding.{headerIn, nameData};
+ghost use Prim.Native.Nat.{_+_, _≤_};
+ghost use lib.ListN.{length};
+ghost use Rattle.header.specs.Search.{isNamed};
+ghost use Rattle.names.specs.Finding.{headerIn, nameData, lower, foundByName};
+ghost use Rattle.names.specs.Legible.{legible};
 
 // Whose a name is: nobody's, or that of the finished object with this transport number.
 pub enum Holder {
@@ -34,4 +41,70 @@ pub fn name_data(header: &[u8]) -> &[u8]
     };
     let end = start + size;
     &header[start..end]
+}
+
+// A header that reads; nothing of one that is refused.
+fn legible(header: &[u8]) -> &[u8]
+    ensures { λ r. ⌜ now r ≡ legible (now (header .entry)) ⌝ }
+{
+    let Reading::Read(_) = header::read(header) else {
+        return &header[..0];
+    };
+    header
+}
+
+// Whether a parameter is the ContentName that is asked for.
+fn is_named(header: &[u8], parameter: Parameter, asked: &[u8]) -> bool
+    requires { ⌜ parameter .start + parameter .size ≤ length (now header) ⌝ }
+    ensures { λ r. ⌜ r ≡ isNamed (now (header .entry)) (now (asked .entry)) parameter ⌝ }
+{
+    let start = parameter.start;
+    let end = start + parameter.size;
+    let identifier = parameter.identifier;
+    match identifier {
+        0x0C => header::name_matches(&header[start..end], asked),
+        _ => false,
+    }
+}
+
+fn lower_of(holder: Holder, number: u16) -> Holder
+    ensures { λ r. ⌜ r ≡ lower holder (Holder.Number number) ⌝ }
+{
+    let Holder::Number(held) = holder else {
+        return Holder::Number(number);
+    };
+    if held < number {
+        return holder;
+    }
+    Holder::Number(number)
+}
+
+// The lowest transport number among the finished objects of the first count slots that have a name.
+// No number is lower than 0: once it is found, both loops are left at once.
+pub fn find(asked: &[u8], count: usize, slots: [Slot; 16], store: &[u8]) -> Holder
+    requires { ⌜ count ≤ 16 ⌝ }
+    ensures { λ r. ⌜ r ≡ foundByName (now (asked .entry)) count slots (now (store .entry)) ⌝ }
+{
+    let mut holder = Holder::Nobody;
+    let mut i = 0;
+    'slots: while i < count {
+        let slot = slots[i];
+        let header = legible(header_in(i, slot, store));
+        let mut at = header::CORE;
+        'parameters: while at < header.len() {
+            let Found::One(parameter) = header::parameter_at(header, at) else {
+                break 'parameters;
+            };
+            if is_named(header, parameter, asked) {
+                holder = lower_of(holder, slot.number);
+                if slot.number == 0 {
+                    break 'slots;
+                }
+                break 'parameters;
+            }
+            at = parameter.start + parameter.size;
+        }
+        i += 1;
+    }
+    holder
 }
