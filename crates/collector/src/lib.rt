@@ -2,6 +2,8 @@
 // counts that the caller lends. Its limits are the type's constants, and opening is a function of
 // the type. Every call checks all that it is given before anything else; what it answers and all that
 // it leaves is one definition (specs/Calls.antt).
+mod questions;
+
 use answer::Answer;
 use answer::Heard;
 use answer::Part;
@@ -17,7 +19,9 @@ ghost use mathlib.Core.Path.{_≡_};
 ghost use mathlib.Core.Bool.{true};
 ghost use Rattle.counts.specs.Counted.{counted};
 ghost use Rattle.slots.specs.Find.{findIn};
+ghost use Rattle.slots.specs.Show.{shownOf};
 ghost use Rattle.slots.specs.State.{soundSlots};
+ghost use Rattle.slots.specs.Stores.{slotAt};
 ghost use Rattle.collector.specs.Calls.{Answered, soundState, heardAs, answerAs, refusalOf, intoHeld, takeGroup, dropNumber, openedBy, locatedAs, locate, show};
 
 // A collector: the limit on a body, how many slots it has, and the slots.
@@ -174,6 +178,18 @@ impl Collector {
         located_as(stage, i)
     }
 
+    // A part of the finished object in slot i; nothing where there is none.
+    fn shown_at<'a>(self, part: Part, i: usize, header: &'a [u8], body: &'a [u8]) -> &'a [u8]
+        ensures { λ r. ⌜ now r ≡ shownOf part i (self .limit) (slotAt i (self .slots)) (now (header .entry)) (now (body .entry)) ⌝ }
+    {
+        if 16 <= i {
+            return &header[..0];
+        }
+        let slots = self.slots;
+        let slot = slots[i];
+        slots::shown(part, i, self.limit, slot, header, body)
+    }
+
     // A finished object's header or body, as the part of the store that has it, without copying;
     // nothing where `locate` says why.
     pub fn show<'a>(
@@ -189,12 +205,7 @@ impl Collector {
         let Located::At(i) = self.locate(number, header, body, marks) else {
             return &header[..0];
         };
-        if 16 <= i {
-            return &header[..0];
-        }
-        let slots = self.slots;
-        let slot = slots[i];
-        slots::shown(part, i, self.limit, slot, header, body)
+        self.shown_at(part, i, header, body)
     }
 
     // The answer is counted, and nothing else changes.

@@ -427,7 +427,7 @@ fn starts_inside(width: usize, i: usize, length: usize) -> bool
 }
 
 // The first bytes of share i of a store, or nothing where the store ends before them.
-fn start_of(store: &[u8], width: usize, i: usize, count: usize) -> &[u8]
+pub fn start_of(store: &[u8], width: usize, i: usize, count: usize) -> &[u8]
     ensures { λ r. ⌜ now r ≡ startOf width i count (now (store .entry)) ⌝ }
 {
     if !starts_inside(width, i, store.len()) {

@@ -23,6 +23,16 @@ use Rattle.collector.specs.declared.Located.the-variants as Located
 use Rattle.collector.specs.declared.Opening.{Opening}
 use Rattle.collector.specs.declared.Opening.the-variants as Opening
 use Rattle.collector.specs.Calls.{Answered, Opened, takeGroup, dropNumber, openedBy, locate}
+use Rattle.collector.specs.declared.questions.Asked.{Asked}
+use Rattle.collector.specs.declared.questions.Asked.the-variants as Asked
+use Rattle.collector.specs.declared.questions.Sought.{Sought}
+use Rattle.collector.specs.declared.questions.Sought.the-variants as Sought
+use Rattle.collector.specs.Questions.{parameters, find}
+use Rattle.header.specs.declared.Fields.{Fields}
+use Rattle.header.specs.declared.Name.{Name}
+use Rattle.header.specs.declared.Name.the-variants as Name
+use Rattle.header.specs.declared.Priority.{Priority}
+use Rattle.header.specs.declared.Priority.the-variants as Priority
 use Rattle.words.specs.Layout.{headerWord, bodyWord, wordsOf, countWords, collectorFrom, countsFrom, readable}
 
 -- ---- an answer in one word: its number, then the part, the transport number and the segment's number
@@ -142,3 +152,46 @@ finishedCall number state stores place =
     pick (both (eqb (length place) 3) (readable state))
     (placeTold (locate number (collectorFrom state) stores) (collectorFrom state) place)
     (record { result = numberOf State; told = place })
+
+-- ---- what its header says
+
+-- Priority's byte, or 256 where there is none
+abbrev pub priorityWord : Priority → ℕ
+priorityWord Priority.Absent = 256
+priorityWord (Priority.Byte byte) = byte
+
+-- where ContentName's data starts in the header, and how long it is: 0 where there is none, as a name has a byte at least
+abbrev pub nameStart : Name → ℕ
+nameStart Name.Absent = 0
+nameStart (Name.Data start length) = start
+
+abbrev pub nameLength : Name → ℕ
+nameLength Name.Absent = 0
+nameLength (Name.Data start length) = length
+
+abbrev pub fieldWords : Fields → List ℕ
+fieldWords f = f .«body_size» ∷ f .«header_size» ∷ f .«content_type» ∷ f .«content_sub_type» ∷ priorityWord (f .priority) ∷ nameStart (f .name) ∷ nameLength (f .name) ∷ []
+
+abbrev pub unreadWord : Asked → ℕ
+unreadWord (Asked.Refused why) = numberOf why
+unreadWord (Asked.Fields fields) = 0
+
+abbrev pub fieldsTold : Asked → List ℕ → Told
+fieldsTold (Asked.Refused why) told = record { result = numberOf why; told = told }
+fieldsTold (Asked.Fields fields) told = record { result = 0; told = fieldWords fields }
+
+unfoldable pub readCall : ℕ → List ℕ → Stores → List ℕ → Told
+readCall number state stores told =
+    pick (both (eqb (length told) 7) (readable state))
+    (fieldsTold (parameters number (collectorFrom state) stores) told)
+    (record { result = numberOf State; told = told })
+
+-- ---- whose a name is
+
+-- its transport number, where an answer has it
+abbrev pub soughtWord : Sought → ℕ
+soughtWord (Sought.Number number) = number * 65536
+soughtWord (Sought.Refused why) = numberOf why
+
+unfoldable pub findCall : List ℕ → List ℕ → Stores → ℕ
+findCall name state stores = pick (readable state) (soughtWord (find name (collectorFrom state) stores)) (numberOf State)

@@ -9,15 +9,20 @@ use answer::Returned;
 use collector::Collector;
 use collector::Located;
 use collector::Opening;
+use collector::questions::Asked;
+use collector::questions::Sought;
 use gathering::Slot;
 use gathering::Stage;
+use header::Fields;
+use header::Name;
+use header::Priority;
 ghost use mathlib.Core.Path.{_≡_};
 ghost use Prim.Native.Nat.{_<_};
 ghost use lib.ListN.{length};
 ghost use Rattle.cut.specs.Lists.{pick};
 ghost use Rattle.slots.specs.Stores.{slotAt};
 ghost use Rattle.words.specs.Layout.{wordsOf};
-ghost use Rattle.yovtirak.specs.Exports.{openingWord, isOpen, openCall, partWord, heardWord, returnedWord, answerWord, changes, takeCall, dropCall, refusedWord, placeWords, finishedCall};
+ghost use Rattle.yovtirak.specs.Exports.{openingWord, isOpen, openCall, partWord, heardWord, returnedWord, answerWord, changes, takeCall, dropCall, refusedWord, placeWords, finishedCall, priorityWord, nameStart, nameLength, fieldWords, unreadWord, readCall, soughtWord, findCall};
 
 fn part_word(part: Part) -> u64
     ensures { λ r. ⌜ r ≡ partWord part ⌝ }
@@ -259,4 +264,109 @@ pub extern "C" fn yovtirak_finished(
     let slots = collector.slots;
     put_place(place, i, stage_at(slots, i));
     0
+}
+
+fn priority_word(priority: Priority) -> u64
+    ensures { λ r. ⌜ r ≡ priorityWord priority ⌝ }
+{
+    match priority {
+        Priority::Absent => 256,
+        Priority::Byte(byte) => byte as u64,
+    }
+}
+
+fn name_start(name: Name) -> u64
+    ensures { λ r. ⌜ r ≡ nameStart name ⌝ }
+{
+    match name {
+        Name::Absent => 0,
+        Name::Data(start, _) => start as u64,
+    }
+}
+
+fn name_length(name: Name) -> u64
+    ensures { λ r. ⌜ r ≡ nameLength name ⌝ }
+{
+    match name {
+        Name::Absent => 0,
+        Name::Data(_, length) => length as u64,
+    }
+}
+
+fn put_fields(told: &mut [u64], fields: Fields)
+    requires { ⌜ length (now told) ≡ 7 ⌝ }
+    ensures { λ r. ⌜ now (told .exit) ≡ fieldWords fields ⌝ }
+{
+    let priority = fields.priority;
+    let name = fields.name;
+    told[0] = fields.body_size as u64;
+    told[1] = fields.header_size as u64;
+    told[2] = fields.content_type as u64;
+    told[3] = fields.content_sub_type as u64;
+    told[4] = priority_word(priority);
+    told[5] = name_start(name);
+    told[6] = name_length(name);
+}
+
+fn unread_word(asked: Asked) -> u64
+    ensures { λ r. ⌜ r ≡ unreadWord asked ⌝ }
+{
+    match asked {
+        Asked::Refused(answer) => answer::number_of(answer) as u64,
+        Asked::Fields(_) => 0,
+    }
+}
+
+// What a finished object's header says.
+#[no_mangle]
+pub extern "C" fn yovtirak_read(
+    state: &[u64],
+    number: u16,
+    header: &[u8],
+    body: &[u8],
+    marks: &[u8],
+    told: &mut [u64],
+) -> u64
+    ensures { λ r. ⌜ record { result = r; told = now (told .exit) } ≡ readCall number (now (state .entry)) (record { header = now (header .entry); body = now (body .entry); marks = now (marks .entry) }) (now (told .entry)) ⌝ }
+{
+    if told.len() != 7 {
+        return 26;
+    }
+    if !words::readable(state) {
+        return 26;
+    }
+    let collector = words::collector_from(state);
+    let asked = collector.parameters(number, header, body, marks);
+    let Asked::Fields(fields) = asked else {
+        return unread_word(asked);
+    };
+    put_fields(told, fields);
+    0
+}
+
+fn sought_word(sought: Sought) -> u64
+    ensures { λ r. ⌜ r ≡ soughtWord sought ⌝ }
+{
+    match sought {
+        Sought::Number(number) => number as u64 * 65536,
+        Sought::Refused(answer) => answer::number_of(answer) as u64,
+    }
+}
+
+// The finished object that has a name.
+#[no_mangle]
+pub extern "C" fn yovtirak_find(
+    state: &[u64],
+    name: &[u8],
+    header: &[u8],
+    body: &[u8],
+    marks: &[u8],
+) -> u64
+    ensures { λ r. ⌜ r ≡ findCall (now (name .entry)) (now (state .entry)) (record { header = now (header .entry); body = now (body .entry); marks = now (marks .entry) }) ⌝ }
+{
+    if !words::readable(state) {
+        return 26;
+    }
+    let collector = words::collector_from(state);
+    sought_word(collector.find(name, header, body, marks))
 }

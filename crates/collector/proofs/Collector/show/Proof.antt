@@ -1,10 +1,7 @@
 -- `collector::Collector::show` meets its contract: where the object is, then its part of a store.
 -- Assumes nothing.
-use Rattle.collector.specs.Calls.{show}
-use Rattle.collector.proofs.Laws.{located-inside}
-use Rattle.slots.specs.Stores.{freeSlot, slotAt}
-use native.Mathlib.Omega.{arith}
 use mathlib.Core.Path.{sym, _∙_}
+use Rattle.collector.specs.Calls.{show}
 use borrow.Author.Needs.{needs}
 use Rattle.collector.proofs.Collector.show.Statement.{statement}
 use Rattle.collector.proofs.Collector.show.Tie as tie
@@ -25,28 +22,12 @@ returns : tie.Need-returns
 unfolding show
 returns c = rw (sym (c .before .before .before .locate .ensures) ∙ c .before .enum-told .given .1)
 
-slice-aggregate-result-2 : tie.Need-slice-aggregate-result-2
-slice-aggregate-result-2 c = search needs
+shown-at-requires : tie.Need-shown-at-requires
+shown-at-requires c κs = search needs
 
 returns-2 : tie.Need-returns-2
-returns-2 c =
-    let a = c .before .before .before .before .before .before .before .before .before .args in
-    let inside = located-inside (a .number) _ (a .self) (record { header = a .header .now; body = a .body .now; marks = a .marks .now }) (sym (c .before .before .before .before .before .locate .ensures) ∙ c .before .before .before .i .given .1) in
-    absurd (omega (arith, inside))
-
-mul-slot : tie.Need-mul-slot
-mul-slot c = search needs
-
-array-copy-out-slot : tie.Need-array-copy-out-slot
-array-copy-out-slot c = search needs
-
-shown-requires : tie.Need-shown-requires
-shown-requires c κs = search needs
-
-returns-3 : tie.Need-returns-3
-unfolding show slotAt freeSlot
-returns-3 c =
-    rw (sym (c .before .before .before .before .before .before .before .locate .ensures) ∙ c .before .before .before .before .before .i .given .1) (c .shown .ensures)
+unfolding show
+returns-2 c = rw (sym (c .before .before .before .before .locate .ensures) ∙ c .before .before .i .given .1) (c .shown-at .ensures)
 
 pub show-spec : {M : Type 1} → statement M
 show-spec =
@@ -57,9 +38,5 @@ show-spec =
     enum-told
     slice-aggregate-result
     returns
-    slice-aggregate-result-2
-    returns-2
-    mul-slot
-    array-copy-out-slot
-    shown-requires
-    returns-3)
+    shown-at-requires
+    returns-2)

@@ -1,0 +1,110 @@
+// Finished objects and their names (document 01, "Parameters and names"): the header of a slot that
+// holds a finished object, ContentName's data as a part of it, and the lowest transport number among
+// the finished objects that have a name. All of it reads, and what is read may be any bytes: a header
+// that is refused has no name.
+use gathering::Slot;
+use gathering::Stage;
+use header::Found;
+use header::Name;
+use header::Parameter;
+use header::Reading;
+ghost use mathlib.Core.Path.{_≡_};
+ghost use Prim.Native.Nat.{_+_, _≤_};
+ghost use lib.ListN.{length};
+ghost use Rattle.header.specs.Search.{isNamed};
+ghost use Rattle.names.specs.Finding.{headerIn, nameData, lower, foundByName};
+ghost use Rattle.names.specs.Legible.{legible};
+
+// Whose a name is: nobody's, or that of the finished object with this transport number.
+pub enum Holder {
+    Nobody,
+    Number(u16),
+}
+
+// A finished object's header, as the part of the store that has it; nothing of any other slot.
+pub fn header_in(i: usize, slot: Slot, store: &[u8]) -> &[u8]
+    ensures { λ r. ⌜ now r ≡ headerIn i slot (now (store .entry)) ⌝ }
+{
+    let stage = slot.stage;
+    let Stage::Finished(length, _) = stage else {
+        return &store[..0];
+    };
+    slots::start_of(store, cut::HEADER_MOST, i, length)
+}
+
+// ContentName's data, as the part of the header that it is; nothing where there is none.
+pub fn name_data(header: &[u8]) -> &[u8]
+    ensures { λ r. ⌜ now r ≡ nameData (now (header .entry)) ⌝ }
+{
+    let Name::Data(start, size) = header::name_of(header) else {
+        return &header[..0];
+    };
+    let end = start + size;
+    &header[start..end]
+}
+
+// A header that reads; nothing of one that is refused.
+fn legible(header: &[u8]) -> &[u8]
+    ensures { λ r. ⌜ now r ≡ legible (now (header .entry)) ⌝ }
+{
+    let Reading::Read(_) = header::read(header) else {
+        return &header[..0];
+    };
+    header
+}
+
+// Whether a parameter is the ContentName that is asked for.
+fn is_named(header: &[u8], parameter: Parameter, asked: &[u8]) -> bool
+    requires { ⌜ parameter .start + parameter .size ≤ length (now header) ⌝ }
+    ensures { λ r. ⌜ r ≡ isNamed (now (header .entry)) (now (asked .entry)) parameter ⌝ }
+{
+    let start = parameter.start;
+    let end = start + parameter.size;
+    let identifier = parameter.identifier;
+    match identifier {
+        0x0C => header::name_matches(&header[start..end], asked),
+        _ => false,
+    }
+}
+
+fn lower_of(holder: Holder, number: u16) -> Holder
+    ensures { λ r. ⌜ r ≡ lower holder (Holder.Number number) ⌝ }
+{
+    let Holder::Number(held) = holder else {
+        return Holder::Number(number);
+    };
+    if held < number {
+        return holder;
+    }
+    Holder::Number(number)
+}
+
+// The lowest transport number among the finished objects of the first count slots that have a name.
+// No number is lower than 0: once it is found, both loops are left at once.
+pub fn find(asked: &[u8], count: usize, slots: [Slot; 16], store: &[u8]) -> Holder
+    requires { ⌜ count ≤ 16 ⌝ }
+    ensures { λ r. ⌜ r ≡ foundByName (now (asked .entry)) count slots (now (store .entry)) ⌝ }
+{
+    let mut holder = Holder::Nobody;
+    let mut i = 0;
+    'slots: while i < count {
+        let slot = slots[i];
+        let header = legible(header_in(i, slot, store));
+        let mut at = header::CORE;
+        'parameters: while at < header.len() {
+            let Found::One(parameter) = header::parameter_at(header, at) else {
+                break 'parameters;
+            };
+            if is_named(header, parameter, asked) {
+                holder = lower_of(holder, slot.number);
+                if slot.number == 0 {
+                    break 'slots;
+                }
+                break 'parameters;
+            }
+            at = parameter.start + parameter.size;
+        }
+        i += 1;
+    }
+    holder
+}
