@@ -2,7 +2,7 @@
 // counts that the caller lends. Its limits are the type's constants, and opening is a function of
 // the type. Every call checks all that it is given before anything else; what it answers and all that
 // it leaves is one definition (specs/Calls.antt).
-mod questions;
+pub mod questions;
 
 use answer::Answer;
 use answer::Heard;

@@ -33,3 +33,14 @@ three-put (x ∷ []) a b c h = absurd (omega (arith, h))
 three-put (x ∷ y ∷ []) a b c h = absurd (omega (arith, h))
 three-put (x ∷ y ∷ z ∷ []) a b c h = refl
 three-put (x ∷ y ∷ z ∷ w ∷ l) a b c h = absurd (omega (arith, h))
+
+pub seven-put : (l : List ℕ) (a b c d e f g : ℕ) → length l ≡ 7 → set (set (set (set (set (set (set l 0 a) 1 b) 2 c) 3 d) 4 e) 5 f) 6 g ≡ a ∷ b ∷ c ∷ d ∷ e ∷ f ∷ g ∷ []
+seven-put [] a b c d e f g h = absurd (omega (arith, h))
+seven-put (t ∷ []) a b c d e f g h = absurd (omega (arith, h))
+seven-put (t ∷ u ∷ []) a b c d e f g h = absurd (omega (arith, h))
+seven-put (t ∷ u ∷ v ∷ []) a b c d e f g h = absurd (omega (arith, h))
+seven-put (t ∷ u ∷ v ∷ w ∷ []) a b c d e f g h = absurd (omega (arith, h))
+seven-put (t ∷ u ∷ v ∷ w ∷ x ∷ []) a b c d e f g h = absurd (omega (arith, h))
+seven-put (t ∷ u ∷ v ∷ w ∷ x ∷ y ∷ []) a b c d e f g h = absurd (omega (arith, h))
+seven-put (t ∷ u ∷ v ∷ w ∷ x ∷ y ∷ z ∷ []) a b c d e f g h = refl
+seven-put (t ∷ u ∷ v ∷ w ∷ x ∷ y ∷ z ∷ s ∷ l) a b c d e f g h = absurd (omega (arith, h))

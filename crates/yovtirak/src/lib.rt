@@ -319,11 +319,11 @@ fn unread_word(asked: Asked) -> u64
 
 // What a finished object's header says.
 #[no_mangle]
-pub extern "C" fn yovtirak_read(
+pub extern "C" fn yovtirak_read<'a>(
     state: &[u64],
     number: u16,
-    header: &[u8],
-    body: &[u8],
+    header: &'a [u8],
+    body: &'a [u8],
     marks: &[u8],
     told: &mut [u64],
 ) -> u64
