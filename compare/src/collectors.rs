@@ -18,6 +18,10 @@ const LIMITS: [usize; 4] = [1_024, 12_288, 65_536, 1_048_576];
 /// Stores up to this many bytes are compared after every call.
 const SMALL: usize = 40_000;
 
+/// What no call of a collector that is open and sound, with a whole core in each finished header, is
+/// answered: `states` and `openings` have these.
+const OTHERS: [Answer; 3] = [Answer::Core, Answer::Limits, Answer::State];
+
 /// How often each answer was given.
 pub type Tally = BTreeMap<&'static str, usize>;
 
@@ -34,6 +38,11 @@ fn counts_near_the_most(random: &mut Random) -> Counts {
         completed: near(),
         dropped: near(),
     }
+}
+
+fn told(tally: &mut Tally, what: &'static str) -> Result<(), String> {
+    *tally.entry(what).or_default() += 1;
+    Ok(())
 }
 
 /// One call of both.
@@ -67,11 +76,30 @@ pub fn call(
                 return Err(differ("a shown part", ours, theirs));
             }
             match theirs {
-                Ok(_) => return Ok(()),
+                Ok(_) => return told(tally, "a part shown"),
                 Err(answer) => answer,
             }
         }
-        Call::ReadHeader(_) | Call::Find(_) => return Ok(()),
+        Call::ReadHeader(transport) => {
+            let (ours, theirs) = (lent.read(*transport), collector.read_header(*transport));
+            if ours != theirs {
+                return Err(differ("a header", ours, theirs));
+            }
+            match theirs {
+                Ok(_) => return told(tally, "a header read"),
+                Err(answer) => answer,
+            }
+        }
+        Call::Find(name) => {
+            let (ours, theirs) = (lent.find(name), collector.find(name));
+            if ours != theirs {
+                return Err(differ("a name", ours, theirs));
+            }
+            match theirs {
+                Ok(_) => return told(tally, "a name found"),
+                Err(answer) => answer,
+            }
+        }
     };
     *tally.entry(answer.name()).or_default() += 1;
     Ok(())
@@ -127,9 +155,9 @@ pub fn run() -> Result<String, String> {
         history(&mut Random::from_seed(SEED + number), &mut tally)
             .map_err(|said| format!("history {number}: {said}"))?;
     }
-    let missing: Vec<_> = Answer::ALL[..15]
-        .iter()
-        .filter(|answer| !tally.contains_key(answer.name()))
+    let missing: Vec<_> = Answer::ALL
+        .into_iter()
+        .filter(|answer| !OTHERS.contains(answer) && !tally.contains_key(answer.name()))
         .collect();
     if !missing.is_empty() {
         return Err(format!("never given: {missing:?}"));

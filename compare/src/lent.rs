@@ -3,8 +3,10 @@
 use independent::answer::{Answer, Reply};
 use independent::collector::{Collector, Memory, HEADER_SHARE};
 use independent::group::Part;
+use independent::header::Reading;
+use independent::object::Core;
 use independent::state::{StageRecord, State};
-use yovtirak::lent::{self, COUNTS, PLACE_WORDS, STATE_WORDS};
+use yovtirak::lent::{self, COUNTS, FIELD_WORDS, PLACE_WORDS, STATE_WORDS};
 
 pub struct Lent {
     pub state: Vec<u64>,
@@ -100,6 +102,48 @@ impl Lent {
             Part::Header => &self.memory.header_store[slot * HEADER_SHARE..][..header],
             Part::Body => &self.memory.body_store[slot * self.state[0] as usize..][..body],
         })
+    }
+
+    /// What a finished object's header says.
+    pub fn read(&self, transport: u16) -> Result<Reading, Answer> {
+        let mut told = [0; FIELD_WORDS];
+        let said = lent::read(
+            &self.state,
+            transport,
+            &self.memory.header_store,
+            &self.memory.body_store,
+            &self.memory.marks,
+            &mut told,
+        );
+        if said != 0 {
+            return Err(answer_of(said));
+        }
+        let [body_size, header_size, content_type, content_sub_type, priority, start, length] =
+            told.map(|word| word as usize);
+        Ok(Reading {
+            core: Core {
+                body_size,
+                header_size,
+                content_type: content_type as u8,
+                content_subtype: content_sub_type as u16,
+            },
+            priority: u8::try_from(priority).ok(),
+            name: (length > 0).then_some(start..start + length),
+        })
+    }
+
+    pub fn find(&self, name: &[u8]) -> Result<u16, Answer> {
+        let said = lent::find(
+            &self.state,
+            name,
+            &self.memory.header_store,
+            &self.memory.body_store,
+            &self.memory.marks,
+        );
+        match said & 0xFF {
+            0 => Ok((said >> 16) as u16),
+            refused => Err(answer_of(refused)),
+        }
     }
 
     /// The state's words.

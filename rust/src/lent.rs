@@ -7,6 +7,10 @@ pub const STATE_WORDS: usize = 162;
 pub const COUNTS: usize = 5;
 /// Words that tell where a finished object is: its slot, its header's length and its body's.
 pub const PLACE_WORDS: usize = 3;
+/// Words that tell what a header says: BodySize, HeaderSize, ContentType, ContentSubType, Priority
+/// (256 where it is absent), and where the data of ContentName starts in the header and how many
+/// bytes it has (0 where it is absent).
+pub const FIELD_WORDS: usize = 7;
 /// Bytes of the header store, for each slot.
 pub const HEADER_SHARE: usize = 1_024;
 /// Marks, for each slot.
@@ -67,6 +71,31 @@ mod linked {
             marks_bytes: usize,
             place: *mut u64,
             place_words: usize,
+        ) -> u64;
+        pub fn yovtirak_read(
+            state: *const u64,
+            state_words: usize,
+            number: u16,
+            header: *const u8,
+            header_bytes: usize,
+            body: *const u8,
+            body_bytes: usize,
+            marks: *const u8,
+            marks_bytes: usize,
+            told: *mut u64,
+            told_words: usize,
+        ) -> u64;
+        pub fn yovtirak_find(
+            state: *const u64,
+            state_words: usize,
+            name: *const u8,
+            name_bytes: usize,
+            header: *const u8,
+            header_bytes: usize,
+            body: *const u8,
+            body_bytes: usize,
+            marks: *const u8,
+            marks_bytes: usize,
         ) -> u64;
     }
 }
@@ -178,6 +207,52 @@ pub fn finished(
             marks.len(),
             place.as_mut_ptr(),
             place.len(),
+        )
+    }
+}
+
+/// What a finished object's header says: 0 and `told` told, or the number of the answer that says
+/// why not.
+pub fn read(
+    state: &[u64],
+    number: u16,
+    header: &[u8],
+    body: &[u8],
+    marks: &[u8],
+    told: &mut [u64],
+) -> u64 {
+    unsafe {
+        linked::yovtirak_read(
+            state.as_ptr(),
+            state.len(),
+            number,
+            header.as_ptr(),
+            header.len(),
+            body.as_ptr(),
+            body.len(),
+            marks.as_ptr(),
+            marks.len(),
+            told.as_mut_ptr(),
+            told.len(),
+        )
+    }
+}
+
+/// The finished object that has a name: a word with its transport number, or the number of the
+/// answer that says why there is none.
+pub fn find(state: &[u64], name: &[u8], header: &[u8], body: &[u8], marks: &[u8]) -> u64 {
+    unsafe {
+        linked::yovtirak_find(
+            state.as_ptr(),
+            state.len(),
+            name.as_ptr(),
+            name.len(),
+            header.as_ptr(),
+            header.len(),
+            body.as_ptr(),
+            body.len(),
+            marks.as_ptr(),
+            marks.len(),
         )
     }
 }

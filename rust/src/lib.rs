@@ -25,7 +25,7 @@ mod answer;
 pub mod lent;
 
 pub use answer::{Answer, Part, Reply, Segment};
-use lent::{COUNTS, HEADER_SHARE, MARKS_SHARE, PLACE_WORDS, STATE_WORDS};
+use lent::{COUNTS, FIELD_WORDS, HEADER_SHARE, MARKS_SHARE, PLACE_WORDS, STATE_WORDS};
 
 /// How many answers of each kind there were since opening; each stays at 2147483647.
 #[derive(Clone, Copy, Debug, Default, PartialEq, Eq)]
@@ -35,6 +35,18 @@ pub struct Counts {
     pub refused: u32,
     pub completed: u32,
     pub dropped: u32,
+}
+
+/// What the header of a finished object says.
+#[derive(Clone, Copy, Debug, PartialEq, Eq)]
+pub struct Parameters<'a> {
+    pub body_size: u32,
+    pub header_size: u16,
+    pub content_type: u8,
+    pub content_sub_type: u16,
+    pub priority: Option<u8>,
+    /// ContentName's data: the character set byte, then the name.
+    pub name: Option<&'a [u8]>,
 }
 
 /// A collector that owns its memory.
@@ -111,6 +123,43 @@ impl Collector {
     pub fn body(&self, number: u16) -> Result<&[u8], Answer> {
         let [slot, _, length] = self.finished(number)?;
         Ok(&self.body[slot * self.limit..][..length])
+    }
+
+    /// What a finished object's header says.
+    pub fn parameters(&self, number: u16) -> Result<Parameters<'_>, Answer> {
+        let mut told = [0; FIELD_WORDS];
+        let said = lent::read(
+            &self.state,
+            number,
+            &self.header,
+            &self.body,
+            &self.marks,
+            &mut told,
+        );
+        if said != 0 {
+            return Err(Answer::of(said));
+        }
+        let header = self.header(number)?;
+        let [body_size, header_size, content_type, content_sub_type, priority, start, length] =
+            told;
+        Ok(Parameters {
+            body_size: body_size as u32,
+            header_size: header_size as u16,
+            content_type: content_type as u8,
+            content_sub_type: content_sub_type as u16,
+            priority: u8::try_from(priority).ok(),
+            name: (length > 0).then(|| &header[start as usize..][..length as usize]),
+        })
+    }
+
+    /// The lowest transport number among the finished objects of this name, which comes without a
+    /// character set byte; one leading slash on either side plays no part.
+    pub fn find(&self, name: &[u8]) -> Result<u16, Answer> {
+        let said = lent::find(&self.state, name, &self.header, &self.body, &self.marks);
+        match said & 0xFF {
+            0 => Ok((said >> 16) as u16),
+            refused => Err(Answer::of(refused)),
+        }
     }
 
     pub fn counts(&self) -> Counts {

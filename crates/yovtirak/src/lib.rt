@@ -18,7 +18,7 @@ use header::Name;
 use header::Priority;
 ghost use mathlib.Core.Path.{_≡_};
 ghost use Prim.Native.Nat.{_<_};
-ghost use lib.ListN.{length};
+ghost use lib.ListN.{length, getD};
 ghost use Rattle.cut.specs.Lists.{pick};
 ghost use Rattle.slots.specs.Stores.{slotAt};
 ghost use Rattle.words.specs.Layout.{wordsOf};
@@ -369,4 +369,16 @@ pub extern "C" fn yovtirak_find(
     }
     let collector = words::collector_from(state);
     sought_word(collector.find(name, header, body, marks))
+}
+
+// One of the five counts, in the order taken, repeated, refused, completed, dropped; 0 where there
+// is none of that number.
+#[no_mangle]
+pub extern "C" fn yovtirak_count(counts: &[u32], which: usize) -> u32
+    ensures { λ r. ⌜ r ≡ getD (now (counts .entry)) which 0 ⌝ }
+{
+    if counts.len() <= which {
+        return 0;
+    }
+    counts[which]
 }
