@@ -149,9 +149,11 @@ fn history(random: &mut Random, tally: &mut Tally) -> Result<(), String> {
     same(&lent, &collector, true)
 }
 
-pub fn run() -> Result<String, String> {
+/// All histories, or the first few: under a checker of memory each takes long.
+pub fn run(few: Option<u64>) -> Result<String, String> {
     let mut tally = Tally::new();
-    for number in 0..HISTORIES {
+    let histories = few.unwrap_or(HISTORIES);
+    for number in 0..histories {
         history(&mut Random::from_seed(SEED + number), &mut tally)
             .map_err(|said| format!("history {number}: {said}"))?;
     }
@@ -159,11 +161,11 @@ pub fn run() -> Result<String, String> {
         .into_iter()
         .filter(|answer| !OTHERS.contains(answer) && !tally.contains_key(answer.name()))
         .collect();
-    if !missing.is_empty() {
+    if few.is_none() && !missing.is_empty() {
         return Err(format!("never given: {missing:?}"));
     }
     let calls: usize = tally.values().sum();
     Ok(format!(
-        "{HISTORIES} histories, {calls} answers compared {tally:?}"
+        "{histories} histories, {calls} answers compared {tally:?}"
     ))
 }

@@ -1,11 +1,14 @@
 //! Runs the proved functions and the independent program on the same input and says how much was
-//! compared. The word after the program's name says which comparison; whatever differs ends it
+//! compared. The word after the program's name says which comparison, a number after `collectors` how
+//! many histories of it; whatever differs ends it
 //! with a status that is not zero.
 
 mod collectors;
 mod decision;
+mod heads;
 mod lent;
 mod listings;
+mod names;
 mod proved;
 mod readings;
 mod states;
@@ -14,14 +17,18 @@ use std::process::ExitCode;
 
 fn main() -> ExitCode {
     let asked = std::env::args().nth(1).unwrap_or_default();
+    let few = std::env::args().nth(2).and_then(|count| count.parse().ok());
     let outcome = match asked.as_str() {
-        "collectors" => collectors::run(),
+        "collectors" => collectors::run(few),
         "listings" => listings::run(),
         "readings" => readings::run(),
         "decision" => decision::run(),
+        "heads" => heads::run(),
+        "names" => names::run(),
         "states" => states::run(),
         _ => Err(
-            "say which comparison: readings, decision, collectors, states or listings".to_string(),
+            "say which comparison: readings, decision, collectors, states, names, heads or listings"
+                .to_string(),
         ),
     };
     match outcome {
