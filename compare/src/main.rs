@@ -3,6 +3,7 @@
 //! with a status that is not zero.
 
 mod decision;
+mod headers;
 mod listings;
 mod proved;
 mod readings;
@@ -15,7 +16,8 @@ fn main() -> ExitCode {
         "listings" => listings::run(),
         "readings" => readings::run(),
         "decision" => decision::run(),
-        _ => Err("say which comparison: readings, decision or listings".to_string()),
+        "headers" => headers::run(),
+        _ => Err("say which comparison: readings, decision, headers or listings".to_string()),
     };
     match outcome {
         Ok(said) => {
