@@ -1,10 +1,10 @@
 //! Runs the proved functions and the independent program on the same input and says how much was
 //! compared. The word after the program's name says which comparison, a number after `collectors` how
-//! many histories of it; whatever differs ends it
-//! with a status that is not zero.
+//! many histories of it; whatever differs ends it with a status that is not zero.
 
 mod collectors;
 mod decision;
+mod headers;
 mod heads;
 mod lent;
 mod listings;
@@ -23,13 +23,11 @@ fn main() -> ExitCode {
         "listings" => listings::run(),
         "readings" => readings::run(),
         "decision" => decision::run(),
+        "headers" => headers::run(),
         "heads" => heads::run(),
         "names" => names::run(),
         "states" => states::run(),
-        _ => Err(
-            "say which comparison: readings, decision, collectors, states, names, heads or listings"
-                .to_string(),
-        ),
+        _ => Err("say which comparison: readings, decision, headers, collectors, states, names, heads or listings".to_string()),
     };
     match outcome {
         Ok(said) => {

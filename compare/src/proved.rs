@@ -1,8 +1,10 @@
 //! The proved functions, as crate `compared` exports them. Nothing checks these declarations
 //! against the source, so they are few and on numbers and slices alone.
 
+use independent::answer::Answer;
 use independent::group::{Part, Reading, Refusal, Segment};
-use independent::object::Piece;
+use independent::header;
+use independent::object::{Core, Piece};
 
 extern "C" {
     fn compared_check_word(bytes: *const u8, length: usize) -> u16;
@@ -38,6 +40,13 @@ extern "C" {
     ) -> usize;
     fn compared_body_size(bytes: *const u8, length: usize) -> u32;
     fn compared_header_size(bytes: *const u8, length: usize) -> u16;
+    fn compared_header(header: *const u8, length: usize, field: u8) -> u64;
+    fn compared_name_matches(
+        data: *const u8,
+        data_length: usize,
+        asked: *const u8,
+        asked_length: usize,
+    ) -> bool;
 }
 
 pub fn check_word(bytes: &[u8]) -> u16 {
@@ -70,6 +79,46 @@ pub fn reading(group: &[u8]) -> Reading {
         start: field(group, 5) as usize,
         length: field(group, 6) as usize,
     })
+}
+
+fn header_field(header: &[u8], number: u8) -> u64 {
+    // SAFETY: as above.
+    unsafe { compared_header(header.as_ptr(), header.len(), number) }
+}
+
+/// What the proved reader makes of a header, in the independent program's words.
+pub fn header(header: &[u8]) -> Result<header::Reading, Answer> {
+    let field = |number| header_field(header, number);
+    let refused = field(0);
+    if refused != 0 {
+        let mut answers = Answer::ALL.into_iter();
+        let answer = answers.find(|answer| u64::from(answer.number()) == refused);
+        return Err(answer.expect("a refusal's number is one of document 01's"));
+    }
+    let (start, size) = (field(6) as usize, field(7) as usize);
+    Ok(header::Reading {
+        core: Core {
+            body_size: field(1) as usize,
+            header_size: field(2) as usize,
+            content_type: field(3) as u8,
+            content_subtype: field(4) as u16,
+        },
+        priority: field(5).checked_sub(1).map(|byte| byte as u8),
+        name: (size > 0).then_some(start..start + size),
+    })
+}
+
+/// Whether the proved reader finds this name in a header: a part of it, matched.
+pub fn has_name(header: &[u8], asked: &[u8]) -> bool {
+    let Ok(header::Reading {
+        name: Some(name), ..
+    }) = self::header(header)
+    else {
+        return false;
+    };
+    let data = &header[name];
+    // SAFETY: two slices' own pointers and lengths.
+    unsafe { compared_name_matches(data.as_ptr(), data.len(), asked.as_ptr(), asked.len()) }
 }
 
 /// What is kept of the segments of a part.

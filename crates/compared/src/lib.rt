@@ -1,6 +1,7 @@
 // What the comparison with the independent program calls, from Rust: the proved functions below
 // the collector, exported on numbers and slices. Nothing else links it.
 mod decision;
+mod headers;
 
 use answer::Answer;
 use answer::Part;

@@ -138,6 +138,18 @@ module _ (asked store : List ℕ) where
 
 -- ---- the objects
 
+-- a slot past the end holds no object
+pub object-there : (count : ℕ) (slots : List Slot) (store : List ℕ) (number : ℕ) (header : List ℕ) (o : Object count slots store number header) → o .slot < length (take count slots)
+unfolding slotAt freeSlot
+object-there count slots store number header o = rw length-take (omega (arith, o .inside, go (decLt (o .slot) (length slots))))
+  where
+    go : Dec (o .slot < length slots) → o .slot < length slots
+    go (yes g) = g
+    go (no g) =
+        let e : slotAt (o .slot) slots ≡ freeSlot = List·getD-eq-default slots freeSlot (omega arith) in
+        let z : _≡_ {A = ℕ} 0 1 = cc (o .finished, ap (λ (x : Slot). x .stage) e) in
+        absurd (omega arith)
+
 -- nothing has no name
 nothing-named : (asked : List ℕ) → Named asked [] → ⊥
 nothing-named asked n = let z : _≡_ {A = ℕ} 0 1 = cc (n .reads, given-only [] (core (omega arith))) in omega arith
@@ -168,23 +180,11 @@ module _ (asked : List ℕ) (count : ℕ) (slots : List Slot) (store : List ℕ)
         rw (s .2) at n,
       )
 
-  -- a slot past the end holds no object
-  object-there : (number : ℕ) (header : List ℕ) (o : Object count slots store number header) → o .slot < length (take count slots)
-  unfolding slotAt freeSlot
-  object-there number header o = rw length-take (omega (arith, o .inside, go (decLt (o .slot) (length slots))))
-    where
-      go : Dec (o .slot < length slots) → o .slot < length slots
-      go (yes g) = g
-      go (no g) =
-          let e : slotAt (o .slot) slots ≡ freeSlot = List·getD-eq-default slots freeSlot (omega arith) in
-          let z : _≡_ {A = ℕ} 0 1 = cc (o .finished, ap (λ (x : Slot). x .stage) e) in
-          absurd (omega arith)
-
   -- and an object that has the name is in such a slot
   slot-of : (number : ℕ) (header : List ℕ) (o : Object count slots store number header) → Named asked header → (o .slot < length (take count slots)) × (passes asked store 0 (take count slots) (o .slot) ≡ true) × (getD (take count slots) (o .slot) freeSlot .number ≡ number)
   unfolding passes headerIn
   slot-of number header o n =
-      let there = object-there number header o in
+      let there = object-there count slots store number header o in
       let f = first (o .slot) there in (
         there,
         rw (f .1, zero-add (o .slot), o .finished, o .stored) (has-name asked header .1 n),

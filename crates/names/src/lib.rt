@@ -22,7 +22,7 @@ pub enum Holder {
 }
 
 // A finished object's header, as the part of the store that has it; nothing of any other slot.
-pub fn header_in(i: usize, slot: Slot, store: &[u8]) -> &[u8]
+fn header_in(i: usize, slot: Slot, store: &[u8]) -> &[u8]
     ensures { λ r. ⌜ now r ≡ headerIn i slot (now (store .entry)) ⌝ }
 {
     let stage = slot.stage;

@@ -9,3 +9,4 @@ pub mod Shares
 pub mod Fresh
 pub mod Show
 pub mod Ready
+pub mod Held

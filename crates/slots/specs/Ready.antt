@@ -99,7 +99,7 @@ module _ (limit count : ℕ) (slots : List Slot) (stores : Stores) (sound : soun
   }
 
   -- the slot that is found is one of them, right, and passes the test
-  found-right : (test : Slot → Bool) (i : ℕ) → firstFrom test 0 (take count slots) ≡ At i → (i < count) × (test (slotAt i slots) ≡ true) × (rightSlot limit (slotAt i slots) (lentAt limit i stores) ≡ true)
+  pub found-right : (test : Slot → Bool) (i : ℕ) → firstFrom test 0 (take count slots) ≡ At i → (i < count) × (test (slotAt i slots) ≡ true) × (rightSlot limit (slotAt i slots) (lentAt limit i stores) ≡ true)
   unfolding soundSlots slotAt
   found-right test i e =
       let r = found-passes test 0 i (take count slots) e in
