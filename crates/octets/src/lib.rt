@@ -4,12 +4,15 @@
 // after it and how it reads on the whole store; what marks add up to is in specs/Marks.antt. This is how document 01
 // stores a segment ("One object, one cut"). No loop here leaves early: a pass over all bytes is the faster one.
 ghost use mathlib.Core.Path.{_≡_};
-ghost use Prim.Native.Nat.{_+_, _≤_};
+ghost use Prim.Native.Nat.{_+_, _*_, _≤_, min};
 ghost use lib.ListN.{length, take, drop};
-ghost use Rattle.octets.specs.Octets.{over, zeros, equal, largestOf, summed};
+ghost use Rattle.octets.specs.Octets.{over, zeros, equal, largestOf, sumOf, summed};
 
 // The most bytes that are summed: with this many a sum fits a u32 whatever the bytes are.
 pub const SUMMED: usize = 65_536;
+
+// Bytes of a block: the sum of one fits a u16.
+const BLOCK: usize = 256;
 
 // `src` over the start of `dst`; the rest of `dst` stays.
 pub fn copy_in(dst: &mut [u8], src: &[u8])
@@ -80,6 +83,31 @@ pub fn largest(marks: &[u8]) -> u8
     top
 }
 
+// The sum of a block of bytes, in a u16: half as wide a sum is more than twice as quick.
+fn sum_block(block: &[u8]) -> u16
+    requires { ⌜ length (now block) ≤ 256 ⌝ }
+    ensures { λ r. ⌜ (r ≡ sumOf (now (block .entry))) × (r ≤ 255 * length (now (block .entry))) ⌝ }
+{
+    let mut total: u16 = 0;
+    let mut i = 0;
+    while i < block.len() {
+        total += block[i] as u16;
+        i += 1;
+    }
+    total
+}
+
+// Where the block that begins at `at` ends.
+fn block_end(at: usize, end: usize) -> usize
+    requires { ⌜ at ≤ end ⌝ }
+    ensures { λ r. ⌜ r ≡ min (at + 256) end ⌝ }
+{
+    if end - at < BLOCK {
+        return end;
+    }
+    at + BLOCK
+}
+
 // The sum of the bytes. A slice of more than `SUMMED` bytes is not summed and gives the largest u32, so that no slice of
 // any length makes the sum wrap.
 pub fn sum(marks: &[u8]) -> u32
@@ -89,10 +117,11 @@ pub fn sum(marks: &[u8]) -> u32
         return 4_294_967_295;
     }
     let mut total: u32 = 0;
-    let mut i = 0;
-    while i < marks.len() {
-        total += marks[i] as u32;
-        i += 1;
+    let mut at = 0;
+    while at < marks.len() {
+        let end = block_end(at, marks.len());
+        total += sum_block(&marks[at..end]) as u32;
+        at = end;
     }
     total
 }

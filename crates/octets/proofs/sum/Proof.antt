@@ -1,21 +1,28 @@
 -- The loop's invariant: the sum so far and the sum of what is left are the whole sum; the sum so far is at most 255 for each byte passed.
 use Prim.Native.Nat.{_≤_, _+_, _*_, _-_}
-use mathlib.Core.Path.{_≡_}
+use mathlib.Core.Path.{_≡_, refl}
 use borrow.Author.Tests.{lt-leb}
-use lib.ListN.{length, drop}
-use lib.Seq.{drop-length}
+use lib.ListN.{length, take, drop}
+use lib.Seq.{drop-length, drop-drop}
 use Rattle.octets.specs.Octets.{sumOf, summed}
-use Rattle.octets.specs.Marks.{summed-short}
-use Rattle.octets.proofs.Turns.{sum-turn}
+use Rattle.octets.specs.Over.{part-length}
+use Rattle.octets.specs.Marks.{summed-short, sum-split}
 use native.Mathlib.Omega.{arith}
+use borrow.Author.Needs.{needs}
 use Rattle.octets.proofs.sum.Statement.{statement}
 use Rattle.octets.proofs.sum.Tie as tie
 
 abbrev Inv-loop : tie.InvT-loop
-Inv-loop marks total₀ i₀ total i = (i ≤ length marks) × (total ≤ 255 * i) × (total + sumOf (drop i marks) ≡ sumOf marks)
+Inv-loop marks total₀ at₀ total at = (at ≤ length marks) × (total ≤ 255 * at) × (total + sumOf (drop at marks) ≡ sumOf marks)
 
 abbrev μ-loop : tie.MeasureT-loop
-μ-loop marks total₀ i₀ total i = length marks - i
+μ-loop marks total₀ at₀ total at = length marks - at
+
+-- a block adds at most 255 for each of its bytes
+small : (c : tie.After-sum-block Inv-loop μ-loop) → c .sum-block .result ≤ 255 * (c .before .before .block-end .result - c .before .before .before .before .loop .at)
+small c =
+    let k = c .before .before .before .before in
+    rw (part-length (k .before .before .before .args .marks .now) (k .loop .at) (c .before .before .block-end .result - k .loop .at) (omega arith)) at (c .sum-block .ensures .1)
 
 returns : tie.Need-returns Inv-loop μ-loop
 unfolding summed
@@ -24,32 +31,47 @@ returns c = rw (lt-leb _ _ (c .if1 .taken))
 loop-holds : tie.Need-loop-holds Inv-loop μ-loop
 loop-holds c = omega arith
 
-shared-slice-read-total : tie.Need-shared-slice-read-total Inv-loop μ-loop
-shared-slice-read-total c = omega arith
+block-end-requires : tie.Need-block-end-requires Inv-loop μ-loop
+block-end-requires c κs = omega arith
+
+sub-sum-block : tie.Need-sub-sum-block Inv-loop μ-loop
+sub-sum-block c = omega arith
+
+part-sum-block-start : tie.Need-part-sum-block-start Inv-loop μ-loop
+part-sum-block-start c = omega arith
+
+part-sum-block-end : tie.Need-part-sum-block-end Inv-loop μ-loop
+part-sum-block-end c = omega arith
+
+sum-block-requires : tie.Need-sum-block-requires Inv-loop μ-loop
+sum-block-requires c κs =
+    let k = c .before .before .before in
+    rw (part-length (k .before .before .before .args .marks .now) (k .loop .at) (c .before .block-end .result - k .loop .at) (omega arith)) (omega arith)
 
 cast-total : tie.Need-cast-total Inv-loop μ-loop
-cast-total c = omega (arith, c .shared-slice-known .given (c .before .before .loop .i))
+cast-total c = search needs
 
 add-total : tie.Need-add-total Inv-loop μ-loop
-add-total c = omega (arith, c .shared-slice-known .given (c .before .before .loop .i))
-
-add-i : tie.Need-add-i Inv-loop μ-loop
-add-i c = omega arith
+add-total c = record { fits = omega (arith, small c) }
 
 loop-less : tie.Need-loop-less Inv-loop μ-loop
 loop-less c = omega arith
 
 loop-again : tie.Need-loop-again Inv-loop μ-loop
 loop-again c =
-    let s = c .before .before in
-    let l = s .before .before .args .marks .now in
-    omega (arith, sum-turn l (s .loop .i) (omega arith), c .shared-slice-known .given (s .loop .i))
+    let k = c .before .before .before .before in
+    let l = k .before .before .before .args .marks .now in
+    let e = c .before .before .block-end .result in
+    let there : k .loop .at + (e - k .loop .at) ≡ e = omega arith in
+    let rest : drop (e - k .loop .at) (drop (k .loop .at) l) ≡ drop e l = rw (drop-drop (e - k .loop .at) (k .loop .at) l, there) refl in
+    let more : sumOf (drop (k .loop .at) l) ≡ sumOf (take (e - k .loop .at) (drop (k .loop .at) l)) + sumOf (drop e l) = rw (← rest) (sum-split (drop (k .loop .at) l) (e - k .loop .at)) in
+    omega (arith, more, c .sum-block .ensures .0, small c)
 
 returns-2 : tie.Need-returns-2 Inv-loop μ-loop
 returns-2 c =
-    let l = c .before .before .before .args .marks .now in
-    let e : c .before .loop .i ≡ length l = omega arith in
-    let z : sumOf (drop (c .before .loop .i) l) ≡ 0 = rw (e, drop-length) in
+    let l = c .before .before .before .before .args .marks .now in
+    let e : c .before .loop .at ≡ length l = omega arith in
+    let z : sumOf (drop (c .before .loop .at) l) ≡ 0 = rw (e, drop-length) in
     rw (summed-short l (omega arith)) (omega arith)
 
 pub sum-spec : {M : Type 1} → statement M
@@ -60,10 +82,13 @@ sum-spec =
     μ-loop
     returns
     loop-holds
-    shared-slice-read-total
+    block-end-requires
+    sub-sum-block
+    part-sum-block-start
+    part-sum-block-end
+    sum-block-requires
     cast-total
     add-total
-    add-i
     loop-less
     loop-again
     returns-2)
