@@ -1,7 +1,6 @@
-// Finished objects and their names (document 01, "Parameters and names"): the header of a slot that
-// holds a finished object, ContentName's data as a part of it, and the lowest transport number among
-// the finished objects that have a name. All of it reads, and what is read may be any bytes: a header
-// that is refused has no name.
+// Finished objects and their names (document 01, "Parameters and names"): ContentName's data as a part
+// of a header, and the lowest transport number among the finished objects that have a name. What is
+// read may be any bytes: a header that is refused has no name.
 use gathering::Slot;
 use gathering::Stage;
 use header::Found;
