@@ -1,0 +1,7 @@
+pub mod Slots
+pub mod Call
+pub mod Counts
+pub mod Ready
+pub mod Taken
+pub mod Sound
+pub mod Refused
