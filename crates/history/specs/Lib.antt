@@ -5,3 +5,5 @@ pub mod Ready
 pub mod Taken
 pub mod Sound
 pub mod Refused
+pub mod Shown
+pub mod Others

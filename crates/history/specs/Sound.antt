@@ -64,8 +64,12 @@ answered-intact answer s whole = record {
   bytes = whole .bytes;
 }
 
-lent-is-wide : (limit : ℕ) (lent : Lent) → IsLent limit lent → Wide limit lent
+pub lent-is-wide : (limit : ℕ) (lent : Lent) → IsLent limit lent → Wide limit lent
 lent-is-wide limit lent l = record { header = l .headerLength; body = l .bodyLength; marks = l .marksLength }
+
+-- the shares of a slot, its marks cleared
+pub cleared-lent : (limit : ℕ) (lent : Lent) → IsLent limit lent → IsLent limit (cleared lent)
+cleared-lent limit lent l = record { headerLength = l .headerLength; bodyLength = l .bodyLength; marksLength = zeros-length slotMarks; headerBytes = l .headerBytes; bodyBytes = l .bodyBytes }
 
 with-bytes : (limit i : ℕ) (lent : Lent) (stores : Stores) → IsLent limit lent → OfBytes stores → OfBytes (withLent limit i lent stores)
 unfolding withLent
@@ -89,6 +93,15 @@ module _ (s : State) (whole : Intact s) where
   low : limitOf s ≤ limitMost
   low = limit-low s (whole .undamaged)
 
+  -- what is lent for the slot is as it has to be afterwards
+  pub more-lent : (number i : ℕ) (part : Part) (segment : Segment) → Bytes (segment .bytes) → find number s ≡ At i → IsLent (limitOf s) (takeInto part (limitOf s) segment (slotOf i s) (lentOf i s) .lent)
+  more-lent number i part segment y e = lent-stays part (limitOf s) segment (slotOf i s) (lentOf i s) low y (used-lent s (whole .undamaged) i (found-used s (whole .undamaged) number i e) (whole .bytes)) (found-sound s (whole .undamaged) number i e)
+
+  pub first-lent : (number i : ℕ) (part : Part) (segment : Segment) → Bytes (segment .bytes) → free s ≡ At i → IsLent (limitOf s) (takeInto part (limitOf s) segment (freshSlot number) (lentOf i s) .lent)
+  first-lent number i part segment y e =
+      let lends = used-lent s (whole .undamaged) i (free-used s (whole .undamaged) i e) (whole .bytes) in
+      taken-lent part (limitOf s) segment (freshSlot number) (lentOf i s) [] [] low y lends (fresh-gathers part (limitOf s) number segment (lentOf i s) low y lends (free-marks s (whole .undamaged) i e))
+
   -- a segment offered to the slot that holds its number
   more-intact : (answer : Answer) (number i : ℕ) (part : Part) (segment : Segment) → Bytes (segment .bytes) → find number s ≡ At i
       → Intact (left (replacing answer i (takeInto part (limitOf s) segment (slotOf i s) (lentOf i s) .slot) (takeInto part (limitOf s) segment (slotOf i s) (lentOf i s) .lent) s))
@@ -110,7 +123,7 @@ module _ (s : State) (whole : Intact s) where
       u = found-used s (whole .undamaged) number i e
 
       l : IsLent limit (x .lent)
-      l = lent-stays part limit segment slot lent low y (used-lent s (whole .undamaged) i u (whole .bytes)) (found-sound s (whole .undamaged) number i e)
+      l = more-lent number i part segment y e
 
       only : (n j : ℕ) → InUse j s → holds n (x .slot) ≡ true → holds n (slotOf j s) ≡ true → i ≡ j
       only n j v h g = slots-right s (whole .undamaged) .once n i j u v (is-held n slot (held-is number slot (found-holds s (whole .undamaged) number i e) .0) (sym (taken-number part limit segment slot lent) ∙ held-is n (x .slot) h .1)) g
@@ -140,7 +153,7 @@ module _ (s : State) (whole : Intact s) where
       none = free-marks s (whole .undamaged) i e
 
       l : IsLent limit (x .lent)
-      l = taken-lent part limit segment (freshSlot number) lent [] [] low y lends (fresh-gathers part limit number segment lent low y lends none)
+      l = first-lent number i part segment y e
 
       only : (m j : ℕ) → InUse j s → holds m (x .slot) ≡ true → holds m (slotOf j s) ≡ true → i ≡ j
       only m j v h g =
@@ -150,7 +163,7 @@ module _ (s : State) (whole : Intact s) where
   -- a slot that is dropped
   drop-left : (answer : Answer) (number i : ℕ) → find number s ≡ At i → Intact (left (replacing answer i freeSlot (cleared (lentOf i s)) s))
   unfolding rightSlot isFree freeSlot
-  drop-left answer number i e = replaced-intact answer i freeSlot (cleared (lentOf i s)) s whole u (record { headerLength = l .headerLength; bodyLength = l .bodyLength; marksLength = zeros-length slotMarks; headerBytes = l .headerBytes; bodyBytes = l .bodyBytes }) (eq-eqb (largestOf (zeros slotMarks)) 0 (zeros-largest slotMarks)) (λ n j v h g. absurd (false-true (free-holds n freeSlot refl) h))
+  drop-left answer number i e = replaced-intact answer i freeSlot (cleared (lentOf i s)) s whole u (cleared-lent (limitOf s) (lentOf i s) l) (eq-eqb (largestOf (zeros slotMarks)) 0 (zeros-largest slotMarks)) (λ n j v h g. absurd (false-true (free-holds n freeSlot refl) h))
     where
       u : InUse i s
       u = found-used s (whole .undamaged) number i e
