@@ -162,13 +162,13 @@ module _ (number : ℕ) (s : State) where
   drop-damaged d = rw d refl
 
   module _ (good : sound s ≡ true) where
-    pub unheld : find number s ≡ Nothing → dropping number s ≡ answering Answer.NotHeld s
+    pub none-dropped : find number s ≡ Nothing → dropping number s ≡ answering Answer.NotHeld s
     unfolding dropNumber
-    unheld e = rw (good, e) refl
+    none-dropped e = rw (good, e) refl
 
-    pub dropped : (i : ℕ) → Inside (limitOf s) i (s .stores) → find number s ≡ At i → dropping number s ≡ replacing (Answer.Dropped number) i freeSlot (cleared (lentOf i s)) s
+    pub found-dropped : (i : ℕ) → Inside (limitOf s) i (s .stores) → find number s ≡ At i → dropping number s ≡ replacing (Answer.Dropped number) i freeSlot (cleared (lentOf i s)) s
     unfolding dropNumber dropAt
-    dropped i inside e = rw (good, e, lent-cleared (limitOf s) i (s .stores) inside) refl
+    found-dropped i inside e = rw (good, e, lent-cleared (limitOf s) i (s .stores) inside) refl
 
 -- ---- an opening
 

@@ -7,3 +7,6 @@ pub mod Sound
 pub mod Refused
 pub mod Shown
 pub mod Others
+pub mod History
+pub mod Stands
+pub mod Reached

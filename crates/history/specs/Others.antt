@@ -24,7 +24,7 @@ use Rattle.slots.specs.Find.{isFree, holds, findIn}
 use Rattle.slots.specs.Shares.{Wide, lent-other}
 use Rattle.collector.specs.Calls.{Answered, heardAs, segmentIn, answerAs}
 use Rattle.history.specs.Slots.{held-is, free-holds, slot-there, same-found}
-use Rattle.history.specs.Call.{State, taking, dropping, left, sound, limitOf, InUse, slotOf, lentOf, find, free, answering, replacing, Came, alone, full, first, more, unread, came, unheld, dropped, cleared}
+use Rattle.history.specs.Call.{State, taking, dropping, left, sound, limitOf, InUse, slotOf, lentOf, find, free, answering, replacing, Came, alone, full, first, more, unread, came, none-dropped, found-dropped, cleared}
 use Rattle.history.specs.Ready.{used-inside, used-lent, found-used, found-holds, free-used, free-free}
 use Rattle.history.specs.Taken.{taken-number}
 use Rattle.history.specs.Shown.{showing, frontOf, unheld-shown, held-shown}
@@ -32,6 +32,7 @@ use Rattle.history.specs.Sound.{Intact, lent-is-wide, more-lent, first-l
 
 -- what is held for a number is the same in two states
 pub record Same (number : ℕ) (s t : State) : Type 0 where
+  pub limit : limitOf t ≡ limitOf s
   -- the same slot holds it, or none
   pub found : find number t ≡ find number s
   -- the slot's number, stage and records
@@ -40,7 +41,7 @@ pub record Same (number : ℕ) (s t : State) : Type 0 where
   pub lent : (i : ℕ) → find number s ≡ At i → lentOf i t ≡ lentOf i s
 
 same-all : (number : ℕ) (s : State) (answer : Answer) → Same number s (left (answering answer s))
-same-all number s answer = record { found = refl; slot = λ i e. refl; lent = λ i e. refl }
+same-all number s answer = record { limit = refl; found = refl; slot = λ i e. refl; lent = λ i e. refl }
 
 -- another slot is replaced
 module _ (number : ℕ) (answer : Answer) (i : ℕ) (slot : Slot) (lent : Lent) (s : State) (good : sound s ≡ true) (u : InUse i s) (wide : Wide (limitOf s) lent) (before : holds number (slotOf i s) ≡ false) (after : holds number slot ≡ false) where
@@ -50,6 +51,7 @@ module _ (number : ℕ) (answer : Answer) (i : ℕ) (slot : Slot) (lent : Lent) 
   replaced-same : Same number s (left (replacing answer i slot lent s))
   unfolding findIn
   replaced-same = record {
+    limit = refl;
     found = same-found i slot (s .collector .slots) (holds number) (s .collector .count) (u .counted) (after ∙ sym before);
     slot = λ j e. slot-there i slot (s .collector .slots) j (apart j e);
     lent = λ j e. lent-other (limitOf s) i lent (s .stores) wide (used-inside s good i u) j (λ d. apart j e (sym d));
@@ -63,7 +65,7 @@ held-other number other slot d e = go (holds number slot) refl
     go false h = refl
     go true h = absurd (d (sym (held-is number slot h .1) ∙ e))
 
-came-same : (number : ℕ) (carried : Carried) (segment : Segment) (s : State) (t : Answered) → number ≢ carried .number → Bytes (segment .bytes) → Intact s → Came carried segment s t → Same number s (left t)
+pub came-same : (number : ℕ) (carried : Carried) (segment : Segment) (s : State) (t : Answered) → number ≢ carried .number → Bytes (segment .bytes) → Intact s → Came carried segment s t → Same number s (left t)
 unfolding freshSlot
 came-same number carried segment s t d y whole (alone n a e) = rw e (same-all number s (Answer.Conflict (heardAs carried)))
 came-same number carried segment s t d y whole (full n a f e) = rw e (same-all number s (Answer.Full (heardAs carried)))
@@ -95,10 +97,10 @@ unfolding freeSlot isFree
 drop-others number other s d whole = go (find other s) refl
   where
     go : (found : Found) → find other s ≡ found → Same number s (left (dropping other s))
-    go Nothing e = rw (unheld other s (whole .undamaged) e) (same-all number s Answer.NotHeld)
+    go Nothing e = rw (none-dropped other s (whole .undamaged) e) (same-all number s Answer.NotHeld)
     go (At i) e =
         let u = found-used s (whole .undamaged) other i e in
-        rw (dropped other s (whole .undamaged) i (used-inside s (whole .undamaged) i u) e)
+        rw (found-dropped other s (whole .undamaged) i (used-inside s (whole .undamaged) i u) e)
         (replaced-same number (Answer.Dropped other) i freeSlot (cleared (lentOf i s)) s (whole .undamaged) u
         (lent-is-wide (limitOf s) (cleared (lentOf i s)) (cleared-lent (limitOf s) (lentOf i s) (used-lent s (whole .undamaged) i u (whole .bytes))))
         (held-other number other (slotOf i s) d (held-is other (slotOf i s) (found-holds s (whole .undamaged) other i e) .1))

@@ -35,7 +35,7 @@ use Rattle.slots.specs.Alone.{fitsAlone}
 use Rattle.slots.specs.Fresh.{fresh-taken}
 use Rattle.collector.specs.Calls.{Answered, withSlots, heardAs, segmentIn, answerAs, allFree}
 use Rattle.history.specs.Slots.{Used}
-use Rattle.history.specs.Call.{State, taking, dropping, left, sound, limitOf, slotOf, lentOf, find, free, answering, replacing, offering, Came, alone, full, first, more, group-damaged, unread, came, drop-damaged, unheld, dropped, lent-same, inLimits, opening, opened-none}
+use Rattle.history.specs.Call.{State, taking, dropping, left, sound, limitOf, slotOf, lentOf, find, free, answering, replacing, offering, Came, alone, full, first, more, group-damaged, unread, came, drop-damaged, none-dropped, found-dropped, lent-same, inLimits, opening, opened-none}
 use Rattle.history.specs.Ready.{slots-right, used-inside, found-used, free-used, free-marks}
 
 -- ---- the offer of a segment
@@ -129,8 +129,8 @@ drop-kept number s k = go (sound s) refl (find number s) refl
   where
     go : (b : Bool) → sound s ≡ b → (found : Found) → find number s ≡ found → left (dropping number s) ≡ s
     go false d found e = rw (drop-damaged number s d) refl
-    go true d Nothing e = rw (unheld number s d e) refl
-    go true d (At i) e = absurd (rw (dropped number s d i (used-inside s d i (found-used s d number i e)) e) at k)
+    go true d Nothing e = rw (none-dropped number s d e) refl
+    go true d (At i) e = absurd (rw (found-dropped number s d i (used-inside s d i (found-used s d number i e)) e) at k)
 
 -- ---- demand 1, by the numbers of the answers
 

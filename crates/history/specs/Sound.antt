@@ -47,7 +47,7 @@ use Rattle.history.specs.Counts.{low-within, counted-low}
 use Rattle.history.specs.Ready.{OfBytes, slots-sound, counts-low, slots-right, limit-low, used-inside, used-lent, found-used, found-holds, found-sound, none-holds, free-used, free-marks}
 use Rattle.history.specs.Taken.{sound-right, taken-number, fresh-gathers, fresh-added}
 use Rattle.history.specs.Slots.{Used, Undamaged, held-is, is-held, free-holds, undamaged-sound, replaced}
-use Rattle.history.specs.Call.{State, taking, dropping, left, sound, limitOf, InUse, slotOf, lentOf, find, free, answering, replacing, Came, alone, full, first, more, unread, came, unheld, dropped, cleared, inLimits, opening, opened-all}
+use Rattle.history.specs.Call.{State, taking, dropping, left, sound, limitOf, InUse, slotOf, lentOf, find, free, answering, replacing, Came, alone, full, first, more, unread, came, none-dropped, found-dropped, cleared, inLimits, opening, opened-all}
 
 -- a state that is not damaged, and what is lent are bytes, as all memory is
 pub record Intact (s : State) : Type 0 where
@@ -195,8 +195,8 @@ pub drop-intact : (number : ℕ) (s : State) → Intact s → Intact (left (drop
 drop-intact number s whole = go (find number s) refl
   where
     go : (found : Found) → find number s ≡ found → Intact (left (dropping number s))
-    go Nothing e = rw (unheld number s (whole .undamaged) e) (answered-intact Answer.NotHeld s whole)
-    go (At i) e = rw (dropped number s (whole .undamaged) i (used-inside s (whole .undamaged) i (found-used s (whole .undamaged) number i e)) e) (drop-left s whole (Answer.Dropped number) number i e)
+    go Nothing e = rw (none-dropped number s (whole .undamaged) e) (answered-intact Answer.NotHeld s whole)
+    go (At i) e = rw (found-dropped number s (whole .undamaged) i (used-inside s (whole .undamaged) i (found-used s (whole .undamaged) number i e)) e) (drop-left s whole (Answer.Dropped number) number i e)
 
 -- AN OPENING within the limits gives a state that is not damaged, whatever the stores hold
 pub opening-intact : (limit count : ℕ) (counts : Counts) (stores : Stores) → inLimits limit count stores ≡ true → OfBytes stores → Intact (opening limit count counts stores)
@@ -253,8 +253,8 @@ pub drop-never : (number : ℕ) (s : State) → Intact s → dropping number s .
 drop-never number s whole = go (find number s) refl
   where
     go : (found : Found) → find number s ≡ found → dropping number s .answer ≢ Answer.State
-    go Nothing e d = let f = unheld number s (whole .undamaged) e in let z : _≡_ {A = ℕ} 0 1 = cc in absurd (omega arith)
-    go (At i) e d = let f = dropped number s (whole .undamaged) i (used-inside s (whole .undamaged) i (found-used s (whole .undamaged) number i e)) e in let z : _≡_ {A = ℕ} 0 1 = cc in absurd (omega arith)
+    go Nothing e d = let f = none-dropped number s (whole .undamaged) e in let z : _≡_ {A = ℕ} 0 1 = cc in absurd (omega arith)
+    go (At i) e d = let f = found-dropped number s (whole .undamaged) i (used-inside s (whole .undamaged) i (found-used s (whole .undamaged) number i e)) e in let z : _≡_ {A = ℕ} 0 1 = cc in absurd (omega arith)
 
 pub question-never : (number : ℕ) (s : State) → Intact s → locate number (s .collector) (s .stores) ≢ Located.Refused Answer.State
 unfolding locate

@@ -1,17 +1,20 @@
 -- A segment is offered to a slot: the slot keeps its number and is not free afterwards; the first segment of a slot that a
 -- number has just taken is stored where it fits alone.
 use mathlib.Core.Path.{_≡_, refl, sym, ap, _∙_}
-use mathlib.Core.Logic.{_≢_}
+use mathlib.Core.Logic.{_≢_, _↔_}
 use mathlib.Core.Bool.{Bool, true, false}
 use mathlib.Core.List.{List, []}
 use Prim.Native.Nat.{ℕ, zero, suc, _≤_}
 use native.Mathlib.Omega.{arith}
 use lib.ListN.{getD}
-use Rattle.octets.specs.Octets.{sumOf}
+use Rattle.octets.specs.Octets.{zeros, sumOf}
+use Rattle.octets.specs.Over.{zeros-length}
+use Rattle.octets.specs.Marks.{zeros-sum}
 use Rattle.answer.specs.declared.Part.{Part}
 use Rattle.answer.specs.declared.Part.the-variants.{Header, Body}
-use Rattle.cut.specs.Lists.{Bytes}
-use Rattle.cut.specs.Requirement.{limitMost, Segment}
+use Rattle.cut.specs.Lists.{Bytes, bytes-zeros}
+use Rattle.cut.specs.Requirement.{headerMost, limitMost, Segment, Fits}
+use Rattle.cut.specs.LawsObject.{headersWith, bodiesWith}
 use Rattle.gathering.specs.declared.Slot.{Slot}
 use Rattle.gathering.specs.declared.Stage.{Stage}
 use Rattle.gathering.specs.declared.Stage.the-variants as Stage
@@ -23,10 +26,10 @@ use Rattle.gathering.specs.Sound.{soundSlot}
 use Rattle.gathering.specs.Shape.{IsLent}
 use Rattle.gathering.specs.State.{markedSegments}
 use Rattle.gathering.specs.Held.{Gathers, StageFor, Holds, Vacant, Added}
-use Rattle.gathering.specs.Step.{Tells, outcome-tells}
+use Rattle.gathering.specs.Step.{Tells, outcome-tells, conflict-exactly}
 use Rattle.gathering.specs.StepSound.{vacant-gathers}
 use Rattle.gathering.specs.StateExact.{sound-holds}
-use Rattle.slots.specs.Stores.{freshSlot}
+use Rattle.slots.specs.Stores.{slotMarks, freshSlot}
 use Rattle.slots.specs.Find.{freeStage, isFree}
 use Rattle.slots.specs.Alone.{fitsAlone}
 use Rattle.slots.specs.State.{rightSlot}
@@ -97,3 +100,34 @@ module _ (part : Part) (limit number : ℕ) (segment : Segment) (lent : Lent) (z
       go Header Repeat w d = absurd (w .0)
       go Body Repeat w d = absurd (w .0)
       go p Conflict w d = absurd (d refl)
+
+-- ---- a segment fits alone exactly when some object and cut send it
+
+-- shares of zeros
+abbrev blank : ℕ → Lent
+blank limit = record { header = zeros headerMost; body = zeros limit; marks = zeros slotMarks }
+
+blank-lent : (limit : ℕ) → IsLent limit (blank limit)
+unfolding zeros
+blank-lent limit = record {
+  headerLength = zeros-length headerMost;
+  bodyLength = zeros-length limit;
+  marksLength = zeros-length slotMarks;
+  headerBytes = bytes-zeros headerMost;
+  bodyBytes = bytes-zeros limit;
+}
+
+pub alone-fits : (part : Part) (limit : ℕ) (segment : Segment) → limit ≤ limitMost → Bytes (segment .bytes) → (fitsAlone part limit segment ≡ true) ↔ Fits limit (headersWith part segment []) (bodiesWith part segment [])
+alone-fits part limit segment z y = (
+  (λ a. fresh-added part limit 0 segment (blank limit) z y (blank-lent limit) none a .holds .gathers .object),
+  (λ f. go f (fitsAlone part limit segment) refl),
+)
+  where
+    none : sumOf (blank limit .marks) ≡ 0
+    none = zeros-sum slotMarks
+
+    go : Fits limit (headersWith part segment []) (bodiesWith part segment []) → (b : Bool) → fitsAlone part limit segment ≡ b → fitsAlone part limit segment ≡ true
+    go f true e = e
+    go f false e =
+        let refused : takeInto part limit segment (freshSlot 0) (blank limit) .outcome ≡ Conflict = ap (λ (t : Taken). t .outcome) (rw e at (fresh-taken part limit 0 segment (blank limit) none)) in
+        absurd (conflict-exactly part limit segment (freshSlot 0) (blank limit) [] [] z y (fresh-gathers part limit 0 segment (blank limit) z y (blank-lent limit) none) .0 refused f)

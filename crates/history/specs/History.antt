@@ -1,0 +1,141 @@
+-- A history: any calls, each handed the state and the lent memory just as the one before left them; and what was stored
+-- under a number, read off the calls and their answers alone. The latest call comes first.
+use mathlib.Core.Bool.{Bool, true, false}
+use mathlib.Core.List.{List, [], _∷_}
+use Prim.Native.Nat.{ℕ}
+use lib.Dec.{eqb}
+use lib.ListN.{length}
+use Rattle.answer.specs.declared.Answer.{Answer}
+use Rattle.answer.specs.declared.Answer.the-variants as Answer
+use Rattle.answer.specs.declared.Part.{Part}
+use Rattle.answer.specs.declared.Part.the-variants.{Header, Body}
+use Rattle.counts.specs.declared.Counts.{Counts}
+use Rattle.group.specs.declared.Segment.{Segment as Carried}
+use Rattle.group.specs.declared.Reading.{Reading}
+use Rattle.group.specs.declared.Reading.the-variants.{Read, Refused}
+use Rattle.group.specs.Reading.{readingOf}
+use Rattle.cut.specs.Lists.{pick, Each, Bytes}
+use Rattle.cut.specs.Requirement.{Segment}
+use Rattle.cut.specs.LawsObject.{headersWith, bodiesWith}
+use Rattle.slots.specs.Stores.{Stores}
+use Rattle.slots.specs.StateTests.{Limits}
+use Rattle.collector.specs.Calls.{segmentIn}
+use Rattle.history.specs.Call.{State, taking, dropping, left, opening}
+use Rattle.history.specs.Ready.{OfBytes}
+use Rattle.history.specs.Shown.{showing}
+
+-- a group is handed in, a number is dropped, a header or a body is asked for
+pub data Call : Type 0 where
+  hand : (bytes : List ℕ) → Call
+  drop : (number : ℕ) → Call
+  ask : (number : ℕ) (part : Part) → Call
+
+-- a group that is handed in is bytes, as all memory is
+abbrev pub CallBytes : Call → Type 0
+CallBytes (hand bytes) = Bytes bytes
+CallBytes (drop number) = Unit {0}
+CallBytes (ask number part) = Unit {0}
+
+-- a call with what came back
+pub data Event : Type 0 where
+  handed : (bytes : List ℕ) (answer : Answer) → Event
+  dropped : (number : ℕ) (answer : Answer) → Event
+  asked : (number : ℕ) (part : Part) (shown : List ℕ) → Event
+
+abbrev pub leaves : Call → State → State
+leaves (hand bytes) s = left (taking bytes s)
+leaves (drop number) s = left (dropping number s)
+leaves (ask number part) s = s
+
+abbrev pub event : Call → State → Event
+event (hand bytes) s = handed bytes (taking bytes s .answer)
+event (drop number) s = dropped number (dropping number s .answer)
+event (ask number part) s = asked number part (showing number part s)
+
+-- the state after the calls, and all that came back
+abbrev pub after : List Call → State → State
+after [] s = s
+after (call ∷ calls) s = leaves call (after calls s)
+
+abbrev pub history : List Call → State → List Event
+history [] s = []
+history (call ∷ calls) s = event call (after calls s) ∷ history calls s
+
+-- ---- since an opening
+
+-- what an opening is handed
+pub record Start : Type 0 where
+  pub limit : ℕ
+  pub count : ℕ
+  pub counts : Counts
+  pub stores : Stores
+
+-- the limit and the number of slots are within their bounds, what is lent has the lengths that they give, and is bytes
+pub record Allowed (start : Start) : Type 0 where
+  pub limits : Limits (start .limit) (start .count) (length (start .stores .header)) (length (start .stores .body)) (length (start .stores .marks))
+  pub bytes : OfBytes (start .stores)
+
+abbrev pub opened : Start → State
+opened start = opening (start .limit) (start .count) (start .counts) (start .stores)
+
+abbrev pub reached : Start → List Call → State
+reached start calls = after calls (opened start)
+
+abbrev pub told : Start → List Call → List Event
+told start calls = history calls (opened start)
+
+-- ---- what was stored under a number, since it took its slot
+
+abbrev pub isStored : Answer → Bool
+isStored (Answer.Stored heard) = true
+isStored (Answer.Complete heard) = true
+isStored (Answer.Repeat heard) = false
+isStored (Answer.Dropped number) = false
+isStored (Answer.Refused why) = false
+isStored (Answer.Conflict heard) = false
+isStored (Answer.Full heard) = false
+isStored Answer.NotHeld = false
+isStored Answer.Unfinished = false
+isStored Answer.Header = false
+isStored Answer.Duplicate = false
+isStored Answer.Core = false
+isStored Answer.NotFound = false
+isStored Answer.Limits = false
+isStored Answer.State = false
+
+abbrev pub isDropped : Answer → Bool
+isDropped (Answer.Stored heard) = false
+isDropped (Answer.Complete heard) = false
+isDropped (Answer.Repeat heard) = false
+isDropped (Answer.Dropped number) = true
+isDropped (Answer.Refused why) = false
+isDropped (Answer.Conflict heard) = false
+isDropped (Answer.Full heard) = false
+isDropped Answer.NotHeld = false
+isDropped Answer.Unfinished = false
+isDropped Answer.Header = false
+isDropped Answer.Duplicate = false
+isDropped Answer.Core = false
+isDropped Answer.NotFound = false
+isDropped Answer.Limits = false
+isDropped Answer.State = false
+
+-- a segment of a part, among those of a part
+abbrev pub with : Part → Part → Segment → List Segment → List Segment
+with Header part s segments = headersWith part s segments
+with Body part s segments = bodiesWith part s segments
+
+-- a group under the number, answered STORED or COMPLETE, stores its segment
+abbrev pub afterGroup : Part → ℕ → Reading → List ℕ → Answer → List Segment → List Segment
+afterGroup part number (Refused why) bytes answer segments = segments
+afterGroup part number (Read carried) bytes answer segments = pick (eqb (carried .number) number) (pick (isStored answer) (with part (carried .part) (segmentIn bytes carried) segments) segments) segments
+
+-- a drop of the number, answered DROPPED, leaves none
+abbrev pub afterDrop : ℕ → ℕ → Answer → List Segment → List Segment
+afterDrop number other answer segments = pick (eqb other number) (pick (isDropped answer) [] segments) segments
+
+unfoldable pub storedUnder : Part → ℕ → List Event → List Segment
+storedUnder part number [] = []
+storedUnder part number (handed bytes answer ∷ events) = afterGroup part number (readingOf bytes) bytes answer (storedUnder part number events)
+storedUnder part number (dropped other answer ∷ events) = afterDrop number other answer (storedUnder part number events)
+storedUnder part number (asked other p shown ∷ events) = storedUnder part number events
