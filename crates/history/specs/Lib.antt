@@ -10,3 +10,4 @@ pub mod Others
 pub mod History
 pub mod Stands
 pub mod Reached
+pub mod Answers
