@@ -1,14 +1,14 @@
 -- A history: any calls, each handed the state and the lent memory just as the one before left them; and what was stored
 -- under a number, read off the calls and their answers alone. The latest call comes first.
-use mathlib.Core.Bool.{Bool, true, false}
+use mathlib.Core.Bool.{Bool}
 use mathlib.Core.List.{List, [], _∷_}
 use Prim.Native.Nat.{ℕ}
-use lib.Dec.{eqb}
+use lib.Dec.{leb, eqb}
 use lib.ListN.{length}
 use Rattle.answer.specs.declared.Answer.{Answer}
-use Rattle.answer.specs.declared.Answer.the-variants as Answer
 use Rattle.answer.specs.declared.Part.{Part}
 use Rattle.answer.specs.declared.Part.the-variants.{Header, Body}
+use Rattle.answer.specs.Table.{numberOf}
 use Rattle.counts.specs.declared.Counts.{Counts}
 use Rattle.group.specs.declared.Segment.{Segment as Carried}
 use Rattle.group.specs.declared.Reading.{Reading}
@@ -86,56 +86,34 @@ told start calls = history calls (opened start)
 
 -- ---- what was stored under a number, since it took its slot
 
+-- STORED and COMPLETE; DROPPED
 abbrev pub isStored : Answer → Bool
-isStored (Answer.Stored heard) = true
-isStored (Answer.Complete heard) = true
-isStored (Answer.Repeat heard) = false
-isStored (Answer.Dropped number) = false
-isStored (Answer.Refused why) = false
-isStored (Answer.Conflict heard) = false
-isStored (Answer.Full heard) = false
-isStored Answer.NotHeld = false
-isStored Answer.Unfinished = false
-isStored Answer.Header = false
-isStored Answer.Duplicate = false
-isStored Answer.Core = false
-isStored Answer.NotFound = false
-isStored Answer.Limits = false
-isStored Answer.State = false
+isStored answer = leb (numberOf answer) 1
 
 abbrev pub isDropped : Answer → Bool
-isDropped (Answer.Stored heard) = false
-isDropped (Answer.Complete heard) = false
-isDropped (Answer.Repeat heard) = false
-isDropped (Answer.Dropped number) = true
-isDropped (Answer.Refused why) = false
-isDropped (Answer.Conflict heard) = false
-isDropped (Answer.Full heard) = false
-isDropped Answer.NotHeld = false
-isDropped Answer.Unfinished = false
-isDropped Answer.Header = false
-isDropped Answer.Duplicate = false
-isDropped Answer.Core = false
-isDropped Answer.NotFound = false
-isDropped Answer.Limits = false
-isDropped Answer.State = false
+isDropped answer = eqb (numberOf answer) 3
 
 -- a segment of a part, among those of a part
 abbrev pub with : Part → Part → Segment → List Segment → List Segment
 with Header part s segments = headersWith part s segments
 with Body part s segments = bodiesWith part s segments
 
--- a group under the number, answered STORED or COMPLETE, stores its segment
-abbrev pub afterGroup : Part → ℕ → Reading → List ℕ → Answer → List Segment → List Segment
-afterGroup part number (Refused why) bytes answer segments = segments
-afterGroup part number (Read carried) bytes answer segments = pick (eqb (carried .number) number) (pick (isStored answer) (with part (carried .part) (segmentIn bytes carried) segments) segments) segments
+-- the segment of a group under the number, if its answer passes the test
+abbrev pub afterGroup : (Answer → Bool) → Part → ℕ → Reading → List ℕ → Answer → List Segment → List Segment
+afterGroup test part number (Refused why) bytes answer segments = segments
+afterGroup test part number (Read carried) bytes answer segments = pick (eqb (carried .number) number) (pick (test answer) (with part (carried .part) (segmentIn bytes carried) segments) segments) segments
 
--- a drop of the number, answered DROPPED, leaves none
+-- a drop of the number leaves none
 abbrev pub afterDrop : ℕ → ℕ → Answer → List Segment → List Segment
 afterDrop number other answer segments = pick (eqb other number) (pick (isDropped answer) [] segments) segments
 
-unfoldable pub storedUnder : Part → ℕ → List Event → List Segment
-storedUnder part number [] = []
-storedUnder part number (handed bytes answer ∷ events) = afterGroup part number (readingOf bytes) bytes answer (storedUnder part number events)
-storedUnder part number (dropped other answer ∷ events) = afterDrop number other answer (storedUnder part number events)
-storedUnder part number (asked other p shown ∷ events) = storedUnder part number events
+-- the segments of a part that came under a number since it was last dropped, with an answer that passes the test
+unfoldable pub under : (Answer → Bool) → Part → ℕ → List Event → List Segment
+under test part number [] = []
+under test part number (handed bytes answer ∷ events) = afterGroup test part number (readingOf bytes) bytes answer (under test part number events)
+under test part number (dropped other answer ∷ events) = afterDrop number other answer (under test part number events)
+under test part number (asked other p shown ∷ events) = under test part number events
+
+-- what was stored under it
+abbrev pub storedUnder : Part → ℕ → List Event → List Segment
+storedUnder = under isStored

@@ -11,3 +11,6 @@ pub mod History
 pub mod Stands
 pub mod Reached
 pub mod Answers
+pub mod Stage
+pub mod Tally
+pub mod Promises

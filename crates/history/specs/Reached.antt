@@ -24,7 +24,7 @@ use Rattle.history.specs.Slots.{free-holds, none-found, limits-within}
 use Rattle.history.specs.Call.{State, taking, dropping, left, limitOf, find, Came, alone, full, first, more, unread, came, none-dropped, found-dropped, opening, opened-all, inLimits}
 use Rattle.history.specs.Ready.{used-inside, found-used}
 use Rattle.history.specs.Sound.{Intact, group-intact, drop-intact, opening-intact, group-never, drop-never}
-use Rattle.history.specs.History.{Call, hand, drop, ask, CallBytes, Event, leaves, event, after, history, Start, Allowed, opened, reached, told, storedUnder}
+use Rattle.history.specs.History.{Call, hand, drop, ask, CallBytes, Event, leaves, event, after, history, Start, Allowed, opened, reached, told, under}
 use Rattle.history.specs.Stands.{StandsFor, Stands, group-stands, drop-stands}
 
 -- ---- the opening
@@ -32,7 +32,7 @@ use Rattle.history.specs.Stands.{StandsFor, Stands, group-stands, drop-s
 start-intact : (start : Start) → Allowed start → Intact (opened start)
 start-intact start a = opening-intact (start .limit) (start .count) (start .counts) (start .stores) (limits-within (start .limit) (start .count) (length (start .stores .header)) (length (start .stores .body)) (length (start .stores .marks)) (a .limits)) (a .bytes)
 
-start-is : (start : Start) → Allowed start → opened start ≡ record { collector = allFree (start .limit) (start .count); counts = noneYet; stores = record { header = start .stores .header; body = start .stores .body; marks = zeros (length (start .stores .marks)) } }
+pub start-is : (start : Start) → Allowed start → opened start ≡ record { collector = allFree (start .limit) (start .count); counts = noneYet; stores = record { header = start .stores .header; body = start .stores .body; marks = zeros (length (start .stores .marks)) } }
 start-is start a = opened-all (start .limit) (start .count) (start .counts) (start .stores) (limits-within (start .limit) (start .count) (length (start .stores .header)) (length (start .stores .body)) (length (start .stores .marks)) (a .limits))
 
 start-free : (count number : ℕ) → findIn number count (replicate slotsMost freeSlot) ≡ Nothing
@@ -40,7 +40,7 @@ unfolding findIn slotAt freeSlot isFree
 start-free count number = none-found (holds number) count (replicate slotsMost freeSlot) (λ i u. rw (getD-replicate slotsMost i freeSlot freeSlot (omega (arith, u .there, length-replicate slotsMost freeSlot))) (free-holds number freeSlot refl))
 
 start-stands : (start : Start) → Allowed start → Stands (opened start) []
-unfolding storedUnder
+unfolding under
 start-stands start a number = rw (start-is start a) (record { held = λ i e. let z : _≡_ {A = ℕ} 0 1 = cc (start-free (start .count) number) in absurd (omega arith); rest = λ e. (refl, refl) })
 
 -- ---- the limit and the number of slots stay
@@ -76,7 +76,7 @@ leaves-intact (drop number) s y whole = drop-intact number s whole
 leaves-intact (ask number part) s y whole = whole
 
 leaves-stands : (call : Call) (s : State) (events : List Event) → CallBytes call → Intact s → Stands s events → Stands (leaves call s) (event call s ∷ events)
-unfolding storedUnder
+unfolding under
 leaves-stands (hand bytes) s events y whole w = group-stands bytes s events y whole w
 leaves-stands (drop number) s events y whole w = drop-stands number s events whole w
 leaves-stands (ask number part) s events y whole w = w

@@ -43,7 +43,7 @@ use Rattle.history.specs.Ready.{slots-right, limit-low, used-inside, use
 use Rattle.history.specs.Taken.{holds-held, taken-number, fresh-gathers, fresh-added}
 use Rattle.history.specs.Sound.{Intact, lent-is-wide, more-lent, first-lent, segment-bytes, group-intact}
 use Rattle.history.specs.Others.{Same, came-same, drop-others}
-use Rattle.history.specs.History.{Event, handed, dropped, asked, isStored, isDropped, with, afterGroup, afterDrop, storedUnder}
+use Rattle.history.specs.History.{Event, handed, dropped, asked, isStored, isDropped, with, afterGroup, afterDrop, under, storedUnder}
 
 -- the slot that holds a number holds just these segments; if none holds it, there are none
 pub record StandsFor (number : ℕ) (s : State) (hs bs : List Segment) : Type 0 where
@@ -188,7 +188,7 @@ came-own carried segment s t hs bs y whole whole' w (more i n e) = rw e (more-st
 
 -- A GROUP: each slot holds just what was stored, this group counted
 pub group-stands : (bytes : List ℕ) (s : State) (events : List Event) → Bytes bytes → Intact s → Stands s events → Stands (left (taking bytes s)) (handed bytes (taking bytes s .answer) ∷ events)
-unfolding storedUnder
+unfolding under
 group-stands bytes s events y whole w number = go (readingOf bytes) refl
   where
     t : Answered
@@ -212,7 +212,7 @@ group-stands bytes s events y whole w number = go (readingOf bytes) refl
         (rw (next-own Header carried (segmentIn bytes carried) (t .answer) (hs (carried .number)), next-own Body carried (segmentIn bytes carried) (t .answer) (bs (carried .number)))
         (came-own carried (segmentIn bytes carried) s t (hs (carried .number)) (bs (carried .number)) (segment-bytes bytes carried y) whole whole' (w (carried .number)) (came bytes s (whole .undamaged) carried e)))
 
-    go : (reading : Reading) → readingOf bytes ≡ reading → StandsFor number (left t) (afterGroup Header number (readingOf bytes) bytes (t .answer) (hs number)) (afterGroup Body number (readingOf bytes) bytes (t .answer) (bs number))
+    go : (reading : Reading) → readingOf bytes ≡ reading → StandsFor number (left t) (afterGroup isStored Header number (readingOf bytes) bytes (t .answer) (hs number)) (afterGroup isStored Body number (readingOf bytes) bytes (t .answer) (bs number))
     go (Refused why) e = rw (e, unread bytes s (whole .undamaged) why e) (record { held = w number .held; rest = w number .rest })
     go (Read carried) e = rw e (read carried e number (ℕ-discrete number (carried .number)))
 
@@ -255,7 +255,7 @@ drop-own number s hs bs whole w = go (find number s) refl
 
 -- A DROP: under its number nothing is stored any more
 pub drop-stands : (other : ℕ) (s : State) (events : List Event) → Intact s → Stands s events → Stands (left (dropping other s)) (dropped other (dropping other s .answer) ∷ events)
-unfolding storedUnder
+unfolding under
 drop-stands other s events whole w number = go number (ℕ-discrete number other)
   where
     t : Answered
