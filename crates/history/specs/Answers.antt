@@ -1,6 +1,6 @@
 -- Demand 3: what a group that passes the reading checks is answered, in a state whose slots hold just what was stored.
 use mathlib.Core.Path.{_≡_, refl, sym, ap, _∙_}
-use mathlib.Core.Logic.{_↔_}
+use mathlib.Core.Logic.{_⊎_, inl, inr, _↔_}
 use mathlib.Core.Bool.{true, false}
 use mathlib.Core.List.{List, []}
 use Prim.Native.Nat.{ℕ, _≤_}
@@ -156,3 +156,10 @@ module _ (carried : Carried) (segment : Segment) (s : State) (hs bs : List Segme
       rw (e, none .0, none .1) ((λ d. (alone-fits (carried .part) (limitOf s) segment (limit-low s (whole .undamaged)) y .0 a, n, f)), (λ m. refl))
   came-full t (first i n a f e) = rw e ((λ d. absurd (never-full (takeInto (carried .part) (limitOf s) segment (freshSlot (carried .number)) (lentOf i s) .outcome) (heardAs carried) (sym d))), (λ m. absurd (unlike i f (m .2))))
   came-full t (more i n e) = rw e ((λ d. absurd (never-full (takeInto (carried .part) (limitOf s) segment (slotOf i s) (lentOf i s) .outcome) (heardAs carried) (sym d))), (λ m. absurd (unlike i n (m .1))))
+
+-- one of the five comes back
+pub came-named : (carried : Carried) (segment : Segment) (s : State) (t : Answered) → Came carried segment s t → (t .answer ≡ Answer.Full (heardAs carried)) ⊎ ((o : Outcome) × (t .answer ≡ answerAs o (heardAs carried)))
+came-named carried segment s t (alone n a e) = inr (Conflict, ap (λ (x : Answered). x .answer) e)
+came-named carried segment s t (full n a f e) = inl (ap (λ (x : Answered). x .answer) e)
+came-named carried segment s t (first i n a f e) = inr (takeInto (carried .part) (limitOf s) segment (freshSlot (carried .number)) (lentOf i s) .outcome, ap (λ (x : Answered). x .answer) e)
+came-named carried segment s t (more i n e) = inr (takeInto (carried .part) (limitOf s) segment (slotOf i s) (lentOf i s) .outcome, ap (λ (x : Answered). x .answer) e)

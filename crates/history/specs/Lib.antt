@@ -14,3 +14,4 @@ pub mod Answers
 pub mod Stage
 pub mod Tally
 pub mod Promises
+pub mod OneCut

@@ -119,6 +119,10 @@ module _ (start : Start) (allowed : Allowed start) (calls : List Call) (y : Each
         (λ w. (length (w .0 .header), length (w .0 .body), all-finished number (reached start calls) (stored start calls Header number) (stored start calls Body number) (stands number) (w .0) (w .1))),
       )
 
+  -- with the two lengths of the object
+  pub finished-lengths : (number : ℕ) (f : FitsStored start calls number) → Finished f → stageFor number (reached start calls) ≡ Stage.Finished (length (f .header)) (length (f .body))
+  finished-lengths number = rw (reached-limit start allowed calls y) at (all-finished number (reached start calls) (stored start calls Header number) (stored start calls Body number) (stands number))
+
   -- ---- demand 2: what is shown
 
   -- of a finished object: the header and the body of every object and cut that fits, which are the stored segments joined
