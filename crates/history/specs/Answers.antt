@@ -1,11 +1,9 @@
 -- Demand 3: what a group that passes the reading checks is answered, in a state whose slots hold just what was stored.
-use mathlib.Core.Path.{_≡_, refl, sym, ap, _∙_}
+use mathlib.Core.Path.{_≡_, refl, sym, ap}
 use mathlib.Core.Logic.{_⊎_, inl, inr, _↔_}
-use mathlib.Core.Bool.{true, false}
 use mathlib.Core.List.{List, []}
 use Prim.Native.Nat.{ℕ, _≤_}
 use native.Mathlib.Omega.{arith}
-use Rattle.octets.specs.Octets.{sumOf}
 use Rattle.answer.specs.declared.Answer.{Answer}
 use Rattle.answer.specs.declared.Answer.the-variants as Answer
 use Rattle.answer.specs.declared.Heard.{Heard}
@@ -19,14 +17,12 @@ use Rattle.cut.specs.LawsDecision.{false-true}
 use Rattle.gathering.specs.declared.Slot.{Slot}
 use Rattle.gathering.specs.declared.Outcome.{Outcome}
 use Rattle.gathering.specs.declared.Outcome.the-variants.{Stored, Complete, Repeat, Conflict}
-use Rattle.gathering.specs.Take.{Lent, partsOf, Taken, takeInto}
-use Rattle.gathering.specs.Shape.{IsLent}
+use Rattle.gathering.specs.Take.{Lent, partsOf, takeInto}
 use Rattle.gathering.specs.Held.{Gathers}
 use Rattle.gathering.specs.Step.{conflict-exactly, repeat-exactly, complete-exactly, stored-exactly}
 use Rattle.slots.specs.declared.Found.{Found}
 use Rattle.slots.specs.declared.Found.the-variants.{Nothing, At}
 use Rattle.slots.specs.Stores.{freshSlot}
-use Rattle.slots.specs.Alone.{fitsAlone}
 use Rattle.collector.specs.Calls.{Answered, heardAs, answerAs}
 use Rattle.history.specs.Call.{State, limitOf, slotOf, lentOf, find, free, Came, alone, full, first, more}
 use Rattle.history.specs.Ready.{limit-low, used-lent, free-used, free-marks}

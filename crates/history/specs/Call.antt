@@ -1,11 +1,10 @@
 -- A state, a call and what it leaves: the words in which all theorems here speak of the collector. What a call answers and
 -- leaves is taken from the collector's own definitions, in this file alone.
-use mathlib.Core.Path.{_≡_, refl, sym, ap, _∙_}
+use mathlib.Core.Path.{_≡_, refl}
 use mathlib.Core.Bool.{Bool, true, false}
-use mathlib.Core.List.{List, _++_, append-assoc}
+use mathlib.Core.List.{List, append-assoc}
 use Prim.Native.Nat.{ℕ, _+_, _*_, _≤_}
-use native.Mathlib.Omega.{arith}
-use lib.ListN.{length, take, drop, set, take-append-drop}
+use lib.ListN.{length, drop, set, take-append-drop}
 use lib.Seq.{drop-drop}
 use Rattle.octets.specs.Octets.{over, zeros}
 use Rattle.octets.specs.Over.{part-length}
@@ -16,7 +15,6 @@ use Rattle.answer.specs.declared.Refusal.{Refusal}
 use Rattle.counts.specs.declared.Counts.{Counts}
 use Rattle.counts.specs.Counted.{noneYet, counted}
 use Rattle.group.specs.declared.Segment.{Segment as Carried}
-use Rattle.group.specs.declared.Reading.{Reading}
 use Rattle.group.specs.declared.Reading.the-variants.{Read, Refused}
 use Rattle.group.specs.Reading.{readingOf}
 use Rattle.cut.specs.Requirement.{headerMost, Segment}
@@ -31,7 +29,7 @@ use Rattle.slots.specs.State.{withinLimits}
 use Rattle.slots.specs.Take.{Inside, takeAt, takeNew, dropAt}
 use Rattle.collector.specs.declared.Collector.{Collector}
 use Rattle.history.specs.Slots.{Used}
-use Rattle.collector.specs.Calls.{Answered, withSlots, soundState, heardAs, segmentIn, answerAs, takeRead, intoHeld, ifAlone, intoFree, takeGroup, dropFound, dropNumber, allFree, openedBy}
+use Rattle.collector.specs.Calls.{Answered, withSlots, soundState, heardAs, segmentIn, answerAs, intoHeld, ifAlone, intoFree, takeGroup, dropNumber, allFree, openedBy}
 
 -- what the caller has in hand between two calls
 pub record State : Type 0 where
@@ -49,6 +47,20 @@ dropping number s = dropNumber number (s .collector) (s .counts) (s .stores)
 -- what a call leaves
 abbrev pub left : Answered → State
 left t = record { collector = t .collector; counts = t .counts; stores = t .stores }
+
+-- what a group is answered, and what it leaves
+abbrev pub groupAnswer : List ℕ → State → Answer
+groupAnswer group s = taking group s .answer
+
+abbrev pub groupLeaves : List ℕ → State → State
+groupLeaves group s = left (taking group s)
+
+-- and a drop
+abbrev pub dropAnswer : ℕ → State → Answer
+dropAnswer number s = dropping number s .answer
+
+abbrev pub dropLeaves : ℕ → State → State
+dropLeaves number s = left (dropping number s)
 
 -- the state is not damaged
 abbrev pub sound : State → Bool

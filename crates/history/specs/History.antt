@@ -1,5 +1,7 @@
 -- A history: any calls, each handed the state and the lent memory just as the one before left them; and what was stored
 -- under a number, read off the calls and their answers alone. The latest call comes first.
+use mathlib.Core.Path.{_≡_}
+use mathlib.Core.Logic.{_≢_}
 use mathlib.Core.Bool.{Bool}
 use mathlib.Core.List.{List, [], _∷_}
 use Prim.Native.Nat.{ℕ}
@@ -14,13 +16,13 @@ use Rattle.group.specs.declared.Segment.{Segment as Carried}
 use Rattle.group.specs.declared.Reading.{Reading}
 use Rattle.group.specs.declared.Reading.the-variants.{Read, Refused}
 use Rattle.group.specs.Reading.{readingOf}
-use Rattle.cut.specs.Lists.{pick, Each, Bytes}
+use Rattle.cut.specs.Lists.{pick, Bytes}
 use Rattle.cut.specs.Requirement.{Segment}
 use Rattle.cut.specs.LawsObject.{headersWith, bodiesWith}
 use Rattle.slots.specs.Stores.{Stores}
 use Rattle.slots.specs.StateTests.{Limits}
 use Rattle.collector.specs.Calls.{segmentIn}
-use Rattle.history.specs.Call.{State, taking, dropping, left, opening}
+use Rattle.history.specs.Call.{State, groupAnswer, groupLeaves, dropAnswer, dropLeaves, opening}
 use Rattle.history.specs.Ready.{OfBytes}
 use Rattle.history.specs.Shown.{showing}
 
@@ -36,6 +38,12 @@ CallBytes (hand bytes) = Bytes bytes
 CallBytes (drop number) = Unit {0}
 CallBytes (ask number part) = Unit {0}
 
+-- the call is not under the number
+abbrev pub Elsewhere : ℕ → Call → Type 0
+Elsewhere number (hand bytes) = (carried : Carried) → readingOf bytes ≡ Read carried → number ≢ carried .number
+Elsewhere number (drop other) = number ≢ other
+Elsewhere number (ask other part) = Unit {0}
+
 -- a call with what came back
 pub data Event : Type 0 where
   handed : (bytes : List ℕ) (answer : Answer) → Event
@@ -43,13 +51,13 @@ pub data Event : Type 0 where
   asked : (number : ℕ) (part : Part) (shown : List ℕ) → Event
 
 abbrev pub leaves : Call → State → State
-leaves (hand bytes) s = left (taking bytes s)
-leaves (drop number) s = left (dropping number s)
+leaves (hand bytes) s = groupLeaves bytes s
+leaves (drop number) s = dropLeaves number s
 leaves (ask number part) s = s
 
 abbrev pub event : Call → State → Event
-event (hand bytes) s = handed bytes (taking bytes s .answer)
-event (drop number) s = dropped number (dropping number s .answer)
+event (hand bytes) s = handed bytes (groupAnswer bytes s)
+event (drop number) s = dropped number (dropAnswer number s)
 event (ask number part) s = asked number part (showing number part s)
 
 -- the state after the calls, and all that came back

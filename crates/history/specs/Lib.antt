@@ -12,6 +12,8 @@ pub mod Stands
 pub mod Reached
 pub mod Answers
 pub mod Stage
+pub mod Room
 pub mod Tally
 pub mod Promises
 pub mod OneCut
+pub mod Example

@@ -1,6 +1,6 @@
 -- Groups that all come from one cut of one object never conflict, in any order, repeated, mixed with any other calls; and
 -- once all its segments have come, each with a slot there, it is finished and shown with that header and that body.
-use mathlib.Core.Path.{_≡_, refl, sym, ap, _∙_, subst}
+use mathlib.Core.Path.{_≡_, refl, subst}
 use mathlib.Core.Logic.{_≢_, _⊎_, inl, inr}
 use mathlib.Core.Bool.{Bool, true, false}
 use mathlib.Core.List.{List, [], _∷_}
@@ -25,14 +25,13 @@ use Rattle.gathering.specs.declared.Outcome.{Outcome}
 use Rattle.gathering.specs.declared.Outcome.the-variants.{Stored, Complete, Repeat, Conflict}
 use Rattle.gathering.specs.Offers.{Source, SentBy}
 use Rattle.collector.specs.Calls.{heardAs, segmentIn, answerAs}
-use Rattle.history.specs.Call.{State, taking, dropping, came}
+use Rattle.history.specs.Call.{taking, dropping, came}
 use Rattle.history.specs.Shown.{showing}
-use Rattle.history.specs.Sound.{Intact}
-use Rattle.history.specs.History.{Call, hand, drop, ask, CallBytes, Event, Start, Allowed, reached, told, isStored, isDropped, with, afterGroup, afterDrop, under}
+use Rattle.history.specs.History.{Call, hand, drop, ask, CallBytes, Event, Start, Allowed, reached, told, isStored, isDropped, with, afterGroup, under}
 use Rattle.history.specs.Reached.{reached-intact}
 use Rattle.history.specs.Answers.{came-named}
 use Rattle.history.specs.Stage.{stageFor}
-use Rattle.history.specs.Promises.{stored, FitsStored, FitsWith, answerTo, conflict-exactly, repeat-exactly, finished-lengths, shown-joined}
+use Rattle.history.specs.Promises.{stored, FitsStored, answerTo, conflict-exactly, repeat-exactly, finished-lengths, shown-joined}
 
 -- a group under the number carries a segment that this cut of this object sends
 abbrev pub From : {limit : ℕ} → Source limit → ℕ → Call → Type 0

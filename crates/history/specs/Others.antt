@@ -1,6 +1,6 @@
 -- Calls under other numbers change nothing that is held for a number: its slot's record and stage, its marks, its shares of
 -- the stores and what is shown of it.
-use mathlib.Core.Path.{_≡_, refl, sym, ap, _∙_, subst}
+use mathlib.Core.Path.{_≡_, refl, sym, _∙_, subst}
 use mathlib.Core.Logic.{_≢_}
 use mathlib.Core.Bool.{Bool, true, false}
 use mathlib.Core.List.{List}
@@ -24,10 +24,10 @@ use Rattle.slots.specs.Find.{isFree, holds, findIn}
 use Rattle.slots.specs.Shares.{Wide, lent-other}
 use Rattle.collector.specs.Calls.{Answered, heardAs, segmentIn, answerAs}
 use Rattle.history.specs.Slots.{held-is, free-holds, slot-there, same-found}
-use Rattle.history.specs.Call.{State, taking, dropping, left, sound, limitOf, InUse, slotOf, lentOf, find, free, answering, replacing, Came, alone, full, first, more, unread, came, none-dropped, found-dropped, cleared}
+use Rattle.history.specs.Call.{State, taking, dropping, left, groupLeaves, dropLeaves, sound, limitOf, InUse, slotOf, lentOf, find, answering, replacing, Came, alone, full, first, more, unread, came, none-dropped, found-dropped, cleared}
 use Rattle.history.specs.Ready.{used-inside, used-lent, found-used, found-holds, free-used, free-free}
 use Rattle.history.specs.Taken.{taken-number}
-use Rattle.history.specs.Shown.{showing, frontOf, unheld-shown, held-shown}
+use Rattle.history.specs.Shown.{showing, unheld-shown, held-shown}
 use Rattle.history.specs.Sound.{Intact, lent-is-wide, more-lent, first-lent, cleared-lent, segment-bytes, group-intact, drop-intact}
 
 -- what is held for a number is the same in two states
@@ -42,6 +42,18 @@ pub record Same (number : ℕ) (s t : State) : Type 0 where
 
 same-all : (number : ℕ) (s : State) (answer : Answer) → Same number s (left (answering answer s))
 same-all number s answer = record { limit = refl; found = refl; slot = λ i e. refl; lent = λ i e. refl }
+
+-- one after the other
+pub same-then : (number : ℕ) (s t u : State) → Same number s t → Same number t u → Same number s u
+same-then number s t u a b = record {
+  limit = b .limit ∙ a .limit;
+  found = b .found ∙ a .found;
+  slot = λ i e. b .slot i (a .found ∙ e) ∙ a .slot i e;
+  lent = λ i e. b .lent i (a .found ∙ e) ∙ a .lent i e;
+}
+
+pub same-self : (number : ℕ) (s : State) → Same number s s
+same-self number s = record { limit = refl; found = refl; slot = λ i e. refl; lent = λ i e. refl }
 
 -- another slot is replaced
 module _ (number : ℕ) (answer : Answer) (i : ℕ) (slot : Slot) (lent : Lent) (s : State) (good : sound s ≡ true) (u : InUse i s) (wide : Wide (limitOf s) lent) (before : holds number (slotOf i s) ≡ false) (after : holds number slot ≡ false) where
@@ -84,7 +96,7 @@ came-same number carried segment s t d y whole (more i n e) =
     (held-other number (carried .number) (x .slot) d (taken-number (carried .part) (limitOf s) segment (slotOf i s) (lentOf i s) ∙ old)))
 
 -- A GROUP that is not read, or that is read under another number
-pub group-others : (number : ℕ) (group : List ℕ) (s : State) → ((carried : Carried) → readingOf group ≡ Read carried → number ≢ carried .number) → Bytes group → Intact s → Same number s (left (taking group s))
+pub group-others : (number : ℕ) (group : List ℕ) (s : State) → ((carried : Carried) → readingOf group ≡ Read carried → number ≢ carried .number) → Bytes group → Intact s → Same number s (groupLeaves group s)
 group-others number group s d y whole = go (readingOf group) refl
   where
     go : (reading : Reading) → readingOf group ≡ reading → Same number s (left (taking group s))
@@ -92,7 +104,7 @@ group-others number group s d y whole = go (readingOf group) refl
     go (Read carried) e = came-same number carried (segmentIn group carried) s (taking group s) (d carried e) (segment-bytes group carried y) whole (came group s (whole .undamaged) carried e)
 
 -- A DROP of another number
-pub drop-others : (number other : ℕ) (s : State) → number ≢ other → Intact s → Same number s (left (dropping other s))
+pub drop-others : (number other : ℕ) (s : State) → number ≢ other → Intact s → Same number s (dropLeaves other s)
 unfolding freeSlot isFree
 drop-others number other s d whole = go (find other s) refl
   where
@@ -114,8 +126,8 @@ same-shown number part s t good good' same = go (find number s) refl
     go Nothing e = unheld-shown number part t good' (same .found ∙ e) ∙ sym (unheld-shown number part s good e)
     go (At i) e = held-shown number part t good' i (same .found ∙ e) ∙ rw (same .slot i e, same .lent i e) (sym (held-shown number part s good i e))
 
-pub group-others-shown : (number : ℕ) (part : Part) (group : List ℕ) (s : State) → ((carried : Carried) → readingOf group ≡ Read carried → number ≢ carried .number) → Bytes group → Intact s → showing number part (left (taking group s)) ≡ showing number part s
+pub group-others-shown : (number : ℕ) (part : Part) (group : List ℕ) (s : State) → ((carried : Carried) → readingOf group ≡ Read carried → number ≢ carried .number) → Bytes group → Intact s → showing number part (groupLeaves group s) ≡ showing number part s
 group-others-shown number part group s d y whole = same-shown number part s (left (taking group s)) (whole .undamaged) (group-intact group s y whole .undamaged) (group-others number group s d y whole)
 
-pub drop-others-shown : (number other : ℕ) (part : Part) (s : State) → number ≢ other → Intact s → showing number part (left (dropping other s)) ≡ showing number part s
+pub drop-others-shown : (number other : ℕ) (part : Part) (s : State) → number ≢ other → Intact s → showing number part (dropLeaves other s) ≡ showing number part s
 drop-others-shown number other part s d whole = same-shown number part s (left (dropping other s)) (whole .undamaged) (drop-intact other s whole .undamaged) (drop-others number other s d whole)

@@ -1,9 +1,9 @@
 -- The promises over any history: an opening within the limits, then any calls, and one call more. What was stored under a
 -- number is read off the answers.
-use mathlib.Core.Path.{_≡_, refl, sym, ap, _∙_}
+use mathlib.Core.Path.{_≡_, refl, ap}
 use mathlib.Core.Logic.{_≢_, _↔_}
 use mathlib.Core.List.{List, [], _∷_}
-use Prim.Native.Nat.{ℕ}
+use Prim.Native.Nat.{ℕ, _<_}
 use lib.ListN.{length}
 use Rattle.answer.specs.declared.Answer.{Answer}
 use Rattle.answer.specs.declared.Answer.the-variants as Answer
@@ -19,14 +19,16 @@ use Rattle.cut.specs.LawsObject.{headersWith, bodiesWith, those}
 use Rattle.gathering.specs.declared.Stage.the-variants as Stage
 use Rattle.gathering.specs.declared.Outcome.{Outcome}
 use Rattle.gathering.specs.declared.Outcome.the-variants.{Stored, Complete, Repeat, Conflict}
-use Rattle.slots.specs.declared.Found.the-variants.{Nothing}
+use Rattle.slots.specs.declared.Found.the-variants.{Nothing, At}
 use Rattle.collector.specs.Calls.{Answered, heardAs, segmentIn, answerAs}
-use Rattle.history.specs.Call.{State, taking, limitOf, find, free, unread, came}
+use Rattle.history.specs.Call.{State, taking, groupAnswer, limitOf, find, free, unread, came}
 use Rattle.history.specs.Sound.{Intact, segment-bytes, group-never, drop-never}
 use Rattle.history.specs.Shown.{showing}
-use Rattle.history.specs.History.{Call, hand, drop, ask, CallBytes, Event, handed, dropped, asked, event, Start, Allowed, reached, told, storedUnder}
+use Rattle.history.specs.Others.{Same, same-shown}
+use Rattle.history.specs.History.{Call, hand, drop, ask, CallBytes, Elsewhere, Event, handed, dropped, asked, event, after, Start, Allowed, reached, told, storedUnder}
 use Rattle.history.specs.Stands.{StandsFor}
-use Rattle.history.specs.Reached.{reached-intact, reached-stands, reached-limit}
+use Rattle.history.specs.Reached.{reached-intact, reached-stands, reached-limit, others-same}
+use Rattle.history.specs.Room.{unheld-exactly, none-free-exactly}
 use Rattle.history.specs.Answers.{SlotFor, Meets, Room, came-exactly, came-full}
 use Rattle.history.specs.Stage.{stageFor, all-finished, finished-all, finished-shown, unfinished-shown}
 
@@ -46,7 +48,7 @@ FitsWith start calls bytes carried = Fits (start .limit) (headersWith (carried .
 
 -- what a group is answered after these calls
 abbrev pub answerTo : Start → List Call → List ℕ → Answer
-answerTo start calls bytes = taking bytes (reached start calls) .answer
+answerTo start calls bytes = groupAnswer bytes (reached start calls)
 
 -- the answer that came back
 abbrev pub NotState : Event → Type 0
@@ -75,6 +77,16 @@ module _ (start : Start) (allowed : Allowed start) (calls : List Call) (y : Each
 
   stands : (number : ℕ) → StandsFor number (reached start calls) (stored start calls Header number) (stored start calls Body number)
   stands number = reached-stands start allowed calls y number
+
+  -- ---- calls under other numbers change nothing that is held for a number: its slot's record and stage, its marks, its
+  -- shares of the stores, and what is shown of it
+
+  module _ (number : ℕ) (more : List Call) (z : Each CallBytes more) (elsewhere : Each (Elsewhere number) more) where
+    pub others-held : Same number (reached start calls) (after more (reached start calls))
+    others-held = others-same number more (reached start calls) z elsewhere whole .0
+
+    pub others-shown : (part : Part) → showing number part (after more (reached start calls)) ≡ showing number part (reached start calls)
+    others-shown part = same-shown number part (reached start calls) (after more (reached start calls)) (whole .undamaged) (others-same number more (reached start calls) z elsewhere whole .1 .undamaged) others-held
 
   -- ---- demand 3: a group that passes the reading checks
 
@@ -108,6 +120,14 @@ module _ (start : Start) (allowed : Allowed start) (calls : List Call) (y : Each
   -- a group that does not pass them is answered with the first check that it fails
   pub refused-unread : (bytes : List ℕ) (why : Refusal) → readingOf bytes ≡ Refused why → answerTo start calls bytes ≡ Answer.Refused why
   refused-unread bytes why e = ap (λ (t : Answered). t .answer) (unread bytes (reached start calls) (whole .undamaged) why e)
+
+  -- a number holds no slot exactly when nothing is stored under it
+  pub unheld-stored : (number : ℕ) → (find number (reached start calls) ≡ Nothing) ↔ ((stored start calls Header number ≡ []) × (stored start calls Body number ≡ []))
+  unheld-stored number = unheld-exactly number (reached start calls) (stored start calls Header number) (stored start calls Body number) (whole .undamaged) (stands number)
+
+  -- none is free exactly when each of the slots holds a number
+  pub none-free : (free (reached start calls) ≡ Nothing) ↔ ((i : ℕ) → i < start .count → (number : ℕ) × (find number (reached start calls) ≡ At i))
+  none-free = none-free-exactly start allowed calls y
 
   -- FINISHED exactly when every segment of the object is in
   pub finished-exactly : (number : ℕ) → ((header : ℕ) × (body : ℕ) × (stageFor number (reached start calls) ≡ Stage.Finished header body)) ↔ ((f : FitsStored start calls number) × Finished f)

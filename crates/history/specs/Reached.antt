@@ -1,13 +1,11 @@
 -- Every state that is reached since an opening, by any calls: it is not damaged, and each slot holds just what was stored
 -- under its number.
-use mathlib.Core.Path.{_≡_, refl, sym, ap, _∙_}
-use mathlib.Core.Logic.{_≢_}
+use mathlib.Core.Path.{_≡_, refl, _∙_}
 use mathlib.Core.List.{List, [], _∷_}
 use Prim.Native.Nat.{ℕ}
 use native.Mathlib.Omega.{arith}
 use lib.ListN.{length, replicate, length-replicate, getD-replicate}
 use Rattle.octets.specs.Octets.{zeros}
-use Rattle.answer.specs.declared.Answer.the-variants as Answer
 use Rattle.group.specs.declared.Segment.{Segment as Carried}
 use Rattle.group.specs.declared.Reading.{Reading}
 use Rattle.group.specs.declared.Reading.the-variants.{Read, Refused}
@@ -21,11 +19,12 @@ use Rattle.slots.specs.Find.{isFree, holds, findIn}
 use Rattle.counts.specs.Counted.{noneYet}
 use Rattle.collector.specs.Calls.{Answered, segmentIn, allFree}
 use Rattle.history.specs.Slots.{free-holds, none-found, limits-within}
-use Rattle.history.specs.Call.{State, taking, dropping, left, limitOf, find, Came, alone, full, first, more, unread, came, none-dropped, found-dropped, opening, opened-all, inLimits}
+use Rattle.history.specs.Call.{State, taking, dropping, left, limitOf, find, Came, alone, full, first, more, unread, came, none-dropped, found-dropped, opened-all}
 use Rattle.history.specs.Ready.{used-inside, found-used}
-use Rattle.history.specs.Sound.{Intact, group-intact, drop-intact, opening-intact, group-never, drop-never}
-use Rattle.history.specs.History.{Call, hand, drop, ask, CallBytes, Event, leaves, event, after, history, Start, Allowed, opened, reached, told, under}
-use Rattle.history.specs.Stands.{StandsFor, Stands, group-stands, drop-stands}
+use Rattle.history.specs.Sound.{Intact, group-intact, drop-intact, opening-intact}
+use Rattle.history.specs.Others.{Same, same-then, same-self, group-others, drop-others}
+use Rattle.history.specs.History.{Call, hand, drop, ask, CallBytes, Elsewhere, Event, leaves, event, after, Start, Allowed, opened, reached, told, under}
+use Rattle.history.specs.Stands.{Stands, group-stands, drop-stands}
 
 -- ---- the opening
 
@@ -100,3 +99,15 @@ reached-limit start a (call ∷ calls) y = leaves-bounds call (reached start cal
 pub reached-count : (start : Start) → Allowed start → (calls : List Call) → Each CallBytes calls → reached start calls .collector .count ≡ start .count
 reached-count start a [] y = rw (start-is start a) refl
 reached-count start a (call ∷ calls) y = leaves-bounds call (reached start calls) (reached-intact start a calls (y .1)) .count ∙ reached-count start a calls (y .1)
+
+-- CALLS UNDER OTHER NUMBERS change nothing that is held for a number
+leaves-others : (number : ℕ) (call : Call) (s : State) → CallBytes call → Elsewhere number call → Intact s → Same number s (leaves call s)
+leaves-others number (hand bytes) s y d whole = group-others number bytes s d y whole
+leaves-others number (drop other) s y d whole = drop-others number other s d whole
+leaves-others number (ask other part) s y d whole = same-self number s
+
+pub others-same : (number : ℕ) (calls : List Call) (s : State) → Each CallBytes calls → Each (Elsewhere number) calls → Intact s → Same number s (after calls s) × Intact (after calls s)
+others-same number [] s y d whole = (same-self number s, whole)
+others-same number (call ∷ calls) s y d whole =
+    let before = others-same number calls s (y .1) (d .1) whole in
+    (same-then number s (after calls s) (leaves call (after calls s)) (before .0) (leaves-others number call (after calls s) (y .0) (d .0) (before .1)), leaves-intact call (after calls s) (y .0) (before .1))

@@ -1,7 +1,6 @@
 -- What the test of a state gives, where it passes: of each slot in use, of the one that holds a number and of a free one.
 use mathlib.Core.Path.{_≡_}
 use mathlib.Core.Bool.{true, false}
-use mathlib.Core.List.{List}
 use Prim.Native.Nat.{ℕ, _*_, _≤_}
 use lib.ListN.{drop}
 use Rattle.octets.specs.Octets.{sumOf}

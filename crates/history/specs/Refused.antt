@@ -5,7 +5,7 @@ use mathlib.Core.Bool.{Bool, true, false}
 use mathlib.Core.List.{List}
 use Prim.Native.Nat.{ℕ, zero, suc, _≤_}
 use native.Mathlib.Omega.{arith}
-use lib.ListN.{getD, set}
+use lib.ListN.{getD}
 use lib.Seq.{set-getD}
 use Rattle.answer.specs.declared.Answer.{Answer}
 use Rattle.answer.specs.declared.Answer.the-variants as Answer
@@ -30,13 +30,13 @@ use Rattle.gathering.specs.Memory.{segmentAt}
 use Rattle.gathering.specs.Take.{Lent, partsOf, memoryOf, takesIn, partsWith, stageOf, outcomeBy, Taken, unchanged, sameSegment, ifNew, ifHeld, byMark, takeInto}
 use Rattle.slots.specs.declared.Found.{Found}
 use Rattle.slots.specs.declared.Found.the-variants.{Nothing, At}
-use Rattle.slots.specs.Stores.{Stores, lentAt, withLent, freeSlot, freshSlot, slotAt}
+use Rattle.slots.specs.Stores.{Stores, freeSlot, freshSlot, slotAt}
 use Rattle.slots.specs.Alone.{fitsAlone}
 use Rattle.slots.specs.Fresh.{fresh-taken}
-use Rattle.collector.specs.Calls.{Answered, withSlots, heardAs, segmentIn, answerAs, allFree}
+use Rattle.collector.specs.Calls.{Answered, heardAs, segmentIn, answerAs, allFree}
 use Rattle.history.specs.Slots.{Used}
-use Rattle.history.specs.Call.{State, taking, dropping, left, sound, limitOf, slotOf, lentOf, find, free, answering, replacing, offering, Came, alone, full, first, more, group-damaged, unread, came, drop-damaged, none-dropped, found-dropped, lent-same, inLimits, opening, opened-none}
-use Rattle.history.specs.Ready.{slots-right, used-inside, found-used, free-used, free-marks}
+use Rattle.history.specs.Call.{State, taking, dropping, left, groupAnswer, groupLeaves, dropAnswer, dropLeaves, sound, limitOf, slotOf, lentOf, find, answering, replacing, offering, Came, alone, full, first, more, group-damaged, unread, came, drop-damaged, none-dropped, found-dropped, lent-same, inLimits, opening, opened-none}
+use Rattle.history.specs.Ready.{slots-right, used-inside, found-used, free-marks}
 
 -- ---- the offer of a segment
 
@@ -195,25 +195,25 @@ counted-not Answer.Limits c h = refl
 counted-not Answer.State c h = refl
 
 -- A REFUSED GROUP, 10 to 18: one more is refused, and every other count, every store byte, every mark and every slot's record stay
-pub refused-group : (group : List ℕ) (s : State) → 10 ≤ numberOf (taking group s .answer) → numberOf (taking group s .answer) ≤ 18
-    → left (taking group s) ≡ record { collector = s .collector; counts = oneRefused (s .counts); stores = s .stores }
+pub refused-group : (group : List ℕ) (s : State) → 10 ≤ numberOf (groupAnswer group s) → numberOf (groupAnswer group s) ≤ 18
+    → groupLeaves group s ≡ record { collector = s .collector; counts = oneRefused (s .counts); stores = s .stores }
 refused-group group s h g =
     let a : Answer = taking group s .answer in
     ap left (group-kept group s (refusal-kept a h)) ∙ ap (λ (c : Counts). record { collector = s .collector; counts = c; stores = s .stores }) (counted-refused a (s .counts) h g)
 
 -- 19 to 26 change nothing, the counts neither
-pub unanswered-group : (group : List ℕ) (s : State) → 19 ≤ numberOf (taking group s .answer) → left (taking group s) ≡ s
+pub unanswered-group : (group : List ℕ) (s : State) → 19 ≤ numberOf (groupAnswer group s) → groupLeaves group s ≡ s
 unanswered-group group s h =
     let a : Answer = taking group s .answer in
     ap left (group-kept group s (refusal-kept a (omega arith))) ∙ ap (λ (c : Counts). record { collector = s .collector; counts = c; stores = s .stores }) (counted-not a (s .counts) h)
 
 -- A REFUSED DROP changes nothing
-pub refused-drop : (number : ℕ) (s : State) → 10 ≤ numberOf (dropping number s .answer) → left (dropping number s) ≡ s
+pub refused-drop : (number : ℕ) (s : State) → 10 ≤ numberOf (dropAnswer number s) → dropLeaves number s ≡ s
 refused-drop number s h = drop-kept number s (refusal-kept (dropping number s .answer) h)
 
 -- A REPEAT: one more is repeated, and nothing else changes
-pub repeated-group : (group : List ℕ) (s : State) (heard : Heard) → taking group s .answer ≡ Answer.Repeat heard
-    → left (taking group s) ≡ record { collector = s .collector; counts = oneRepeated (s .counts); stores = s .stores }
+pub repeated-group : (group : List ℕ) (s : State) (heard : Heard) → groupAnswer group s ≡ Answer.Repeat heard
+    → groupLeaves group s ≡ record { collector = s .collector; counts = oneRepeated (s .counts); stores = s .stores }
 repeated-group group s heard e = ap left (group-kept group s (rw e tt)) ∙ ap (λ (a : Answer). record { collector = s .collector; counts = counted a (s .counts); stores = s .stores }) e
 
 -- ---- a refused opening

@@ -12,7 +12,6 @@ use Rattle.octets.specs.Shares.{share}
 use Rattle.answer.specs.declared.Part.{Part}
 use Rattle.answer.specs.declared.Part.the-variants.{Header, Body}
 use Rattle.cut.specs.Requirement.{headerMost}
-use Rattle.gathering.specs.declared.Slot.{Slot}
 use Rattle.gathering.specs.declared.Stage.{Stage}
 use Rattle.gathering.specs.declared.Stage.the-variants.{Free, Gathering, Finished}
 use Rattle.gathering.specs.Take.{Lent, partsOf}
@@ -23,9 +22,8 @@ use Rattle.slots.specs.declared.Found.the-variants.{Nothing, At}
 use Rattle.slots.specs.Stores.{Stores, lentAt}
 use Rattle.slots.specs.Take.{Inside}
 use Rattle.slots.specs.Show.{startOf, shownAs, shownOf}
-use Rattle.collector.specs.declared.Located.{Located}
-use Rattle.collector.specs.Calls.{locatedAs, locatedIn, locate, shownAt, show}
-use Rattle.history.specs.Call.{State, sound, limitOf, InUse, slotOf, lentOf, find}
+use Rattle.collector.specs.Calls.{locatedAs, locate, shownAt, show}
+use Rattle.history.specs.Call.{State, sound, limitOf, slotOf, lentOf, find}
 use Rattle.history.specs.Ready.{slots-sound, used-inside, found-used, found-sound}
 
 -- a question: a finished object's header or body

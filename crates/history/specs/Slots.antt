@@ -4,7 +4,7 @@ use mathlib.Core.Path.{_≡_, refl, sym, ap, _∙_, subst}
 use mathlib.Core.Logic.{_≢_}
 use mathlib.Core.Bool.{Bool, true, false}
 use mathlib.Core.List.{List, [], _∷_}
-use Prim.Native.Nat.{ℕ, zero, suc, _+_, _*_, _≤_, _<_}
+use Prim.Native.Nat.{ℕ, zero, suc, _+_, _*_, _<_}
 use native.Mathlib.Nat.{zero-add}
 use native.Mathlib.Decide.{ℕ-discrete}
 use native.Mathlib.Omega.{arith}
@@ -20,7 +20,7 @@ use Rattle.gathering.specs.Take.{Lent}
 use Rattle.slots.specs.declared.Found.{Found}
 use Rattle.slots.specs.declared.Found.the-variants.{Nothing, At}
 use Rattle.slots.specs.Stores.{slotsMost, slotMarks, Stores, lentAt, withLent, freeSlot, slotAt}
-use Rattle.slots.specs.Find.{freeStage, isFree, holds, firstFrom, findIn}
+use Rattle.slots.specs.Find.{freeStage, isFree, holds, firstFrom}
 use Rattle.slots.specs.State.{withinLimits, heldAmong, unlike, distinct, rightSlot, rightFrom, soundSlots}
 use Rattle.slots.specs.StateTests.{Limits}
 use Rattle.slots.specs.Take.{Inside}

@@ -47,7 +47,7 @@ use Rattle.history.specs.Counts.{low-within, counted-low}
 use Rattle.history.specs.Ready.{OfBytes, slots-sound, counts-low, slots-right, limit-low, used-inside, used-lent, found-used, found-holds, found-sound, none-holds, free-used, free-marks}
 use Rattle.history.specs.Taken.{sound-right, taken-number, fresh-gathers, fresh-added}
 use Rattle.history.specs.Slots.{Used, Undamaged, held-is, is-held, free-holds, undamaged-sound, replaced}
-use Rattle.history.specs.Call.{State, taking, dropping, left, sound, limitOf, InUse, slotOf, lentOf, find, free, answering, replacing, Came, alone, full, first, more, unread, came, none-dropped, found-dropped, cleared, inLimits, opening, opened-all}
+use Rattle.history.specs.Call.{State, taking, dropping, left, groupAnswer, groupLeaves, dropAnswer, dropLeaves, sound, limitOf, InUse, slotOf, lentOf, find, free, answering, replacing, Came, alone, full, first, more, unread, came, none-dropped, found-dropped, cleared, inLimits, opening, opened-all}
 
 -- a state that is not damaged, and what is lent are bytes, as all memory is
 pub record Intact (s : State) : Type 0 where
@@ -183,7 +183,7 @@ came-intact carried segment s t y whole (first i n a f e) = rw e (first-intact s
 came-intact carried segment s t y whole (more i n e) = rw e (more-intact s whole (answerAs (takeInto (carried .part) (limitOf s) segment (slotOf i s) (lentOf i s) .outcome) (heardAs carried)) (carried .number) i (carried .part) segment y n)
 
 -- A GROUP of any bytes leaves the state undamaged
-pub group-intact : (group : List ℕ) (s : State) → Bytes group → Intact s → Intact (left (taking group s))
+pub group-intact : (group : List ℕ) (s : State) → Bytes group → Intact s → Intact (groupLeaves group s)
 group-intact group s y whole = go (readingOf group) refl
   where
     go : (reading : Reading) → readingOf group ≡ reading → Intact (left (taking group s))
@@ -191,7 +191,7 @@ group-intact group s y whole = go (readingOf group) refl
     go (Read carried) e = came-intact carried (segmentIn group carried) s (taking group s) (segment-bytes group carried y) whole (came group s (whole .undamaged) carried e)
 
 -- A DROP of any number does so too
-pub drop-intact : (number : ℕ) (s : State) → Intact s → Intact (left (dropping number s))
+pub drop-intact : (number : ℕ) (s : State) → Intact s → Intact (dropLeaves number s)
 drop-intact number s whole = go (find number s) refl
   where
     go : (found : Found) → find number s ≡ found → Intact (left (dropping number s))
@@ -242,14 +242,14 @@ came-never carried segment s t (full n a f e) d = let z : _≡_ {A = ℕ} 0 1 = 
 came-never carried segment s t (first i n a f e) d = named-never (takeInto (carried .part) (limitOf s) segment (freshSlot (carried .number)) (lentOf i s) .outcome) (heardAs carried) (rw e at d)
 came-never carried segment s t (more i n e) d = named-never (takeInto (carried .part) (limitOf s) segment (slotOf i s) (lentOf i s) .outcome) (heardAs carried) (rw e at d)
 
-pub group-never : (group : List ℕ) (s : State) → Intact s → taking group s .answer ≢ Answer.State
+pub group-never : (group : List ℕ) (s : State) → Intact s → groupAnswer group s ≢ Answer.State
 group-never group s whole = go (readingOf group) refl
   where
     go : (reading : Reading) → readingOf group ≡ reading → taking group s .answer ≢ Answer.State
     go (Refused why) e d = let f = unread group s (whole .undamaged) why e in let z : _≡_ {A = ℕ} 0 1 = cc in absurd (omega arith)
     go (Read carried) e d = came-never carried (segmentIn group carried) s (taking group s) (came group s (whole .undamaged) carried e) d
 
-pub drop-never : (number : ℕ) (s : State) → Intact s → dropping number s .answer ≢ Answer.State
+pub drop-never : (number : ℕ) (s : State) → Intact s → dropAnswer number s ≢ Answer.State
 drop-never number s whole = go (find number s) refl
   where
     go : (found : Found) → find number s ≡ found → dropping number s .answer ≢ Answer.State

@@ -1,9 +1,8 @@
 -- The stage of a number's slot and what is shown of it, where the slots hold just what was stored.
 use mathlib.Core.Path.{_≡_, refl, sym, ap, _∙_, subst}
-use mathlib.Core.Logic.{_↔_}
 use mathlib.Core.Bool.{true}
 use mathlib.Core.List.{List, []}
-use Prim.Native.Nat.{ℕ, _*_, _<_}
+use Prim.Native.Nat.{ℕ}
 use native.Mathlib.Nat.{zero-mul}
 use native.Mathlib.Omega.{arith}
 use lib.ListN.{length}
@@ -11,11 +10,9 @@ use Rattle.answer.specs.declared.Part.{Part}
 use Rattle.answer.specs.declared.Part.the-variants.{Header, Body}
 use Rattle.cut.specs.Requirement.{headerNumbers, bodyNumbers, Segment, Fits, Finished, joined}
 use Rattle.cut.specs.Finished.{segmentOf, segment-sent, finished-every, finished-one}
-use Rattle.gathering.specs.declared.Slot.{Slot}
 use Rattle.gathering.specs.declared.Stage.{Stage}
 use Rattle.gathering.specs.declared.Stage.the-variants as Stage
-use Rattle.gathering.specs.Take.{Lent}
-use Rattle.gathering.specs.Held.{StageFor, Holds, Shows}
+use Rattle.gathering.specs.Held.{StageFor, Holds}
 use Rattle.gathering.specs.Shown.{holds-shows}
 use Rattle.slots.specs.declared.Found.{Found}
 use Rattle.slots.specs.declared.Found.the-variants.{Nothing, At}

@@ -1,5 +1,5 @@
 -- Each slot holds just what was stored under its number, and nothing was stored under any other number: kept by every call.
-use mathlib.Core.Path.{_≡_, refl, sym, ap, _∙_, subst}
+use mathlib.Core.Path.{_≡_, refl, sym, _∙_, subst}
 use mathlib.Core.Logic.{_≢_}
 use mathlib.Core.Bool.{Bool, true, false}
 use mathlib.Core.List.{List, [], _∷_}
@@ -19,9 +19,8 @@ use Rattle.group.specs.declared.Segment.{Segment as Carried}
 use Rattle.group.specs.declared.Reading.{Reading}
 use Rattle.group.specs.declared.Reading.the-variants.{Read, Refused}
 use Rattle.group.specs.Reading.{readingOf}
-use Rattle.cut.specs.Lists.{pick, Each, Bytes}
+use Rattle.cut.specs.Lists.{pick, Bytes}
 use Rattle.cut.specs.Requirement.{Segment}
-use Rattle.cut.specs.LawsDecision.{false-true}
 use Rattle.cut.specs.LawsObject.{headersWith, bodiesWith}
 use Rattle.gathering.specs.declared.Slot.{Slot}
 use Rattle.gathering.specs.declared.Outcome.{Outcome}
@@ -39,11 +38,11 @@ use Rattle.slots.specs.Shares.{lent-back}
 use Rattle.collector.specs.Calls.{Answered, heardAs, segmentIn, answerAs}
 use Rattle.history.specs.Slots.{held-is, is-held, free-holds, none-found, only-found, slot-here, slot-there, used-before, used-after}
 use Rattle.history.specs.Call.{State, taking, dropping, left, sound, limitOf, InUse, slotOf, lentOf, find, free, answering, replacing, offering, Came, alone, full, first, more, unread, came, none-dropped, found-dropped, cleared}
-use Rattle.history.specs.Ready.{slots-right, limit-low, used-inside, used-lent, found-used, found-holds, none-holds, free-used, free-free, free-marks}
+use Rattle.history.specs.Ready.{slots-right, limit-low, used-inside, used-lent, found-used, found-holds, free-used, free-marks}
 use Rattle.history.specs.Taken.{holds-held, taken-number, fresh-gathers, fresh-added}
 use Rattle.history.specs.Sound.{Intact, lent-is-wide, more-lent, first-lent, segment-bytes, group-intact}
 use Rattle.history.specs.Others.{Same, came-same, drop-others}
-use Rattle.history.specs.History.{Event, handed, dropped, asked, isStored, isDropped, with, afterGroup, afterDrop, under, storedUnder}
+use Rattle.history.specs.History.{Event, handed, dropped, isStored, isDropped, with, afterGroup, afterDrop, under, storedUnder}
 
 -- the slot that holds a number holds just these segments; if none holds it, there are none
 pub record StandsFor (number : ℕ) (s : State) (hs bs : List Segment) : Type 0 where

@@ -1,5 +1,5 @@
 -- Each of the five counts is the number of such answers since the opening, or 2147483647 where there were more.
-use mathlib.Core.Path.{_≡_, refl, sym, ap, _∙_}
+use mathlib.Core.Path.{_≡_, refl, ap, _∙_}
 use mathlib.Core.Bool.{Bool, true, false, cond}
 use mathlib.Core.List.{List, [], _∷_}
 use Prim.Native.Nat.{ℕ, suc, _+_, min}
@@ -12,20 +12,20 @@ use Rattle.answer.specs.declared.Refusal.{Refusal}
 use Rattle.answer.specs.declared.Refusal.the-variants as Refusal
 use Rattle.answer.specs.Table.{numberOf}
 use Rattle.counts.specs.declared.Counts.{Counts}
-use Rattle.counts.specs.Counted.{ceiling, risen, noneYet, counted}
+use Rattle.counts.specs.Counted.{ceiling, risen, counted}
 use Rattle.group.specs.declared.Segment.{Segment as Carried}
 use Rattle.group.specs.declared.Reading.{Reading}
 use Rattle.group.specs.declared.Reading.the-variants.{Read, Refused}
 use Rattle.group.specs.Reading.{readingOf}
-use Rattle.cut.specs.Lists.{pick, Each}
+use Rattle.cut.specs.Lists.{pick}
 use Rattle.cut.specs.Requirement.{Segment}
 use Rattle.cut.specs.Decision.{both}
 use Rattle.slots.specs.declared.Found.{Found}
 use Rattle.slots.specs.declared.Found.the-variants.{Nothing, At}
 use Rattle.collector.specs.Calls.{Answered, segmentIn}
-use Rattle.history.specs.Call.{State, taking, dropping, left, sound, find, Came, alone, full, first, more, group-damaged, unread, came, drop-damaged, none-dropped, found-dropped}
+use Rattle.history.specs.Call.{State, taking, dropping, sound, find, Came, alone, full, first, more, group-damaged, unread, came, drop-damaged, none-dropped, found-dropped}
 use Rattle.history.specs.Ready.{used-inside, found-used}
-use Rattle.history.specs.History.{Call, hand, drop, ask, CallBytes, Event, handed, dropped, asked, leaves, event, Start, Allowed, opened, reached, told}
+use Rattle.history.specs.History.{Call, hand, drop, ask, Event, handed, dropped, asked, leaves, event, Start, Allowed, reached, told}
 use Rattle.history.specs.Reached.{start-is}
 
 -- the answer's number lies from low to high
