@@ -25,14 +25,11 @@ use Rattle.slots.specs.declared.Found.the-variants.{Nothing, At}
 use Rattle.slots.specs.Stores.{freshSlot}
 use Rattle.collector.specs.Calls.{Answered, heardAs, answerAs}
 use Rattle.history.specs.Call.{State, limitOf, slotOf, lentOf, find, free, Came, alone, full, first, more}
+use Rattle.history.specs.Held.{SlotFor}
 use Rattle.history.specs.Ready.{limit-low, used-lent, free-used, free-marks}
 use Rattle.history.specs.Taken.{fresh-gathers, alone-fits}
 use Rattle.history.specs.Sound.{Intact}
 use Rattle.history.specs.Stands.{StandsFor}
-
--- a slot is there for a number: it holds one, or one is free
-abbrev pub SlotFor : ℕ → State → Type 0
-SlotFor number s = ¬ ((find number s ≡ Nothing) × (free s ≡ Nothing))
 
 -- when a segment of a part is answered so, with hs and bs stored under its number
 abbrev pub Meets : Outcome → Part → ℕ → Segment → List Segment → List Segment → Type 0

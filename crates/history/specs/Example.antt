@@ -38,9 +38,10 @@ use Rattle.slots.specs.Take.{takeAt, takeNew, dropAt}
 use Rattle.collector.specs.Calls.{soundState, segmentIn, takeGroup, dropNumber, openedBy, locate, show}
 use Rattle.history.specs.Call.{opening}
 use Rattle.history.specs.Shown.{showing}
-use Rattle.history.specs.History.{Call, hand, drop, ask, CallBytes, handed, dropped, asked, Start, Allowed, reached, told, under}
-use Rattle.history.specs.Stage.{stageFor}
-use Rattle.history.specs.OneCut.{From, cameUnder, one-cut-finishes}
+use Rattle.history.specs.History.{Call, hand, drop, ask, CallBytes, handed, dropped, asked, Start, Allowed, ours, told, under}
+use Rattle.history.specs.Held.{stageFor}
+use Rattle.history.specs.Promise.{Run, reachedBy, From, cameUnder}
+use Rattle.history.specs.Promises.{promised}
 
 -- ---- the groups
 
@@ -64,10 +65,15 @@ header = 0x73 ∷ 0x00 ∷ 0x80 ∷ 0x00 ∷ 0x12 ∷ 0x00 ∷ 0x05 ∷ 0x00 ∷
 abbrev otherNumber : List ℕ
 otherNumber = 0x73 ∷ 0x00 ∷ 0x80 ∷ 0x00 ∷ 0x12 ∷ 0x00 ∷ 0x06 ∷ 0x00 ∷ 0x07 ∷ 0x00 ∷ 0x00 ∷ 0x01 ∷ 0x40 ∷ 0x03 ∷ 0x80 ∷ 0x00 ∷ 0xC0 ∷ 0xE8 ∷ []
 
+-- all that a run is computed with
+unfoldable pub computing : Unit {0}
+unfolding under opening openedBy takeGroup dropNumber soundState segmentIn locate show shownOf startOf takeAt takeNew dropAt slotAt freshSlot freeSlot withLent lentAt soundSlots rightFrom rightSlot distinct unlike heldAmong withinLimits freeIn findIn firstFrom holds isFree fitsAlone soundSlot soundParts recordRight takeInto slotWith sameSegment stageOf partsWith recordWithin recordWith takesIn coreIn lentOf partsOf put settled segmentAt suitsIn possibleIn settle alone largest room coreFits boundsOf headerSize bodySize within risen largestOf equal zeros over readingOf kindOf checkHolds sizeWrong segmentOf checkWord divided bitsEntered entered step
+computing = tt
+
 -- ---- every kind of answer
 
 -- one slot, a body of up to 1,024 bytes; the marks are whatever they were
-pub small : Start
+unfoldable pub small : Start
 small = record { limit = 1024; count = 1; counts = noneYet; stores = record { header = replicate 1024 0; body = replicate 1024 0; marks = replicate 1088 7 } }
 
 pub allowed : Allowed small
@@ -100,7 +106,7 @@ inHeader number = record { number = number; part = Header; segment = 0 }
 abbrev inBody : ℕ → Heard
 inBody segment = record { number = 5; part = Body; segment = segment }
 
-pub answers : told small calls
+pub answers : told ours small calls
     ≡ dropped 5 (Answer.Dropped 5)
     ∷ dropped 6 Answer.NotHeld
     ∷ asked 5 Body (0x61 ∷ 0x62 ∷ 0x63 ∷ 0x64 ∷ 0x65 ∷ 0x66 ∷ 0x67 ∷ 0x68 ∷ 0x69 ∷ 0x6A ∷ 0x6B ∷ 0x6C ∷ 0x6D ∷ 0x6E ∷ 0x6F ∷ 0x70 ∷ 0x74 ∷ 0x75 ∷ 0x76 ∷ 0x77 ∷ [])
@@ -112,7 +118,7 @@ pub answers : told small calls
     ∷ handed header (Answer.Stored (inHeader 5))
     ∷ handed bodyLast (Answer.Stored (inBody 1))
     ∷ []
-unfolding small opening openedBy takeGroup dropNumber soundState segmentIn locate show shownOf startOf takeAt takeNew dropAt slotAt freshSlot freeSlot withLent lentAt soundSlots rightFrom rightSlot distinct unlike heldAmong withinLimits freeIn findIn firstFrom holds isFree fitsAlone soundSlot soundParts recordRight takeInto slotWith sameSegment stageOf partsWith recordWithin recordWith takesIn coreIn lentOf partsOf put settled segmentAt suitsIn possibleIn settle alone largest room coreFits boundsOf headerSize bodySize within risen largestOf equal zeros over readingOf kindOf checkHolds sizeWrong segmentOf checkWord divided bitsEntered entered step
+unfolding computing small
 answers = refl
 
 -- ---- one cut of one object, with a group under another number between
@@ -170,15 +176,15 @@ abbrev bodyRest : Segment
 bodyRest = segmentIn bodyLast (readAs 5 Body 1 true 4)
 
 -- all of them came with a slot there, the last body segment twice
-came-header : cameUnder Header 5 (told small oneCut) ≡ headerWhole ∷ []
-unfolding under small opening openedBy takeGroup dropNumber soundState segmentIn locate show shownOf startOf takeAt takeNew dropAt slotAt freshSlot freeSlot withLent lentAt soundSlots rightFrom rightSlot distinct unlike heldAmong withinLimits freeIn findIn firstFrom holds isFree fitsAlone soundSlot soundParts recordRight takeInto slotWith sameSegment stageOf partsWith recordWithin recordWith takesIn coreIn lentOf partsOf put settled segmentAt suitsIn possibleIn settle alone largest room coreFits boundsOf headerSize bodySize within risen largestOf equal zeros over readingOf kindOf checkHolds sizeWrong segmentOf checkWord divided bitsEntered entered step
+came-header : cameUnder Header 5 (told ours small oneCut) ≡ headerWhole ∷ []
+unfolding computing small
 came-header = refl
 
-came-body : cameUnder Body 5 (told small oneCut) ≡ bodyHalf ∷ bodyRest ∷ bodyRest ∷ []
-unfolding under small opening openedBy takeGroup dropNumber soundState segmentIn locate show shownOf startOf takeAt takeNew dropAt slotAt freshSlot freeSlot withLent lentAt soundSlots rightFrom rightSlot distinct unlike heldAmong withinLimits freeIn findIn firstFrom holds isFree fitsAlone soundSlot soundParts recordRight takeInto slotWith sameSegment stageOf partsWith recordWithin recordWith takesIn coreIn lentOf partsOf put settled segmentAt suitsIn possibleIn settle alone largest room coreFits boundsOf headerSize bodySize within risen largestOf equal zeros over readingOf kindOf checkHolds sizeWrong segmentOf checkWord divided bitsEntered entered step
+came-body : cameUnder Body 5 (told ours small oneCut) ≡ bodyHalf ∷ bodyRest ∷ bodyRest ∷ []
+unfolding computing small
 came-body = refl
 
-pub all-come : (part : Part) (s : Segment) → SentBy object part s → Among s (cameUnder part 5 (told small oneCut))
+pub all-come : (part : Part) (s : Segment) → SentBy object part s → Among s (cameUnder part 5 (told ours small oneCut))
 unfolding object segmentIn
 all-come Header = rw came-header (whole-numbers (object .header) 16 (headerWhole ∷ []) (record { starts = omega arith; holds = refl; ends = refl }, tt) .1 number)
   where
@@ -193,6 +199,9 @@ all-come Body = rw came-body (whole-numbers (object .body) 16 (bodyHalf ∷ body
     number (suc (suc n)) h = absurd (omega arith)
 
 -- so it is finished and shown
-pub finished : (stageFor 5 (reached small oneCut) ≡ Stage.Finished 7 20) × (showing 5 Header (reached small oneCut) ≡ object .header) × (showing 5 Body (reached small oneCut) ≡ object .body)
-unfolding object small
-finished = one-cut-finishes small allowed object 5 oneCut of-bytes-one from-one all-come
+pub run : Run
+run = record { start = small; allowed = allowed; calls = oneCut; bytes = of-bytes-one }
+
+pub finished : (stageFor 5 (reachedBy ours run) ≡ Stage.Finished 7 20) × (showing 5 Header (reachedBy ours run) ≡ object .header) × (showing 5 Body (reachedBy ours run) ≡ object .body)
+unfolding object small run
+finished = promised .finishes run object 5 from-one all-come

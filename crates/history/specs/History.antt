@@ -50,25 +50,6 @@ pub data Event : Type 0 where
   dropped : (number : ℕ) (answer : Answer) → Event
   asked : (number : ℕ) (part : Part) (shown : List ℕ) → Event
 
-abbrev pub leaves : Call → State → State
-leaves (hand bytes) s = groupLeaves bytes s
-leaves (drop number) s = dropLeaves number s
-leaves (ask number part) s = s
-
-abbrev pub event : Call → State → Event
-event (hand bytes) s = handed bytes (groupAnswer bytes s)
-event (drop number) s = dropped number (dropAnswer number s)
-event (ask number part) s = asked number part (showing number part s)
-
--- the state after the calls, and all that came back
-abbrev pub after : List Call → State → State
-after [] s = s
-after (call ∷ calls) s = leaves call (after calls s)
-
-abbrev pub history : List Call → State → List Event
-history [] s = []
-history (call ∷ calls) s = event call (after calls s) ∷ history calls s
-
 -- ---- since an opening
 
 -- what an opening is handed
@@ -83,14 +64,37 @@ pub record Allowed (start : Start) : Type 0 where
   pub limits : Limits (start .limit) (start .count) (length (start .stores .header)) (length (start .stores .body)) (length (start .stores .marks))
   pub bytes : OfBytes (start .stores)
 
-abbrev pub opened : Start → State
-opened start = opening (start .limit) (start .count) (start .counts) (start .stores)
+-- a collector, as a history of calls meets it: what each call answers and leaves
+pub record Collecting : Type 0 where
+  pub opens : Start → State
+  pub answersGroup : List ℕ → State → Answer
+  pub leavesGroup : List ℕ → State → State
+  pub answersDrop : ℕ → State → Answer
+  pub leavesDrop : ℕ → State → State
+  pub shows : ℕ → Part → State → List ℕ
 
-abbrev pub reached : Start → List Call → State
-reached start calls = after calls (opened start)
+abbrev pub leaves : Collecting → Call → State → State
+leaves k (hand bytes) s = k .leavesGroup bytes s
+leaves k (drop number) s = k .leavesDrop number s
+leaves k (ask number part) s = s
 
-abbrev pub told : Start → List Call → List Event
-told start calls = history calls (opened start)
+abbrev pub event : Collecting → Call → State → Event
+event k (hand bytes) s = handed bytes (k .answersGroup bytes s)
+event k (drop number) s = dropped number (k .answersDrop number s)
+event k (ask number part) s = asked number part (k .shows number part s)
+
+-- the state after the calls
+abbrev pub after : Collecting → List Call → State → State
+after k [] s = s
+after k (call ∷ calls) s = leaves k call (after k calls s)
+
+abbrev pub reached : Collecting → Start → List Call → State
+reached k start calls = after k calls (k .opens start)
+
+-- and all that came back
+abbrev pub told : Collecting → Start → List Call → List Event
+told k start [] = []
+told k start (call ∷ calls) = event k call (reached k start calls) ∷ told k start calls
 
 -- ---- what was stored under a number, since it took its slot
 
@@ -125,3 +129,18 @@ under test part number (asked other p shown ∷ events) = under test part number
 -- what was stored under it
 abbrev pub storedUnder : Part → ℕ → List Event → List Segment
 storedUnder = under isStored
+
+-- ---- our collector: its own definitions
+
+abbrev pub opened : Start → State
+opened start = opening (start .limit) (start .count) (start .counts) (start .stores)
+
+abbrev pub ours : Collecting
+ours = record {
+  opens = opened;
+  answersGroup = groupAnswer;
+  leavesGroup = groupLeaves;
+  answersDrop = dropAnswer;
+  leavesDrop = dropLeaves;
+  shows = showing;
+}

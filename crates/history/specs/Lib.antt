@@ -1,5 +1,6 @@
 pub mod Slots
 pub mod Call
+pub mod Held
 pub mod Counts
 pub mod Ready
 pub mod Taken
@@ -8,12 +9,15 @@ pub mod Refused
 pub mod Shown
 pub mod Others
 pub mod History
+pub mod Promise
 pub mod Stands
 pub mod Reached
 pub mod Answers
 pub mod Stage
 pub mod Room
 pub mod Tally
-pub mod Promises
+pub mod Demands
 pub mod OneCut
+pub mod Promises
 pub mod Example
+pub mod Worthless

@@ -12,7 +12,6 @@ use Rattle.answer.specs.declared.Answer.{Answer}
 use Rattle.answer.specs.declared.Answer.the-variants as Answer
 use Rattle.answer.specs.declared.Part.{Part}
 use Rattle.answer.specs.declared.Part.the-variants.{Header, Body}
-use Rattle.answer.specs.Table.{numberOf}
 use Rattle.group.specs.declared.Segment.{Segment as Carried}
 use Rattle.group.specs.declared.Reading.{Reading}
 use Rattle.group.specs.declared.Reading.the-variants.{Read, Refused}
@@ -25,26 +24,18 @@ use Rattle.gathering.specs.declared.Outcome.{Outcome}
 use Rattle.gathering.specs.declared.Outcome.the-variants.{Stored, Complete, Repeat, Conflict}
 use Rattle.gathering.specs.Offers.{Source, SentBy}
 use Rattle.collector.specs.Calls.{heardAs, segmentIn, answerAs}
-use Rattle.history.specs.Call.{taking, dropping, came}
+use Rattle.history.specs.Call.{taking, groupAnswer, dropAnswer, came}
 use Rattle.history.specs.Shown.{showing}
-use Rattle.history.specs.History.{Call, hand, drop, ask, CallBytes, Event, Start, Allowed, reached, told, isStored, isDropped, with, afterGroup, under}
+use Rattle.history.specs.History.{Call, hand, drop, ask, CallBytes, Start, Allowed, reached, told, isStored, isDropped, with, afterGroup, under, storedUnder, ours}
 use Rattle.history.specs.Reached.{reached-intact}
 use Rattle.history.specs.Answers.{came-named}
-use Rattle.history.specs.Stage.{stageFor}
-use Rattle.history.specs.Promises.{stored, FitsStored, answerTo, conflict-exactly, repeat-exactly, finished-lengths, shown-joined}
+use Rattle.history.specs.Held.{stageFor}
+use Rattle.history.specs.Promise.{Run, reachedBy, toldBy, stored, Passing, segmentOf, heardOf, answerTo, FitsStored, From, hadSlot, cameUnder}
+use Rattle.history.specs.Demands.{conflict-exactly, repeat-exactly, finished-lengths, shown-joined}
 
--- a group under the number carries a segment that this cut of this object sends
-abbrev pub From : {limit : ℕ} → Source limit → ℕ → Call → Type 0
-From object number (hand bytes) = (carried : Carried) → readingOf bytes ≡ Read carried → carried .number ≡ number → SentBy object (carried .part) (segmentIn bytes carried)
-From object number (drop other) = Unit {0}
-From object number (ask other part) = Unit {0}
-
--- the segments of a part that came under a number since it was last dropped, each with a slot there: not answered FULL
-abbrev pub hadSlot : Answer → Bool
-hadSlot answer = pick (eqb (numberOf answer) 18) false true
-
-abbrev pub cameUnder : Part → ℕ → List Event → List Segment
-cameUnder = under hadSlot
+-- what was stored of a part under a number
+abbrev kept : Start → List Call → Part → ℕ → List Segment
+kept start calls part number = storedUnder part number (told ours start calls)
 
 -- ---- all that is stored was sent by it
 
@@ -71,11 +62,11 @@ drop-sent object part segments true true e = tt
 drop-sent object part segments true false e = e
 drop-sent object part segments false d e = e
 
-stored-sent : (start : Start) (object : Source (start .limit)) (part : Part) (number : ℕ) (calls : List Call) → Each (From object number) calls → Each (SentBy object part) (stored start calls part number)
+stored-sent : (start : Start) (object : Source (start .limit)) (part : Part) (number : ℕ) (calls : List Call) → Each (From object number) calls → Each (SentBy object part) (kept start calls part number)
 unfolding under
 stored-sent start object part number [] f = tt
-stored-sent start object part number (hand bytes ∷ calls) f = group-sent object part number bytes (answerTo start calls bytes) (stored start calls part number) (f .0) (stored-sent start object part number calls (f .1))
-stored-sent start object part number (drop other ∷ calls) f = drop-sent object part (stored start calls part number) (eqb other number) (isDropped (dropping other (reached start calls) .answer)) (stored-sent start object part number calls (f .1))
+stored-sent start object part number (hand bytes ∷ calls) f = group-sent object part number bytes (groupAnswer bytes (reached ours start calls)) (kept start calls part number) (f .0) (stored-sent start object part number calls (f .1))
+stored-sent start object part number (drop other ∷ calls) f = drop-sent object part (kept start calls part number) (eqb other number) (isDropped (dropAnswer other (reached ours start calls))) (stored-sent start object part number calls (f .1))
 stored-sent start object part number (ask other p ∷ calls) f = stored-sent start object part number calls (f .1)
 
 -- so they fit it, with one more that it sends
@@ -86,12 +77,12 @@ more-fits : {limit : ℕ} (object : Source limit) (part : Part) (segment : Segme
 more-fits object Header segment hs bs u h b = object-fits object (segment ∷ hs) bs (u, h) b
 more-fits object Body segment hs bs u h b = object-fits object hs (segment ∷ bs) h (u, b)
 
--- ONE CUT NEVER CONFLICTS: the next group under the number, if it comes from the same cut as all before it
-pub one-cut-agrees : (start : Start) → Allowed start → (object : Source (start .limit)) (number : ℕ) (calls : List Call) → Each CallBytes calls → Each (From object number) calls
-    → (bytes : List ℕ) → Bytes bytes → (carried : Carried) → readingOf bytes ≡ Read carried → carried .number ≡ number → SentBy object (carried .part) (segmentIn bytes carried) → answerTo start calls bytes ≢ Answer.Conflict (heardAs carried)
-one-cut-agrees start a object number calls y f bytes b carried r n u e =
-    conflict-exactly start a calls y bytes b carried r .0 e
-    (more-fits object (carried .part) (segmentIn bytes carried) (stored start calls Header (carried .number)) (stored start calls Body (carried .number)) u (rw n (stored-sent start object Header number calls f)) (rw n (stored-sent start object Body number calls f)))
+-- the next group under the number, if it comes from the same cut as all before it, does not conflict
+pub one-cut-agrees : (r : Run) (object : Source (r .start .limit)) (number : ℕ) → Each (From object number) (r .calls)
+    → (g : Passing) → g .carried .number ≡ number → SentBy object (g .carried .part) (segmentOf g) → answerTo ours r g ≢ Answer.Conflict (heardOf g)
+one-cut-agrees r object number f g n u e =
+    conflict-exactly r g .0 e
+    (more-fits object (g .carried .part) (segmentOf g) (stored ours r Header (g .carried .number)) (stored ours r Body (g .carried .number)) u (rw n (stored-sent (r .start) object Header number (r .calls) f)) (rw n (stored-sent (r .start) object Body number (r .calls) f)))
 
 -- ---- all that came is stored
 
@@ -135,57 +126,62 @@ answered-into part p segment came kept answer carried into (inr (Repeat, e)) n r
 answered-into part p segment came kept answer carried into (inr (Conflict, e)) n r = absurd (n e)
 
 module _ (start : Start) (allowed : Allowed start) (object : Source (start .limit)) (number : ℕ) (part : Part) where
-  group-into : (bytes : List ℕ) (calls : List Call) → Bytes bytes → Each CallBytes calls → From object number (hand bytes) → Each (From object number) calls → Into (cameUnder part number (told start calls)) (stored start calls part number)
-      → Into (cameUnder part number (told start (hand bytes ∷ calls))) (stored start (hand bytes ∷ calls) part number)
+  group-into : (bytes : List ℕ) (calls : List Call) → Bytes bytes → Each CallBytes calls → From object number (hand bytes) → Each (From object number) calls → Into (cameUnder part number (told ours start calls)) (kept start calls part number)
+      → Into (cameUnder part number (told ours start (hand bytes ∷ calls))) (kept start (hand bytes ∷ calls) part number)
   unfolding under
   group-into bytes calls b y from f into = go (readingOf bytes) refl
     where
-      old : List Segment
-      old = cameUnder part number (told start calls)
+      run : Run
+      run = record { start = start; allowed = allowed; calls = calls; bytes = y }
 
-      kept : List Segment
-      kept = stored start calls part number
+      arrived : List Segment
+      arrived = cameUnder part number (told ours start calls)
+
+      held : List Segment
+      held = kept start calls part number
 
       answer : Answer
-      answer = answerTo start calls bytes
+      answer = groupAnswer bytes (reached ours start calls)
 
-      mine : (carried : Carried) → readingOf bytes ≡ Read carried → carried .number ≡ number → Into (pick (hadSlot answer) (with part (carried .part) (segmentIn bytes carried) old) old) (pick (isStored answer) (with part (carried .part) (segmentIn bytes carried) kept) kept)
-      mine carried r n = answered-into part (carried .part) (segmentIn bytes carried) old kept answer carried into
-          (came-named carried (segmentIn bytes carried) (reached start calls) (taking bytes (reached start calls)) (came bytes (reached start calls) (reached-intact start allowed calls y .undamaged) carried r))
-          (one-cut-agrees start allowed object number calls y f bytes b carried r n (from carried r n))
-          (λ e q. rw (q, ← n) (repeat-exactly start allowed calls y bytes b carried r .0 e))
+      mine : (carried : Carried) → readingOf bytes ≡ Read carried → carried .number ≡ number → Into (pick (hadSlot answer) (with part (carried .part) (segmentIn bytes carried) arrived) arrived) (pick (isStored answer) (with part (carried .part) (segmentIn bytes carried) held) held)
+      mine carried r n =
+          let g : Passing = record { bytes = bytes; areBytes = b; carried = carried; read = r } in
+          answered-into part (carried .part) (segmentIn bytes carried) arrived held answer carried into
+          (came-named carried (segmentIn bytes carried) (reached ours start calls) (taking bytes (reached ours start calls)) (came bytes (reached ours start calls) (reached-intact start allowed calls y .undamaged) carried r))
+          (one-cut-agrees run object number f g n (from carried r n))
+          (λ e q. rw (q, ← n) (repeat-exactly run g .0 e))
 
-      new : (carried : Carried) → readingOf bytes ≡ Read carried → (t : Bool) → eqb (carried .number) number ≡ t
-          → Into (pick t (pick (hadSlot answer) (with part (carried .part) (segmentIn bytes carried) old) old) old) (pick t (pick (isStored answer) (with part (carried .part) (segmentIn bytes carried) kept) kept) kept)
-      new carried r true e = mine carried r (eqb-true (carried .number) number e)
-      new carried r false e = into
+      under-it : (carried : Carried) → readingOf bytes ≡ Read carried → (t : Bool) → eqb (carried .number) number ≡ t
+          → Into (pick t (pick (hadSlot answer) (with part (carried .part) (segmentIn bytes carried) arrived) arrived) arrived) (pick t (pick (isStored answer) (with part (carried .part) (segmentIn bytes carried) held) held) held)
+      under-it carried r true e = mine carried r (eqb-true (carried .number) number e)
+      under-it carried r false e = into
 
-      go : (reading : Reading) → readingOf bytes ≡ reading → Into (afterGroup hadSlot part number (readingOf bytes) bytes answer old) (afterGroup isStored part number (readingOf bytes) bytes answer kept)
+      go : (reading : Reading) → readingOf bytes ≡ reading → Into (afterGroup hadSlot part number (readingOf bytes) bytes answer arrived) (afterGroup isStored part number (readingOf bytes) bytes answer held)
       go (Refused why) r = rw r into
-      go (Read carried) r = rw r (new carried r (eqb (carried .number) number) refl)
+      go (Read carried) r = rw r (under-it carried r (eqb (carried .number) number) refl)
 
-  came-stored : (calls : List Call) → Each CallBytes calls → Each (From object number) calls → Into (cameUnder part number (told start calls)) (stored start calls part number)
+  came-stored : (calls : List Call) → Each CallBytes calls → Each (From object number) calls → Into (cameUnder part number (told ours start calls)) (kept start calls part number)
   unfolding under Into
   came-stored [] y f s i = i
   came-stored (hand bytes ∷ calls) y f s i = group-into bytes calls (y .0) (y .1) (f .0) (f .1) (came-stored calls (y .1) (f .1)) s i
-  came-stored (drop other ∷ calls) y f s i = drop-into (cameUnder part number (told start calls)) (stored start calls part number) (eqb other number) (isDropped (dropping other (reached start calls) .answer)) (came-stored calls (y .1) (f .1)) s i
+  came-stored (drop other ∷ calls) y f s i = drop-into (cameUnder part number (told ours start calls)) (kept start calls part number) (eqb other number) (isDropped (dropAnswer other (reached ours start calls))) (came-stored calls (y .1) (f .1)) s i
   came-stored (ask other p ∷ calls) y f s i = came-stored calls (y .1) (f .1) s i
 
--- ONE CUT FINISHES: once every segment that it sends has come under the number, each with a slot there
-pub one-cut-finishes : (start : Start) → Allowed start → (object : Source (start .limit)) (number : ℕ) (calls : List Call) → Each CallBytes calls → Each (From object number) calls
-    → ((part : Part) (s : Segment) → SentBy object part s → Among s (cameUnder part number (told start calls)))
-    → (stageFor number (reached start calls) ≡ Stage.Finished (length (object .header)) (length (object .body)))
-    × (showing number Header (reached start calls) ≡ object .header) × (showing number Body (reached start calls) ≡ object .body)
+-- once every segment that it sends has come under the number, each with a slot there, it is finished and shown
+pub one-cut-finishes : (r : Run) (object : Source (r .start .limit)) (number : ℕ) → Each (From object number) (r .calls)
+    → ((part : Part) (s : Segment) → SentBy object part s → Among s (cameUnder part number (toldBy ours r)))
+    → (stageFor number (reachedBy ours r) ≡ Stage.Finished (length (object .header)) (length (object .body)))
+    × (showing number Header (reachedBy ours r) ≡ object .header) × (showing number Body (reachedBy ours r) ≡ object .body)
 unfolding Into
-one-cut-finishes start a object number calls y f all =
-    let shown = shown-joined start a calls y number fit done in
-    (finished-lengths start a calls y number fit done, shown .0, shown .1)
+one-cut-finishes r object number f all =
+    let shown = shown-joined r number fit done in
+    (finished-lengths r number fit done, shown .0, shown .1)
   where
-    fit : FitsStored start calls number
-    fit = object-fits object (stored start calls Header number) (stored start calls Body number) (stored-sent start object Header number calls f) (stored-sent start object Body number calls f)
+    fit : FitsStored ours r number
+    fit = object-fits object (stored ours r Header number) (stored ours r Body number) (stored-sent (r .start) object Header number (r .calls) f) (stored-sent (r .start) object Body number (r .calls) f)
 
     done : Finished fit
     done = record {
-      header = λ s u. came-stored start a object number Header calls y f s (all Header s u);
-      body = λ s u. came-stored start a object number Body calls y f s (all Body s u);
+      header = λ s u. came-stored (r .start) (r .allowed) object number Header (r .calls) (r .bytes) f s (all Header s u);
+      body = λ s u. came-stored (r .start) (r .allowed) object number Body (r .calls) (r .bytes) f s (all Body s u);
     }

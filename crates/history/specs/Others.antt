@@ -25,20 +25,11 @@ use Rattle.slots.specs.Shares.{Wide, lent-other}
 use Rattle.collector.specs.Calls.{Answered, heardAs, segmentIn, answerAs}
 use Rattle.history.specs.Slots.{held-is, free-holds, slot-there, same-found}
 use Rattle.history.specs.Call.{State, taking, dropping, left, groupLeaves, dropLeaves, sound, limitOf, InUse, slotOf, lentOf, find, answering, replacing, Came, alone, full, first, more, unread, came, none-dropped, found-dropped, cleared}
+use Rattle.history.specs.Held.{Same}
 use Rattle.history.specs.Ready.{used-inside, used-lent, found-used, found-holds, free-used, free-free}
 use Rattle.history.specs.Taken.{taken-number}
 use Rattle.history.specs.Shown.{showing, unheld-shown, held-shown}
 use Rattle.history.specs.Sound.{Intact, lent-is-wide, more-lent, first-lent, cleared-lent, segment-bytes, group-intact, drop-intact}
-
--- what is held for a number is the same in two states
-pub record Same (number : ℕ) (s t : State) : Type 0 where
-  pub limit : limitOf t ≡ limitOf s
-  -- the same slot holds it, or none
-  pub found : find number t ≡ find number s
-  -- the slot's number, stage and records
-  pub slot : (i : ℕ) → find number s ≡ At i → slotOf i t ≡ slotOf i s
-  -- its marks, and all bytes of its shares
-  pub lent : (i : ℕ) → find number s ≡ At i → lentOf i t ≡ lentOf i s
 
 same-all : (number : ℕ) (s : State) (answer : Answer) → Same number s (left (answering answer s))
 same-all number s answer = record { limit = refl; found = refl; slot = λ i e. refl; lent = λ i e. refl }

@@ -17,19 +17,12 @@ use Rattle.gathering.specs.Shown.{holds-shows}
 use Rattle.slots.specs.declared.Found.{Found}
 use Rattle.slots.specs.declared.Found.the-variants.{Nothing, At}
 use Rattle.history.specs.Call.{State, sound, limitOf, slotOf, lentOf, find}
+use Rattle.history.specs.Held.{stageAt, stageFor}
 use Rattle.history.specs.Shown.{showing, frontOf, held-shown, unheld-shown}
 use Rattle.history.specs.Stands.{StandsFor}
 
--- the stage of the slot that holds a number; free where none does
-abbrev pub stageAt : Found → State → Stage
-stageAt Nothing s = Stage.Free
-stageAt (At i) s = slotOf i s .stage
-
-abbrev pub stageFor : ℕ → State → Stage
-stageFor number s = stageAt (find number s) s
-
 -- where nothing is stored, no object is finished: it has a header
-none-finished : (limit : ℕ) (hs bs : List Segment) (f : Fits limit hs bs) → Finished f → hs ≡ [] → ⊥
+pub none-finished : (limit : ℕ) (hs bs : List Segment) (f : Fits limit hs bs) → Finished f → hs ≡ [] → ⊥
 none-finished limit hs bs f w e = absurd (rw e at (w .header (segmentOf (f .header) (f .headerCut) 0) (segment-sent (f .header) (f .headerCut) 0 (omega (arith, zero-mul (f .headerCut), f .object .headerLow)))))
 
 -- a stage is the one that the segments give, whichever object and cut fit them

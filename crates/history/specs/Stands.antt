@@ -38,10 +38,11 @@ use Rattle.slots.specs.Shares.{lent-back}
 use Rattle.collector.specs.Calls.{Answered, heardAs, segmentIn, answerAs}
 use Rattle.history.specs.Slots.{held-is, is-held, free-holds, none-found, only-found, slot-here, slot-there, used-before, used-after}
 use Rattle.history.specs.Call.{State, taking, dropping, left, sound, limitOf, InUse, slotOf, lentOf, find, free, answering, replacing, offering, Came, alone, full, first, more, unread, came, none-dropped, found-dropped, cleared}
+use Rattle.history.specs.Held.{Same}
 use Rattle.history.specs.Ready.{slots-right, limit-low, used-inside, used-lent, found-used, found-holds, free-used, free-marks}
 use Rattle.history.specs.Taken.{holds-held, taken-number, fresh-gathers, fresh-added}
 use Rattle.history.specs.Sound.{Intact, lent-is-wide, more-lent, first-lent, segment-bytes, group-intact}
-use Rattle.history.specs.Others.{Same, came-same, drop-others}
+use Rattle.history.specs.Others.{came-same, drop-others}
 use Rattle.history.specs.History.{Event, handed, dropped, isStored, isDropped, with, afterGroup, afterDrop, under, storedUnder}
 
 -- the slot that holds a number holds just these segments; if none holds it, there are none

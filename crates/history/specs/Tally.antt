@@ -4,13 +4,12 @@ use mathlib.Core.Bool.{Bool, true, false, cond}
 use mathlib.Core.List.{List, [], _∷_}
 use Prim.Native.Nat.{ℕ, suc, _+_, min}
 use native.Mathlib.Omega.{arith}
-use lib.Dec.{leb, ltb}
+use lib.Dec.{ltb}
 use borrow.Author.Tests.{ltb-true, ltb-false}
 use Rattle.answer.specs.declared.Answer.{Answer}
 use Rattle.answer.specs.declared.Answer.the-variants as Answer
 use Rattle.answer.specs.declared.Refusal.{Refusal}
 use Rattle.answer.specs.declared.Refusal.the-variants as Refusal
-use Rattle.answer.specs.Table.{numberOf}
 use Rattle.counts.specs.declared.Counts.{Counts}
 use Rattle.counts.specs.Counted.{ceiling, risen, counted}
 use Rattle.group.specs.declared.Segment.{Segment as Carried}
@@ -19,35 +18,14 @@ use Rattle.group.specs.declared.Reading.the-variants.{Read, Refused}
 use Rattle.group.specs.Reading.{readingOf}
 use Rattle.cut.specs.Lists.{pick}
 use Rattle.cut.specs.Requirement.{Segment}
-use Rattle.cut.specs.Decision.{both}
 use Rattle.slots.specs.declared.Found.{Found}
 use Rattle.slots.specs.declared.Found.the-variants.{Nothing, At}
 use Rattle.collector.specs.Calls.{Answered, segmentIn}
 use Rattle.history.specs.Call.{State, taking, dropping, sound, find, Came, alone, full, first, more, group-damaged, unread, came, drop-damaged, none-dropped, found-dropped}
 use Rattle.history.specs.Ready.{used-inside, found-used}
-use Rattle.history.specs.History.{Call, hand, drop, ask, Event, handed, dropped, asked, leaves, event, Start, Allowed, reached, told}
+use Rattle.history.specs.Promise.{between, answersFrom, tallied}
+use Rattle.history.specs.History.{Call, hand, drop, ask, Event, dropped, leaves, event, Start, Allowed, ours, reached, told}
 use Rattle.history.specs.Reached.{start-is}
-
--- the answer's number lies from low to high
-abbrev pub between : ℕ → ℕ → Answer → Bool
-between low high answer = both (leb low (numberOf answer)) (leb (numberOf answer) high)
-
--- how many groups and drops were answered so
-unfoldable pub answersFrom : ℕ → ℕ → List Event → ℕ
-answersFrom low high [] = 0
-answersFrom low high (handed bytes answer ∷ events) = pick (between low high answer) (suc (answersFrom low high events)) (answersFrom low high events)
-answersFrom low high (dropped number answer ∷ events) = pick (between low high answer) (suc (answersFrom low high events)) (answersFrom low high events)
-answersFrom low high (asked number part shown ∷ events) = answersFrom low high events
-
--- taken (0 and 1), repeated (2), refused (10 to 18), completed (1), dropped (3), each up to the ceiling
-abbrev pub tallied : List Event → Counts
-tallied events = record {
-  taken = min (answersFrom 0 1 events) ceiling;
-  repeated = min (answersFrom 2 2 events) ceiling;
-  refused = min (answersFrom 10 18 events) ceiling;
-  completed = min (answersFrom 1 1 events) ceiling;
-  dropped = min (answersFrom 3 3 events) ceiling;
-}
 
 risen-min : (n : ℕ) → risen (min n ceiling) ≡ min (suc n) ceiling
 unfolding risen
@@ -118,14 +96,14 @@ drop-counted number s = go (sound s) refl (find number s) refl
 tallied-more : (answer : Answer) (events : List Event) → counted answer (tallied events) ≡ capped (onMore answer 0 1 (answersFrom 0 1 events)) (onMore answer 2 2 (answersFrom 2 2 events)) (onMore answer 10 18 (answersFrom 10 18 events)) (onMore answer 1 1 (answersFrom 1 1 events)) (onMore answer 3 3 (answersFrom 3 3 events))
 tallied-more answer events = counted-more answer (answersFrom 0 1 events) (answersFrom 2 2 events) (answersFrom 10 18 events) (answersFrom 1 1 events) (answersFrom 3 3 events)
 
-leaves-tallied : (call : Call) (s : State) (events : List Event) → s .counts ≡ tallied events → leaves call s .counts ≡ tallied (event call s ∷ events)
+leaves-tallied : (call : Call) (s : State) (events : List Event) → s .counts ≡ tallied events → leaves ours call s .counts ≡ tallied (event ours call s ∷ events)
 unfolding answersFrom
 leaves-tallied (hand bytes) s events e = group-counted bytes s ∙ ap (counted (taking bytes s .answer)) e ∙ tallied-more (taking bytes s .answer) events
 leaves-tallied (drop number) s events e = drop-counted number s ∙ ap (counted (dropping number s .answer)) e ∙ tallied-more (dropping number s .answer) events
 leaves-tallied (ask number part) s events e = e
 
 -- THE COUNTS over any history
-pub reached-counts : (start : Start) → Allowed start → (calls : List Call) → reached start calls .counts ≡ tallied (told start calls)
+pub reached-counts : (start : Start) → Allowed start → (calls : List Call) → reached ours start calls .counts ≡ tallied (told ours start calls)
 unfolding answersFrom
 reached-counts start a [] = rw (start-is start a) refl
-reached-counts start a (call ∷ calls) = leaves-tallied call (reached start calls) (told start calls) (reached-counts start a calls)
+reached-counts start a (call ∷ calls) = leaves-tallied call (reached ours start calls) (told ours start calls) (reached-counts start a calls)
