@@ -37,7 +37,7 @@ unfolding soundSlots
 sound-limits limit count slots stores e = limits-hold limit count (length (stores .header)) (length (stores .body)) (length (stores .marks)) (all-true (soundTests limit count slots stores) e .0)
 
 -- each slot is right
-right-at : (limit first i : ℕ) (slots : List Slot) (stores : Stores) → rightFrom limit first slots stores ≡ true → i < length slots → rightSlot limit (getD slots i freeSlot) (lentAt limit (first + i) stores) ≡ true
+pub right-at : (limit first i : ℕ) (slots : List Slot) (stores : Stores) → rightFrom limit first slots stores ≡ true → i < length slots → rightSlot limit (getD slots i freeSlot) (lentAt limit (first + i) stores) ≡ true
 unfolding rightFrom
 right-at limit first i [] stores e h = absurd (omega arith)
 right-at limit first zero (slot ∷ slots) stores e h =
@@ -49,7 +49,7 @@ right-at limit first (suc i) (slot ∷ slots) stores e h =
     rw g (right-at limit (suc first) i slots stores (t .1) (omega arith))
 
 -- the first slot that passes a test is one of them, and passes
-found-passes : (test : Slot → Bool) (first i : ℕ) (slots : List Slot) → firstFrom test first slots ≡ At i → (j : ℕ) × (i ≡ first + j) × (j < length slots) × (test (getD slots j freeSlot) ≡ true)
+pub found-passes : (test : Slot → Bool) (first i : ℕ) (slots : List Slot) → firstFrom test first slots ≡ At i → (j : ℕ) × (i ≡ first + j) × (j < length slots) × (test (getD slots j freeSlot) ≡ true)
 unfolding firstFrom
 found-passes test first i [] e = let z : _≡_ {A = ℕ} 0 1 = cc in absurd (omega arith)
 found-passes test first i (slot ∷ slots) e = go (test slot) refl e (λ g. found-passes test (suc first) i slots g)
@@ -69,7 +69,7 @@ inside-store : (width count i : ℕ) → i < count → i * width + width ≤ cou
 inside-store width count i h = let g : suc i * width ≤ count * width = mul-le-mul-right width h in omega (arith, suc-mul i width)
 
 -- a slot that holds a number is sound, where it is right; a free one has no mark set
-held-sound : (limit number : ℕ) (slot : Slot) (lent : Lent) → holds number slot ≡ true → rightSlot limit slot lent ≡ true → soundSlot limit slot lent ≡ true
+pub held-sound : (limit number : ℕ) (slot : Slot) (lent : Lent) → holds number slot ≡ true → rightSlot limit slot lent ≡ true → soundSlot limit slot lent ≡ true
 unfolding holds isFree rightSlot
 held-sound limit number slot lent h r = go (freeStage (slot .stage)) h r
   where
@@ -77,7 +77,7 @@ held-sound limit number slot lent h r = go (freeStage (slot .stage)) h r
     go true h r = let z : _≡_ {A = ℕ} 0 1 = cc in absurd (omega arith)
     go false h r = r
 
-free-unmarked : (limit : ℕ) (slot : Slot) (lent : Lent) → isFree slot ≡ true → rightSlot limit slot lent ≡ true → sumOf (lent .marks) ≡ 0
+pub free-unmarked : (limit : ℕ) (slot : Slot) (lent : Lent) → isFree slot ≡ true → rightSlot limit slot lent ≡ true → sumOf (lent .marks) ≡ 0
 unfolding rightSlot
 free-unmarked limit slot lent h r =
     let none : largestOf (lent .marks) ≡ 0 = eqb-true (largestOf (lent .marks)) 0 (rw h at r) in
@@ -90,7 +90,7 @@ module _ (limit count : ℕ) (slots : List Slot) (stores : Stores) (sound : soun
   w : Limits limit count (length (stores .header)) (length (stores .body)) (length (stores .marks))
   w = sound-limits limit count slots stores sound
 
-  sound-inside : (i : ℕ) → i < count → Inside limit i stores
+  pub sound-inside : (i : ℕ) → i < count → Inside limit i stores
   sound-inside i h = record {
     slot = omega (arith, w .slots);
     header = omega (arith, w .header, inside-store headerMost count i h);
