@@ -38,11 +38,16 @@ pub enum Opening {
 }
 
 // What an opening hands back. A refused one hands back a collector that every call answers with
-// STATE, and the counts as they were.
+// STATE.
 pub struct Opened {
     pub opening: Opening,
     pub collector: Collector,
-    pub counts: Counts,
+}
+
+// An opening by value: the counts that it leaves beside it.
+struct CountedOpening {
+    counts: Counts,
+    opened: Opened,
 }
 
 // Where a finished object is, or why it can't be shown.
@@ -61,11 +66,16 @@ fn located_as(stage: Stage, i: usize) -> Located
     }
 }
 
-// What a call answers, and the collector and the counts afterwards.
+// What a call answers, and the collector afterwards.
 pub struct Answered {
     pub answer: Answer,
     pub collector: Collector,
-    pub counts: Counts,
+}
+
+// A call by value: the counts that it leaves beside it.
+struct CountedAnswer {
+    counts: Counts,
+    answered: Answered,
 }
 
 fn answer_as(outcome: Outcome, heard: Heard) -> Answer
@@ -112,15 +122,15 @@ impl Collector {
 
     // Opens a collector over lent memory, by value: all marks and counts are 0. Outside the bounds,
     // or with a wrong lent length, it answers LIMITS and nothing changes.
-    pub fn opened(
+    fn opened(
         limit: usize,
         count: usize,
         counts: Counts,
         header: &[u8],
         body: &[u8],
         marks: &mut [u8],
-    ) -> Opened
-        ensures { λ r. ⌜ record { opening = r .opening; collector = r .collector; counts = r .counts; marks = now (marks .exit) } ≡ openedBy limit count counts (record { header = now (header .entry); body = now (body .entry); marks = now (marks .entry) }) ⌝ }
+    ) -> CountedOpening
+        ensures { λ r. ⌜ record { opening = r .opened .opening; collector = r .opened .collector; counts = r .counts; marks = now (marks .exit) } ≡ openedBy limit count counts (record { header = now (header .entry); body = now (body .entry); marks = now (marks .entry) }) ⌝ }
     {
         let free = slots::free_slot();
         if !slots::within_limits(limit, count, header.len(), body.len(), marks.len()) {
@@ -129,11 +139,11 @@ impl Collector {
                 count: 0,
                 slots: [free; 16],
             };
-            return Opened {
+            let opened = Opened {
                 opening: Opening::Refused(Answer::Limits),
                 collector: none,
-                counts,
             };
+            return CountedOpening { counts, opened };
         }
         octets::clear(marks);
         let fresh = Collector {
@@ -141,11 +151,30 @@ impl Collector {
             count,
             slots: [free; 16],
         };
-        Opened {
+        let opened = Opened {
             opening: Opening::Open,
             collector: fresh,
+        };
+        CountedOpening {
             counts: counts::none_yet(),
+            opened,
         }
+    }
+
+    // Opens a collector, and sets the counts to 0 where they stand.
+    pub fn open(
+        limit: usize,
+        count: usize,
+        counts: &mut Counts,
+        header: &[u8],
+        body: &[u8],
+        marks: &mut [u8],
+    ) -> Opened
+        ensures { λ r. ⌜ record { opening = r .opening; collector = r .collector; counts = now (counts .exit); marks = now (marks .exit) } ≡ openedBy limit count (now (counts .entry)) (record { header = now (header .entry); body = now (body .entry); marks = now (marks .entry) }) ⌝ }
+    {
+        let t = Collector::opened(limit, count, *counts, header, body, marks);
+        *counts = t.counts;
+        t.opened
     }
 
     // Whether the state is not damaged.
@@ -209,13 +238,16 @@ impl Collector {
     }
 
     // The answer is counted, and nothing else changes.
-    fn answered(self, counts: Counts, answer: Answer) -> Answered
-        ensures { λ r. ⌜ (r .answer ≡ answer) × (r .collector ≡ self) × (r .counts ≡ counted answer counts) ⌝ }
+    fn answered(self, counts: Counts, answer: Answer) -> CountedAnswer
+        ensures { λ r. ⌜ (r .answered .answer ≡ answer) × (r .answered .collector ≡ self) × (r .counts ≡ counted answer counts) ⌝ }
     {
-        Answered {
+        let answered = Answered {
             answer,
             collector: self,
+        };
+        CountedAnswer {
             counts: counts::counted(answer, counts),
+            answered,
         }
     }
 
@@ -228,9 +260,9 @@ impl Collector {
         header: &mut [u8],
         body: &mut [u8],
         marks: &mut [u8],
-    ) -> Answered
+    ) -> CountedAnswer
         requires { ⌜ soundSlots (self .limit) (self .count) (self .slots) (record { header = now header; body = now body; marks = now marks }) ≡ true ⌝ }
-        ensures { λ r. ⌜ record { answer = r .answer; collector = r .collector; counts = r .counts; stores = record { header = now (header .exit); body = now (body .exit); marks = now (marks .exit) } } ≡ intoHeld Found.Nothing carried (record { number = carried .segment; last = carried .last; bytes = now (bytes .entry) }) self counts (record { header = now (header .entry); body = now (body .entry); marks = now (marks .entry) }) ⌝ }
+        ensures { λ r. ⌜ record { answer = r .answered .answer; collector = r .answered .collector; counts = r .counts; stores = record { header = now (header .exit); body = now (body .exit); marks = now (marks .exit) } } ≡ intoHeld Found.Nothing carried (record { number = carried .segment; last = carried .last; bytes = now (bytes .entry) }) self counts (record { header = now (header .entry); body = now (body .entry); marks = now (marks .entry) }) ⌝ }
     {
         let heard = heard_as(carried);
         let part = carried.part;
@@ -274,9 +306,9 @@ impl Collector {
         header: &mut [u8],
         body: &mut [u8],
         marks: &mut [u8],
-    ) -> Answered
+    ) -> CountedAnswer
         requires { ⌜ soundSlots (self .limit) (self .count) (self .slots) (record { header = now header; body = now body; marks = now marks }) ≡ true ⌝ }
-        ensures { λ r. ⌜ record { answer = r .answer; collector = r .collector; counts = r .counts; stores = record { header = now (header .exit); body = now (body .exit); marks = now (marks .exit) } } ≡ intoHeld (findIn (carried .number) (self .count) (self .slots)) carried (record { number = carried .segment; last = carried .last; bytes = now (bytes .entry) }) self counts (record { header = now (header .entry); body = now (body .entry); marks = now (marks .entry) }) ⌝ }
+        ensures { λ r. ⌜ record { answer = r .answered .answer; collector = r .answered .collector; counts = r .counts; stores = record { header = now (header .exit); body = now (body .exit); marks = now (marks .exit) } } ≡ intoHeld (findIn (carried .number) (self .count) (self .slots)) carried (record { number = carried .segment; last = carried .last; bytes = now (bytes .entry) }) self counts (record { header = now (header .entry); body = now (body .entry); marks = now (marks .entry) }) ⌝ }
     {
         let slots = self.slots;
         let Found::At(i) = slots::find(carried.number, self.count, slots) else {
@@ -308,15 +340,15 @@ impl Collector {
     }
 
     // Takes a group, by value.
-    pub fn taken(
+    fn taken(
         self,
         counts: Counts,
         group: &[u8],
         header: &mut [u8],
         body: &mut [u8],
         marks: &mut [u8],
-    ) -> Answered
-        ensures { λ r. ⌜ record { answer = r .answer; collector = r .collector; counts = r .counts; stores = record { header = now (header .exit); body = now (body .exit); marks = now (marks .exit) } } ≡ takeGroup (now (group .entry)) self counts (record { header = now (header .entry); body = now (body .entry); marks = now (marks .entry) }) ⌝ }
+    ) -> CountedAnswer
+        ensures { λ r. ⌜ record { answer = r .answered .answer; collector = r .answered .collector; counts = r .counts; stores = record { header = now (header .exit); body = now (body .exit); marks = now (marks .exit) } } ≡ takeGroup (now (group .entry)) self counts (record { header = now (header .entry); body = now (body .entry); marks = now (marks .entry) }) ⌝ }
     {
         if !self.is_sound(counts, header, body, marks) {
             return self.answered(counts, Answer::State);
@@ -330,16 +362,32 @@ impl Collector {
         self.take_carried(counts, carried, &group[start..end], header, body, marks)
     }
 
+    // Takes a group: what comes of it is answered, and counted where the counts stand.
+    pub fn take(
+        self,
+        counts: &mut Counts,
+        group: &[u8],
+        header: &mut [u8],
+        body: &mut [u8],
+        marks: &mut [u8],
+    ) -> Answered
+        ensures { λ r. ⌜ record { answer = r .answer; collector = r .collector; counts = now (counts .exit); stores = record { header = now (header .exit); body = now (body .exit); marks = now (marks .exit) } } ≡ takeGroup (now (group .entry)) self (now (counts .entry)) (record { header = now (header .entry); body = now (body .entry); marks = now (marks .entry) }) ⌝ }
+    {
+        let t = self.taken(*counts, group, header, body, marks);
+        *counts = t.counts;
+        t.answered
+    }
+
     // Drops a number, by value.
-    pub fn dropped(
+    fn dropped(
         self,
         counts: Counts,
         number: u16,
         header: &[u8],
         body: &[u8],
         marks: &mut [u8],
-    ) -> Answered
-        ensures { λ r. ⌜ record { answer = r .answer; collector = r .collector; counts = r .counts; stores = record { header = now (header .entry); body = now (body .entry); marks = now (marks .exit) } } ≡ dropNumber number self counts (record { header = now (header .entry); body = now (body .entry); marks = now (marks .entry) }) ⌝ }
+    ) -> CountedAnswer
+        ensures { λ r. ⌜ record { answer = r .answered .answer; collector = r .answered .collector; counts = r .counts; stores = record { header = now (header .entry); body = now (body .entry); marks = now (marks .exit) } } ≡ dropNumber number self counts (record { header = now (header .entry); body = now (body .entry); marks = now (marks .entry) }) ⌝ }
     {
         if !self.is_sound(counts, header, body, marks) {
             return self.answered(counts, Answer::State);
@@ -355,5 +403,21 @@ impl Collector {
             slots: all,
         };
         next.answered(counts, Answer::Dropped(number))
+    }
+
+    // Drops a number: what comes of it is answered, and counted where the counts stand.
+    pub fn drop(
+        self,
+        counts: &mut Counts,
+        number: u16,
+        header: &[u8],
+        body: &[u8],
+        marks: &mut [u8],
+    ) -> Answered
+        ensures { λ r. ⌜ record { answer = r .answer; collector = r .collector; counts = now (counts .exit); stores = record { header = now (header .entry); body = now (body .entry); marks = now (marks .exit) } } ≡ dropNumber number self (now (counts .entry)) (record { header = now (header .entry); body = now (body .entry); marks = now (marks .entry) }) ⌝ }
+    {
+        let t = self.dropped(*counts, number, header, body, marks);
+        *counts = t.counts;
+        t.answered
     }
 }

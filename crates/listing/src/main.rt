@@ -2,7 +2,9 @@
 // one a line, and what is answered to each on standard output. A line's answer is written before
 // more of the input is read. All memory is lent here, once, so none grows with the input.
 use answer::Answer;
+use collector::Answered;
 use collector::Collector;
+use collector::Opened;
 use counts::Counts;
 use libc::STDIN_FILENO;
 use libc::STDOUT_FILENO;
@@ -12,7 +14,7 @@ ghost use Prim.Native.Nat.{_+_};
 ghost use lib.Dec.{ltb};
 ghost use lib.ListN.{take};
 ghost use Rattle.cut.specs.Lists.{pick};
-ghost use Rattle.collector.specs.Calls.{Answered, takeGroup, dropNumber};
+ghost use Rattle.collector.specs.Calls.{openedBy, takeGroup, dropNumber};
 
 // The collector, and the counts that are lent to it.
 struct Held {
@@ -20,9 +22,16 @@ struct Held {
     counts: Counts,
 }
 
-struct Answered {
-    held: Held,
-    answer: Answer,
+// What an opening left, with the counts that were lent to it.
+struct Begun {
+    counts: Counts,
+    opened: Opened,
+}
+
+// What a call answered, with the counts that were lent to it.
+struct Done {
+    counts: Counts,
+    answered: Answered,
 }
 
 // What is carried from line to line: how many lines came, how many characters of the next one are
@@ -58,33 +67,58 @@ fn front(memory: &[u8], count: usize) -> &[u8]
     &memory[..count]
 }
 
-fn taken(held: Held, group: &[u8], header: &mut [u8], body: &mut [u8], marks: &mut [u8]) -> Answered
-    ensures { λ r. ⌜ record { answer = r .answer; collector = r .held .collector; counts = r .held .counts; stores = record { header = now (header .exit); body = now (body .exit); marks = now (marks .exit) } } ≡ takeGroup (now (group .entry)) (held .collector) (held .counts) (record { header = now (header .entry); body = now (body .entry); marks = now (marks .entry) }) ⌝ }
+// Opens a collector, over counts that are lent for the call.
+fn opened(
+    limit: usize,
+    count: usize,
+    counts: Counts,
+    header: &[u8],
+    body: &[u8],
+    marks: &mut [u8],
+) -> Begun
+    ensures { λ r. ⌜ record { opening = r .opened .opening; collector = r .opened .collector; counts = r .counts; marks = now (marks .exit) } ≡ openedBy limit count counts (record { header = now (header .entry); body = now (body .entry); marks = now (marks .entry) }) ⌝ }
 {
-    let before = held.collector;
-    let counts = held.counts;
-    let done = before.taken(counts, group, header, body, marks);
-    let answer = done.answer;
-    let collector = done.collector;
-    let counts = done.counts;
-    Answered {
-        held: Held { collector, counts },
-        answer,
+    let mut lent = counts;
+    let opened = Collector::open(limit, count, &mut lent, header, body, marks);
+    Begun {
+        counts: lent,
+        opened,
     }
 }
 
-fn dropped(held: Held, number: u16, header: &[u8], body: &[u8], marks: &mut [u8]) -> Answered
-    ensures { λ r. ⌜ record { answer = r .answer; collector = r .held .collector; counts = r .held .counts; stores = record { header = now (header .entry); body = now (body .entry); marks = now (marks .exit) } } ≡ dropNumber number (held .collector) (held .counts) (record { header = now (header .entry); body = now (body .entry); marks = now (marks .entry) }) ⌝ }
+fn taken(
+    collector: Collector,
+    counts: Counts,
+    group: &[u8],
+    header: &mut [u8],
+    body: &mut [u8],
+    marks: &mut [u8],
+) -> Done
+    ensures { λ r. ⌜ record { answer = r .answered .answer; collector = r .answered .collector; counts = r .counts; stores = record { header = now (header .exit); body = now (body .exit); marks = now (marks .exit) } } ≡ takeGroup (now (group .entry)) collector counts (record { header = now (header .entry); body = now (body .entry); marks = now (marks .entry) }) ⌝ }
 {
-    let before = held.collector;
-    let counts = held.counts;
-    let done = before.dropped(counts, number, header, body, marks);
-    let answer = done.answer;
-    let collector = done.collector;
-    let counts = done.counts;
-    Answered {
-        held: Held { collector, counts },
-        answer,
+    let mut lent = counts;
+    let answered = collector.take(&mut lent, group, header, body, marks);
+    Done {
+        counts: lent,
+        answered,
+    }
+}
+
+fn dropped(
+    collector: Collector,
+    counts: Counts,
+    number: u16,
+    header: &[u8],
+    body: &[u8],
+    marks: &mut [u8],
+) -> Done
+    ensures { λ r. ⌜ record { answer = r .answered .answer; collector = r .answered .collector; counts = r .counts; stores = record { header = now (header .entry); body = now (body .entry); marks = now (marks .exit) } } ≡ dropNumber number collector counts (record { header = now (header .entry); body = now (body .entry); marks = now (marks .entry) }) ⌝ }
+{
+    let mut lent = counts;
+    let answered = collector.drop(&mut lent, number, header, body, marks);
+    Done {
+        counts: lent,
+        answered,
     }
 }
 
@@ -119,6 +153,16 @@ fn say_counts(held: Held) {
     write(&out, count);
 }
 
+// The answer is written, and what is held from then on handed back.
+fn say_done(line: u64, done: Done) -> Held {
+    let counts = done.counts;
+    let answered = done.answered;
+    let answer = answered.answer;
+    say(line, answer);
+    let collector = answered.collector;
+    Held { collector, counts }
+}
+
 // One line: what it asks for is done, and the answer written.
 fn list_line(
     line: &[u8],
@@ -129,20 +173,16 @@ fn list_line(
     number: u64,
     held: Held,
 ) -> Held {
+    let collector = held.collector;
+    let counts = held.counts;
     match lines::read(line, group) {
         Line::Group(count) => {
-            let answered = taken(held, front(group, count), header, body, marks);
-            let held = answered.held;
-            let answer = answered.answer;
-            say(number, answer);
-            held
+            let done = taken(collector, counts, front(group, count), header, body, marks);
+            say_done(number, done)
         }
         Line::Drop(transport) => {
-            let answered = dropped(held, transport, header, body, marks);
-            let held = answered.held;
-            let answer = answered.answer;
-            say(number, answer);
-            held
+            let done = dropped(collector, counts, transport, header, body, marks);
+            say_done(number, done)
         }
         Line::Malformed => {
             say_malformed(number);
@@ -257,9 +297,10 @@ fn main() {
     let mut header = [0u8; 2048];
     let mut body = [0u8; 24576];
     let mut marks = [0u8; 2176];
-    let opened = Collector::opened(12288, 2, counts::none_yet(), &header, &body, &mut marks);
+    let begun = opened(12288, 2, counts::none_yet(), &header, &body, &mut marks);
+    let counts = begun.counts;
+    let opened = begun.opened;
     let collector = opened.collector;
-    let counts = opened.counts;
     let start = Listing {
         lines: 0,
         kept: 0,
