@@ -45,9 +45,9 @@ pub struct Opened {
 }
 
 // An opening by value: the counts that it leaves beside it.
-struct CountedOpening {
-    counts: Counts,
-    opened: Opened,
+pub struct CountedOpening {
+    pub counts: Counts,
+    pub opened: Opened,
 }
 
 // Where a finished object is, or why it can't be shown.
@@ -73,9 +73,9 @@ pub struct Answered {
 }
 
 // A call by value: the counts that it leaves beside it.
-struct CountedAnswer {
-    counts: Counts,
-    answered: Answered,
+pub struct CountedAnswer {
+    pub counts: Counts,
+    pub answered: Answered,
 }
 
 fn answer_as(outcome: Outcome, heard: Heard) -> Answer
@@ -122,7 +122,7 @@ impl Collector {
 
     // Opens a collector over lent memory, by value: all marks and counts are 0. Outside the bounds,
     // or with a wrong lent length, it answers LIMITS and nothing changes.
-    fn opened(
+    pub fn opened(
         limit: usize,
         count: usize,
         counts: Counts,
@@ -159,22 +159,6 @@ impl Collector {
             counts: counts::none_yet(),
             opened,
         }
-    }
-
-    // Opens a collector, and sets the counts to 0 where they stand.
-    pub fn open(
-        limit: usize,
-        count: usize,
-        counts: &mut Counts,
-        header: &[u8],
-        body: &[u8],
-        marks: &mut [u8],
-    ) -> Opened
-        ensures { λ r. ⌜ record { opening = r .opening; collector = r .collector; counts = now (counts .exit); marks = now (marks .exit) } ≡ openedBy limit count (now (counts .entry)) (record { header = now (header .entry); body = now (body .entry); marks = now (marks .entry) }) ⌝ }
-    {
-        let t = Collector::opened(limit, count, *counts, header, body, marks);
-        *counts = t.counts;
-        t.opened
     }
 
     // Whether the state is not damaged.
@@ -340,7 +324,7 @@ impl Collector {
     }
 
     // Takes a group, by value.
-    fn taken(
+    pub fn taken(
         self,
         counts: Counts,
         group: &[u8],
@@ -362,24 +346,8 @@ impl Collector {
         self.take_carried(counts, carried, &group[start..end], header, body, marks)
     }
 
-    // Takes a group: what comes of it is answered, and counted where the counts stand.
-    pub fn take(
-        self,
-        counts: &mut Counts,
-        group: &[u8],
-        header: &mut [u8],
-        body: &mut [u8],
-        marks: &mut [u8],
-    ) -> Answered
-        ensures { λ r. ⌜ record { answer = r .answer; collector = r .collector; counts = now (counts .exit); stores = record { header = now (header .exit); body = now (body .exit); marks = now (marks .exit) } } ≡ takeGroup (now (group .entry)) self (now (counts .entry)) (record { header = now (header .entry); body = now (body .entry); marks = now (marks .entry) }) ⌝ }
-    {
-        let t = self.taken(*counts, group, header, body, marks);
-        *counts = t.counts;
-        t.answered
-    }
-
     // Drops a number, by value.
-    fn dropped(
+    pub fn dropped(
         self,
         counts: Counts,
         number: u16,
@@ -403,21 +371,5 @@ impl Collector {
             slots: all,
         };
         next.answered(counts, Answer::Dropped(number))
-    }
-
-    // Drops a number: what comes of it is answered, and counted where the counts stand.
-    pub fn drop(
-        self,
-        counts: &mut Counts,
-        number: u16,
-        header: &[u8],
-        body: &[u8],
-        marks: &mut [u8],
-    ) -> Answered
-        ensures { λ r. ⌜ record { answer = r .answer; collector = r .collector; counts = now (counts .exit); stores = record { header = now (header .entry); body = now (body .entry); marks = now (marks .exit) } } ≡ dropNumber number self (now (counts .entry)) (record { header = now (header .entry); body = now (body .entry); marks = now (marks .entry) }) ⌝ }
-    {
-        let t = self.dropped(*counts, number, header, body, marks);
-        *counts = t.counts;
-        t.answered
     }
 }

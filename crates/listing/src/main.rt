@@ -78,10 +78,10 @@ fn opened(
 ) -> Begun
     ensures { λ r. ⌜ record { opening = r .opened .opening; collector = r .opened .collector; counts = r .counts; marks = now (marks .exit) } ≡ openedBy limit count counts (record { header = now (header .entry); body = now (body .entry); marks = now (marks .entry) }) ⌝ }
 {
-    let mut lent = counts;
-    let opened = Collector::open(limit, count, &mut lent, header, body, marks);
+    let mut kept = counts;
+    let opened = lent::open(limit, count, &mut kept, header, body, marks);
     Begun {
-        counts: lent,
+        counts: kept,
         opened,
     }
 }
@@ -96,10 +96,10 @@ fn taken(
 ) -> Done
     ensures { λ r. ⌜ record { answer = r .answered .answer; collector = r .answered .collector; counts = r .counts; stores = record { header = now (header .exit); body = now (body .exit); marks = now (marks .exit) } } ≡ takeGroup (now (group .entry)) collector counts (record { header = now (header .entry); body = now (body .entry); marks = now (marks .entry) }) ⌝ }
 {
-    let mut lent = counts;
-    let answered = collector.take(&mut lent, group, header, body, marks);
+    let mut kept = counts;
+    let answered = lent::take(collector, &mut kept, group, header, body, marks);
     Done {
-        counts: lent,
+        counts: kept,
         answered,
     }
 }
@@ -114,10 +114,10 @@ fn dropped(
 ) -> Done
     ensures { λ r. ⌜ record { answer = r .answered .answer; collector = r .answered .collector; counts = r .counts; stores = record { header = now (header .entry); body = now (body .entry); marks = now (marks .exit) } } ≡ dropNumber number collector counts (record { header = now (header .entry); body = now (body .entry); marks = now (marks .entry) }) ⌝ }
 {
-    let mut lent = counts;
-    let answered = collector.drop(&mut lent, number, header, body, marks);
+    let mut kept = counts;
+    let answered = lent::drop(collector, &mut kept, number, header, body, marks);
     Done {
-        counts: lent,
+        counts: kept,
         answered,
     }
 }

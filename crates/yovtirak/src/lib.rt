@@ -7,6 +7,7 @@ use answer::Heard;
 use answer::Part;
 use answer::Returned;
 use collector::Collector;
+use collector::CountedAnswer;
 use collector::Located;
 use collector::Opening;
 use collector::questions::Asked;
@@ -21,7 +22,7 @@ ghost use Prim.Native.Nat.{_<_};
 ghost use lib.ListN.{length, getD};
 ghost use Rattle.cut.specs.Lists.{pick};
 ghost use Rattle.slots.specs.Stores.{slotAt};
-ghost use Rattle.words.specs.Layout.{wordsOf};
+ghost use Rattle.words.specs.Layout.{wordsOf, countWords};
 ghost use Rattle.yovtirak.specs.Exports.{openingWord, isOpen, openCall, partWord, heardWord, returnedWord, answerWord, changes, takeCall, dropCall, refusedWord, placeWords, finishedCall, priorityWord, nameStart, nameLength, fieldWords, unreadWord, readCall, soughtWord, findCall};
 
 fn part_word(part: Part) -> u64
@@ -95,6 +96,19 @@ fn keep(state: &mut [u64], answer: Answer, next: Collector)
     words::put_collector(state, next);
 }
 
+// What a call leaves in words, and its answer's word.
+fn leave(state: &mut [u64], counts: &mut [u32], after: CountedAnswer) -> u64
+    requires { ⌜ (length (now state) ≡ 162) × (length (now counts) ≡ 5) ⌝ }
+    ensures { λ r. ⌜ (r ≡ answerWord (after .answered .answer)) × (now (state .exit) ≡ pick (changes (after .answered .answer)) (wordsOf (after .answered .collector)) (now (state .entry))) × (now (counts .exit) ≡ countWords (after .counts)) ⌝ }
+{
+    let answered = after.answered;
+    let answer = answered.answer;
+    let next = answered.collector;
+    words::put_counts(counts, after.counts);
+    keep(state, answer, next);
+    answer_word(answer)
+}
+
 // Why an object can't be shown.
 fn refused_word(located: Located) -> u64
     ensures { λ r. ⌜ r ≡ refusedWord located ⌝ }
@@ -155,8 +169,9 @@ pub extern "C" fn yovtirak_open(
     }
     let before = words::counts_from(counts);
     let opened = Collector::opened(limit, slots, before, header, body, marks);
-    let opening = opened.opening;
-    let fresh = opened.collector;
+    let handed = opened.opened;
+    let opening = handed.opening;
+    let fresh = handed.collector;
     words::put_counts(counts, opened.counts);
     keep_opened(state, opening, fresh);
     opening_word(opening)
@@ -183,11 +198,7 @@ pub extern "C" fn yovtirak_take(
     let collector = words::collector_from(state);
     let before = words::counts_from(counts);
     let after = collector.taken(before, group, header, body, marks);
-    let answer = after.answer;
-    let next = after.collector;
-    words::put_counts(counts, after.counts);
-    keep(state, answer, next);
-    answer_word(answer)
+    leave(state, counts, after)
 }
 
 // Drops a number.
@@ -211,11 +222,7 @@ pub extern "C" fn yovtirak_drop(
     let collector = words::collector_from(state);
     let before = words::counts_from(counts);
     let after = collector.dropped(before, number, header, body, marks);
-    let answer = after.answer;
-    let next = after.collector;
-    words::put_counts(counts, after.counts);
-    keep(state, answer, next);
-    answer_word(answer)
+    leave(state, counts, after)
 }
 
 fn stage_at(slots: [Slot; 16], i: usize) -> Stage

@@ -1,4 +1,4 @@
--- `listing::dropped` meets its contract: a walk of its MIR, by hand. A local that holds the record is lent to `Collector.drop` for a lifetime that is made for the call, and taken back at the record that it left.
+-- `listing::dropped` meets its contract: a walk of its MIR, by hand. A local that holds the record is lent to `drop` for a lifetime that is made for the call, and taken back at the record that it left.
 -- Assumes nothing.
 use mathlib.Core.Path.{_≡_, refl, ap, subst}
 use Prim.Native.Nat.{ℕ}
@@ -55,10 +55,10 @@ use Rattle.collector.proofs.Answered.Laws as T2′
 use Rattle.collector.specs.declared.Collector.{Collector}
 use Rattle.collector.proofs.Collector as T3
 use Rattle.collector.proofs.Collector.Laws as T3′
-use Rattle.collector.proofs.Collector.drop as core
-use Rattle.collector.proofs.Collector.drop.Symbol as core-def
-use Rattle.collector.proofs.Collector.drop.Symbol.{name as #core}
-use Rattle.collector.proofs.Collector.drop.Met as core-thm
+use Rattle.lent.proofs.drop as core
+use Rattle.lent.proofs.drop.Symbol as core-def
+use Rattle.lent.proofs.drop.Symbol.{name as #core}
+use Rattle.lent.proofs.drop.Met as core-thm
 use Rattle.listing.proofs.dropped.Key.{name as #f}
 use Rattle.listing.proofs.dropped as f
 use Rattle.listing.proofs.dropped.Statement as stated
@@ -154,7 +154,7 @@ module _ {M : Type 1} (𝓤 : URA M) (H : Heap 𝓤) (A : Atoms 𝓤) (W : Given
   goes l ν δ =
       qed W (tokens ν ∷ ‵ (MutRef (named 0) (ν ∷ []) R .own (lent l δ) (vptr l 0 ∷ [])) ∷ ‵ (ShrSlice (named 0) κ-header u8 .own header (s-header ∷ [])) ∷ ‵ (ShrSlice (named 1) κ-body u8 .own body (s-body ∷ [])) ∷ ‵ (MutSlice (named 2) κ-marks u8 .own x-marks (s-marks ∷ [])) ∷ []) ∵ nothing ! $ move ! (5 ∷ 0 ∷ []) $ fjoin ! $ move ! (4 ∷ 0 ∷ []) $ fjoin ! $ move ! (3 ∷ 0 ∷ []) $ fjoin ! $ owned ! u16 (Is u16) (uint-makes 𝓤 H A W w16) number _ is-number $ fjoin ! $ move ! (2 ∷ 0 ∷ []) $ fjoin ! $ owned ! T3.the-row (Is T3.the-row) (LL.makes T3.the-type T3′.the-plain 𝓤 H A) state _ is-state $ fjoin ! $ move ! (1 ∷ 0 ∷ []) $ join ! $ frame ! $ done !
 
-  -- what `Collector.drop` ensures, at what it leaves
+  -- what `drop` ensures, at what it leaves
   abbrev Said : Answered → Counts → List ℕ → Type 0
   Said r z z-marks = record { answer = r .answer; collector = r .collector; counts = z; stores = record { header = header .now; body = body .now; marks = z-marks } } ≡ dropNumber number state h (record { header = header .now; body = body .now; marks = marks })
 
@@ -308,4 +308,4 @@ dropped-spec 𝓤 H 𝓜 𝓖 𝓡 =
     entered 𝓤 H (tripleOf 𝓤 H (𝓖 .A) f.signature (f.spec 𝓤 H (𝓖 .A) (𝓜 .mem) (𝓡 .run)))
     (tables 𝓤 H 𝓜 𝓡 code.env .C) (tables 𝓤 H 𝓜 𝓡 code.env .Λ) #f code.function (code.unfolded 𝓤 H 𝓜 𝓡)
     (f-meets 𝓤 H (𝓖 .A) (givenOf 𝓤 H 𝓜 𝓖) (𝓜 .mem) (𝓡 .run) (tablesOf 𝓤 H 𝓜 (tables 𝓤 H 𝓜 𝓡 code.env))
-    (cited 𝓤 H (Callee 𝓤 H (𝓖 .A) (𝓜 .mem) (𝓡 .run)) 𝓜 𝓡 code.env #core core-def.routine code.calls-collector·Collector·drop (core-thm.met 𝓤 H 𝓜 𝓖 𝓡)))
+    (cited 𝓤 H (Callee 𝓤 H (𝓖 .A) (𝓜 .mem) (𝓡 .run)) 𝓜 𝓡 code.env #core core-def.routine code.calls-lent·drop (core-thm.met 𝓤 H 𝓜 𝓖 𝓡)))

@@ -1,4 +1,4 @@
--- `listing::opened` meets its contract: a walk of its MIR, by hand. A local that holds the record is lent to `Collector.open` for a lifetime that is made for the call, and taken back at the record that it left.
+-- `listing::opened` meets its contract: a walk of its MIR, by hand. A local that holds the record is lent to `open` for a lifetime that is made for the call, and taken back at the record that it left.
 -- Assumes nothing.
 use mathlib.Core.Path.{_≡_, refl, ap, subst}
 use Prim.Native.Nat.{ℕ}
@@ -52,10 +52,10 @@ use Rattle.listing.proofs.Begun.Laws as T1′
 use Rattle.collector.specs.declared.Opened.{Opened}
 use Rattle.collector.proofs.Opened as T2
 use Rattle.collector.proofs.Opened.Laws as T2′
-use Rattle.collector.proofs.Collector.open as core
-use Rattle.collector.proofs.Collector.open.Symbol as core-def
-use Rattle.collector.proofs.Collector.open.Symbol.{name as #core}
-use Rattle.collector.proofs.Collector.open.Met as core-thm
+use Rattle.lent.proofs.open as core
+use Rattle.lent.proofs.open.Symbol as core-def
+use Rattle.lent.proofs.open.Symbol.{name as #core}
+use Rattle.lent.proofs.open.Met as core-thm
 use Rattle.listing.proofs.opened.Key.{name as #f}
 use Rattle.listing.proofs.opened as f
 use Rattle.listing.proofs.opened.Statement as stated
@@ -151,7 +151,7 @@ module _ {M : Type 1} (𝓤 : URA M) (H : Heap 𝓤) (A : Atoms 𝓤) (W : Given
   goes l ν δ =
       qed W (tokens ν ∷ ‵ (MutRef (named 0) (ν ∷ []) R .own (lent l δ) (vptr l 0 ∷ [])) ∷ ‵ (ShrSlice (named 0) κ-header u8 .own header (s-header ∷ [])) ∷ ‵ (ShrSlice (named 1) κ-body u8 .own body (s-body ∷ [])) ∷ ‵ (MutSlice (named 2) κ-marks u8 .own x-marks (s-marks ∷ [])) ∷ []) ∵ nothing ! $ move ! (5 ∷ 0 ∷ []) $ fjoin ! $ move ! (4 ∷ 0 ∷ []) $ fjoin ! $ move ! (3 ∷ 0 ∷ []) $ fjoin ! $ move ! (2 ∷ 0 ∷ []) $ fjoin ! $ owned ! usize (Is usize) (uint-makes 𝓤 H A W w64) count _ is-count $ fjoin ! $ owned ! usize (Is usize) (uint-makes 𝓤 H A W w64) limit _ is-limit $ fjoin ! $ move ! (1 ∷ 0 ∷ []) $ join ! $ frame ! $ done !
 
-  -- what `Collector.open` ensures, at what it leaves
+  -- what `open` ensures, at what it leaves
   abbrev Said : Opened → Counts → List ℕ → Type 0
   Said r z z-marks = record { opening = r .opening; collector = r .collector; counts = z; marks = z-marks } ≡ openedBy limit count h (record { header = header .now; body = body .now; marks = marks })
 
@@ -305,4 +305,4 @@ opened-spec 𝓤 H 𝓜 𝓖 𝓡 =
     entered 𝓤 H (tripleOf 𝓤 H (𝓖 .A) f.signature (f.spec 𝓤 H (𝓖 .A) (𝓜 .mem) (𝓡 .run)))
     (tables 𝓤 H 𝓜 𝓡 code.env .C) (tables 𝓤 H 𝓜 𝓡 code.env .Λ) #f code.function (code.unfolded 𝓤 H 𝓜 𝓡)
     (f-meets 𝓤 H (𝓖 .A) (givenOf 𝓤 H 𝓜 𝓖) (𝓜 .mem) (𝓡 .run) (tablesOf 𝓤 H 𝓜 (tables 𝓤 H 𝓜 𝓡 code.env))
-    (cited 𝓤 H (Callee 𝓤 H (𝓖 .A) (𝓜 .mem) (𝓡 .run)) 𝓜 𝓡 code.env #core core-def.routine code.calls-collector·Collector·open (core-thm.met 𝓤 H 𝓜 𝓖 𝓡)))
+    (cited 𝓤 H (Callee 𝓤 H (𝓖 .A) (𝓜 .mem) (𝓡 .run)) 𝓜 𝓡 code.env #core core-def.routine code.calls-lent·open (core-thm.met 𝓤 H 𝓜 𝓖 𝓡)))

@@ -1,4 +1,4 @@
--- `listing::taken` meets its contract: a walk of its MIR, by hand. A local that holds the record is lent to `Collector.take` for a lifetime that is made for the call, and taken back at the record that it left.
+-- `listing::taken` meets its contract: a walk of its MIR, by hand. A local that holds the record is lent to `take` for a lifetime that is made for the call, and taken back at the record that it left.
 -- Assumes nothing.
 use mathlib.Core.Path.{_≡_, refl, ap, subst}
 use Prim.Native.Nat.{ℕ}
@@ -54,10 +54,10 @@ use Rattle.collector.proofs.Answered.Laws as T2′
 use Rattle.collector.specs.declared.Collector.{Collector}
 use Rattle.collector.proofs.Collector as T3
 use Rattle.collector.proofs.Collector.Laws as T3′
-use Rattle.collector.proofs.Collector.take as core
-use Rattle.collector.proofs.Collector.take.Symbol as core-def
-use Rattle.collector.proofs.Collector.take.Symbol.{name as #core}
-use Rattle.collector.proofs.Collector.take.Met as core-thm
+use Rattle.lent.proofs.take as core
+use Rattle.lent.proofs.take.Symbol as core-def
+use Rattle.lent.proofs.take.Symbol.{name as #core}
+use Rattle.lent.proofs.take.Met as core-thm
 use Rattle.listing.proofs.taken.Key.{name as #f}
 use Rattle.listing.proofs.taken as f
 use Rattle.listing.proofs.taken.Statement as stated
@@ -159,7 +159,7 @@ module _ {M : Type 1} (𝓤 : URA M) (H : Heap 𝓤) (A : Atoms 𝓤) (W : Given
   goes l ν δ =
       qed W (tokens ν ∷ ‵ (MutRef (named 0) (ν ∷ []) R .own (lent l δ) (vptr l 0 ∷ [])) ∷ ‵ (ShrSlice (named 0) κ-group u8 .own group (s-group ∷ [])) ∷ ‵ (MutSlice (named 1) κ-header u8 .own x-header (s-header ∷ [])) ∷ ‵ (MutSlice (named 2) κ-body u8 .own x-body (s-body ∷ [])) ∷ ‵ (MutSlice (named 3) κ-marks u8 .own x-marks (s-marks ∷ [])) ∷ []) ∵ nothing ! $ move ! (6 ∷ 0 ∷ []) $ fjoin ! $ move ! (5 ∷ 0 ∷ []) $ fjoin ! $ move ! (4 ∷ 0 ∷ []) $ fjoin ! $ move ! (3 ∷ 0 ∷ []) $ fjoin ! $ move ! (2 ∷ 0 ∷ []) $ fjoin ! $ owned ! T3.the-row (Is T3.the-row) (LL.makes T3.the-type T3′.the-plain 𝓤 H A) state _ is-state $ fjoin ! $ move ! (1 ∷ 0 ∷ []) $ join ! $ frame ! $ done !
 
-  -- what `Collector.take` ensures, at what it leaves
+  -- what `take` ensures, at what it leaves
   abbrev Said : Answered → Counts → List ℕ → List ℕ → List ℕ → Type 0
   Said r z z-header z-body z-marks = record { answer = r .answer; collector = r .collector; counts = z; stores = record { header = z-header; body = z-body; marks = z-marks } } ≡ takeGroup (group .now) state h (record { header = header; body = body; marks = marks })
 
@@ -332,4 +332,4 @@ taken-spec 𝓤 H 𝓜 𝓖 𝓡 =
     entered 𝓤 H (tripleOf 𝓤 H (𝓖 .A) f.signature (f.spec 𝓤 H (𝓖 .A) (𝓜 .mem) (𝓡 .run)))
     (tables 𝓤 H 𝓜 𝓡 code.env .C) (tables 𝓤 H 𝓜 𝓡 code.env .Λ) #f code.function (code.unfolded 𝓤 H 𝓜 𝓡)
     (f-meets 𝓤 H (𝓖 .A) (givenOf 𝓤 H 𝓜 𝓖) (𝓜 .mem) (𝓡 .run) (tablesOf 𝓤 H 𝓜 (tables 𝓤 H 𝓜 𝓡 code.env))
-    (cited 𝓤 H (Callee 𝓤 H (𝓖 .A) (𝓜 .mem) (𝓡 .run)) 𝓜 𝓡 code.env #core core-def.routine code.calls-collector·Collector·take (core-thm.met 𝓤 H 𝓜 𝓖 𝓡)))
+    (cited 𝓤 H (Callee 𝓤 H (𝓖 .A) (𝓜 .mem) (𝓡 .run)) 𝓜 𝓡 code.env #core core-def.routine code.calls-lent·take (core-thm.met 𝓤 H 𝓜 𝓖 𝓡)))

@@ -1,4 +1,4 @@
--- `collector::Collector::take` meets its contract: a walk of its MIR, by hand. The borrow of the record is opened and read whole, `Collector.taken` is called on that and on the other parameters, the record that it returns is stored, and the borrow is closed at it; the rest is returned.
+-- `lent::take` meets its contract: a walk of its MIR, by hand. The borrow of the record is opened and read whole, `Collector.taken` is called on that and on the other parameters, the record that it returns is stored, and the borrow is closed at it; the rest is returned.
 -- Each `&mut` goes to the callee at its own lifetime, share and ghost name, and is given up for good; of a `&` a copy goes. All that the proof knows of `Collector.taken` is that it meets its contract.
 -- Assumes nothing.
 use mathlib.Core.Path.{_≡_, refl, ap}
@@ -44,24 +44,24 @@ use denote.Exit.{yes}
 use Rattle.counts.specs.declared.Counts.{Counts}
 use Rattle.counts.proofs.Counts as T0
 use Rattle.counts.proofs.Counts.Laws as T0′
 use Rattle.collector.specs.declared.CountedAnswer.{CountedAnswer}
 use Rattle.collector.proofs.CountedAnswer as T1
 use Rattle.collector.proofs.CountedAnswer.Laws as T1′
 use Rattle.collector.specs.declared.Answered.{Answered}
 use Rattle.collector.proofs.Answered as T2
 use Rattle.collector.proofs.Answered.Laws as T2′
 use Rattle.collector.specs.declared.Collector.{Collector}
 use Rattle.collector.proofs.Collector as T3
 use Rattle.collector.proofs.Collector.Laws as T3′
 use Rattle.collector.proofs.Collector.taken as core
 use Rattle.collector.proofs.Collector.taken.Symbol as core-def
 use Rattle.collector.proofs.Collector.taken.Symbol.{name as #core}
 use Rattle.collector.proofs.Collector.taken.Met as core-thm
-use Rattle.collector.proofs.Collector.take.Key.{name as #f}
-use Rattle.collector.proofs.Collector.take as f
-use Rattle.collector.proofs.Collector.take.Statement as stated
-use Rattle.collector.proofs.Collector.take.Code as code
+use Rattle.lent.proofs.take.Key.{name as #f}
+use Rattle.lent.proofs.take as f
+use Rattle.lent.proofs.take.Statement as stated
+use Rattle.lent.proofs.take.Code as code
 use Rattle.collector.specs.Calls.{takeGroup}
 
 abbrev R : RattleType
 R = T0.the-row
