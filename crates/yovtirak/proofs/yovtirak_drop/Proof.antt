@@ -3,8 +3,8 @@
 use mathlib.Core.Path.{_≡_, refl, sym, _∙_}
 use mathlib.Core.Bool.{true}
 use borrow.Author.Tests.{eq-eqb, ne-eqb, not-true, not-false}
-use Rattle.yovtirak.specs.Exports.{left, dropCall}
 use Rattle.words.specs.Layout.{readable}
+use Rattle.yovtirak.specs.Exports.{left, dropCall}
 use Rattle.yovtirak.specs.Laws.{readable-length}
 use borrow.Author.Needs.{needs}
 use Rattle.yovtirak.proofs.yovtirak_drop.Statement.{statement}
@@ -37,14 +37,8 @@ counts-from-requires c κs = search needs
 dropped-requires : tie.Need-dropped-requires
 dropped-requires c κs = search needs
 
-put-counts-requires : tie.Need-put-counts-requires
-put-counts-requires c κs = search needs
-
-keep-requires : tie.Need-keep-requires
-keep-requires c κs = readable-length (c .before .before .before .before .before .before .before .before .before .before .before .before .before .before .before .before .before .before .before .before .before .before .before .args .state .now) (held (c .before .before .before .before .before .before .before .before .before .before .before .before .before .before))
-
-answer-word-requires : tie.Need-answer-word-requires
-answer-word-requires c κs = search needs
+leave-requires : tie.Need-leave-requires
+leave-requires c κs = (readable-length (c .before .before .before .before .before .before .before .before .before .before .before .before .before .before .before .before .before .before .before .args .state .now) (held (c .before .before .before .before .before .before .before .before .before .before)), c .before .before .before .before .before .before .before .before .before .before .before .before .before .if1 .left)
 
 same-length-2 : tie.Need-same-length-2
 same-length-2 c = search needs
@@ -58,9 +52,10 @@ same-length-4 c = search needs
 returns-3 : tie.Need-returns-3
 unfolding dropCall left
 returns-3 c =
-    let e = c .before .before .before .before .before .before .before .before .before .before .before .before .before .before .before .before .before .before in
-    let k = c .before .before .before .before .before .before .before .before .before .before .before .before in
-    rw (eq-eqb _ _ (e .before .before .before .if1 .left), held e, ← (k .before .before .before .before .collector-from .ensures), ← (k .before .before .counts-from .ensures), ← (k .dropped .ensures), c .answer-word .ensures, c .before .before .before .keep .ensures, c .before .before .before .before .before .before .before .put-counts .ensures)
+    let l = c .before .before .before .before .leave .ensures in
+    let k = c .before .before .before .before .before .before .before .before .before in
+    let e = c .before .before .before .before .before .before .before .before .before .before .before .before .before .before .before in
+    rw (eq-eqb _ _ (e .before .before .before .if1 .left), held e, ← (k .before .before .before .before .collector-from .ensures), ← (k .before .before .counts-from .ensures), ← (k .dropped .ensures), l .0, l .1, l .2)
     refl
 
 pub yovtirak-drop-spec : {M : Type 1} → statement M
@@ -74,9 +69,7 @@ yovtirak-drop-spec =
     collector-from-requires
     counts-from-requires
     dropped-requires
-    put-counts-requires
-    keep-requires
-    answer-word-requires
+    leave-requires
     same-length-2
     same-length-3
     same-length-4

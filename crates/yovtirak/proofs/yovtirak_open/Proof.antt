@@ -42,7 +42,7 @@ same-length-3 c = search needs
 returns-3 : tie.Need-returns-3
 unfolding openCall leftOpen
 returns-3 c =
-    let k = c .before .before .before .before .before .before .before .before .before .before .before .before in
+    let k = c .before .before .before .before .before .before .before .before .before .before .before .before .before in
     let e = k .before .before .before .before in
     rw (eq-eqb _ _ (e .before .if1 .left), eq-eqb _ _ (e .if2 .left), ← (k .before .before .counts-from .ensures), ← (k .opened .ensures), c .opening-word .ensures, c .before .before .before .keep-opened .ensures, c .before .before .before .before .before .before .before .put-counts .ensures)
     refl
