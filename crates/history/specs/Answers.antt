@@ -23,8 +23,8 @@ use Rattle.gathering.specs.Step.{conflict-exactly, repeat-exactly, complete-exa
 use Rattle.slots.specs.declared.Found.{Found}
 use Rattle.slots.specs.declared.Found.the-variants.{Nothing, At}
 use Rattle.slots.specs.Stores.{freshSlot}
-use Rattle.collector.specs.Calls.{Answered, heardAs, answerAs}
-use Rattle.history.specs.Call.{State, limitOf, slotOf, lentOf, find, free, Came, alone, full, first, more}
+use Rattle.collector.specs.Calls.{heardAs, answerAs}
+use Rattle.history.specs.Call.{State, Reply, limitOf, slotOf, lentOf, find, free, Came, alone, full, first, more}
 use Rattle.history.specs.Held.{SlotFor}
 use Rattle.history.specs.Ready.{limit-low, used-lent, free-used, free-marks}
 use Rattle.history.specs.Taken.{fresh-gathers, alone-fits}
@@ -123,7 +123,7 @@ full-never Conflict carried segment s limit f n g = ((λ e. absurd (never-full C
 
 module _ (carried : Carried) (segment : Segment) (s : State) (hs bs : List Segment) (y : Bytes (segment .bytes)) (whole : Intact s) (w : StandsFor (carried .number) s hs bs) where
   -- STORED, COMPLETE, REPEAT and CONFLICT, each exactly when demand 3 says
-  pub came-exactly : (t : Answered) → Came carried segment s t → (o : Outcome) → (t .answer ≡ answerAs o (heardAs carried)) ↔ (Meets o (carried .part) (limitOf s) segment hs bs × Room o (carried .number) s)
+  pub came-exactly : (t : Reply) → Came carried segment s t → (o : Outcome) → (t .answer ≡ answerAs o (heardAs carried)) ↔ (Meets o (carried .part) (limitOf s) segment hs bs × Room o (carried .number) s)
   came-exactly t (alone n a e) o =
       let none = w .rest n in
       rw (e, none .0, none .1) (alone-exactly o carried segment s (limitOf s) (λ f. false-true a (alone-fits (carried .part) (limitOf s) segment (limit-low s (whole .undamaged)) y .1 f)))
@@ -140,7 +140,7 @@ module _ (carried : Carried) (segment : Segment) (s : State) (hs bs : List Segme
       rw e (offered-exactly o (takeInto (carried .part) (limitOf s) segment (slotOf i s) (lentOf i s) .outcome) (heardAs carried) (carried .number) s (Meets o (carried .part) (limitOf s) segment hs bs) (exactly o (carried .part) (limitOf s) segment (slotOf i s) (lentOf i s) hs bs (limit-low s (whole .undamaged)) y (w .held i n .gathers)) (λ x. unlike i n (x .0)))
 
   -- FULL: it fits, its number holds no slot, and none is free
-  pub came-full : (t : Answered) → Came carried segment s t → (t .answer ≡ Answer.Full (heardAs carried)) ↔ (Fits (limitOf s) (headersWith (carried .part) segment hs) (bodiesWith (carried .part) segment bs) × (find (carried .number) s ≡ Nothing) × (free s ≡ Nothing))
+  pub came-full : (t : Reply) → Came carried segment s t → (t .answer ≡ Answer.Full (heardAs carried)) ↔ (Fits (limitOf s) (headersWith (carried .part) segment hs) (bodiesWith (carried .part) segment bs) × (find (carried .number) s ≡ Nothing) × (free s ≡ Nothing))
   came-full t (alone n a e) =
       let none = w .rest n in
       rw (e, none .0, none .1) ((λ d. let z : _≡_ {A = ℕ} 0 1 = cc in absurd (omega arith)), (λ m. absurd (false-true a (alone-fits (carried .part) (limitOf s) segment (limit-low s (whole .undamaged)) y .1 (m .0)))))
@@ -151,8 +151,8 @@ module _ (carried : Carried) (segment : Segment) (s : State) (hs bs : List Segme
   came-full t (more i n e) = rw e ((λ d. absurd (never-full (takeInto (carried .part) (limitOf s) segment (slotOf i s) (lentOf i s) .outcome) (heardAs carried) (sym d))), (λ m. absurd (unlike i n (m .1))))
 
 -- one of the five comes back
-pub came-named : (carried : Carried) (segment : Segment) (s : State) (t : Answered) → Came carried segment s t → (t .answer ≡ Answer.Full (heardAs carried)) ⊎ ((o : Outcome) × (t .answer ≡ answerAs o (heardAs carried)))
-came-named carried segment s t (alone n a e) = inr (Conflict, ap (λ (x : Answered). x .answer) e)
-came-named carried segment s t (full n a f e) = inl (ap (λ (x : Answered). x .answer) e)
-came-named carried segment s t (first i n a f e) = inr (takeInto (carried .part) (limitOf s) segment (freshSlot (carried .number)) (lentOf i s) .outcome, ap (λ (x : Answered). x .answer) e)
-came-named carried segment s t (more i n e) = inr (takeInto (carried .part) (limitOf s) segment (slotOf i s) (lentOf i s) .outcome, ap (λ (x : Answered). x .answer) e)
+pub came-named : (carried : Carried) (segment : Segment) (s : State) (t : Reply) → Came carried segment s t → (t .answer ≡ Answer.Full (heardAs carried)) ⊎ ((o : Outcome) × (t .answer ≡ answerAs o (heardAs carried)))
+came-named carried segment s t (alone n a e) = inr (Conflict, ap (λ (x : Reply). x .answer) e)
+came-named carried segment s t (full n a f e) = inl (ap (λ (x : Reply). x .answer) e)
+came-named carried segment s t (first i n a f e) = inr (takeInto (carried .part) (limitOf s) segment (freshSlot (carried .number)) (lentOf i s) .outcome, ap (λ (x : Reply). x .answer) e)
+came-named carried segment s t (more i n e) = inr (takeInto (carried .part) (limitOf s) segment (slotOf i s) (lentOf i s) .outcome, ap (λ (x : Reply). x .answer) e)

@@ -17,11 +17,12 @@ use Rattle.gathering.specs.declared.Stage.the-variants as Stage
 use Rattle.gathering.specs.declared.Outcome.{Outcome}
 use Rattle.gathering.specs.declared.Outcome.the-variants.{Stored, Complete, Repeat, Conflict}
 use Rattle.slots.specs.declared.Found.the-variants.{Nothing}
-use Rattle.collector.specs.Calls.{Answered, answerAs}
-use Rattle.history.specs.Call.{State, taking, limitOf, find, free, unread, came}
+use Rattle.collector.specs.Calls.{answerAs}
+use Rattle.history.specs.Call.{State, Reply, taking, limitOf, find, free, unread, came}
 use Rattle.history.specs.Held.{stageFor, SlotFor, Same}
 use Rattle.history.specs.Shown.{showing}
-use Rattle.history.specs.Sound.{Intact, segment-bytes, group-never, drop-never}
+use Rattle.history.specs.Sound.{Intact, segment-bytes}
+use Rattle.history.specs.State.{group-never, drop-never}
 use Rattle.history.specs.Others.{same-shown}
 use Rattle.history.specs.History.{Call, hand, drop, ask, CallBytes, Elsewhere, event, after, Start, Allowed, reached, told, ours}
 use Rattle.history.specs.Stands.{StandsFor}
@@ -34,8 +35,8 @@ use Rattle.history.specs.Promise.{Run, reachedBy, stored, Passing, segme
 -- ---- no state so reached meets STATE
 
 event-not-state : (call : Call) (s : State) → Intact s → NotState (event ours call s)
-event-not-state (hand bytes) s whole = group-never bytes s whole
-event-not-state (drop number) s whole = drop-never number s whole
+event-not-state (hand bytes) s whole = group-never bytes s (whole .undamaged)
+event-not-state (drop number) s whole = drop-never number s (whole .undamaged)
 event-not-state (ask number part) s whole = tt
 
 pub never-state : (start : Start) → Allowed start → (calls : List Call) → Each CallBytes calls → Each NotState (told ours start calls)
@@ -93,7 +94,7 @@ module _ (r : Run) where
 
   -- one that does not
   pub refused-unread : (bytes : List ℕ) (why : Refusal) → readingOf bytes ≡ Refused why → taking bytes (reachedBy ours r) .answer ≡ Answer.Refused why
-  refused-unread bytes why e = ap (λ (t : Answered). t .answer) (unread bytes (reachedBy ours r) (whole .undamaged) why e)
+  refused-unread bytes why e = ap (λ (t : Reply). t .answer) (unread bytes (reachedBy ours r) (whole .undamaged) why e)
 
   -- ---- what is held and shown for a number
 

@@ -28,6 +28,8 @@ use Rattle.gathering.specs.Offers.{Source, SentBy}
 use Rattle.slots.specs.declared.Found.the-variants.{Nothing, At}
 use Rattle.collector.specs.Calls.{heardAs, segmentIn}
 use Rattle.history.specs.Call.{State, sound, find, free, inLimits}
+use Rattle.history.specs.Ready.{OfBytes}
+use Rattle.history.specs.State.{InOrder}
 use Rattle.history.specs.Held.{stageFor, SlotFor, Same}
 use Rattle.history.specs.History.{Call, hand, drop, ask, CallBytes, Elsewhere, Event, handed, dropped, asked, Start, Allowed, Collecting, after, reached, told, under, storedUnder}
 
@@ -133,6 +135,9 @@ pub record Promised (k : Collecting) : Type 0 where
   -- A repeat: one more is repeated, and nothing else changes.
   pub repeating : (bytes : List ℕ) (s : State) (heard : Heard) → k .answersGroup bytes s ≡ Answer.Repeat heard
       → k .leavesGroup bytes s ≡ record { collector = s .collector; counts = oneRepeated (s .counts); stores = s .stores }
+  -- STATE exactly when the state is damaged: document 01's list.
+  pub state : (bytes : List ℕ) (s : State) → OfBytes (s .stores) → (k .answersGroup bytes s ≡ Answer.State) ↔ (¬ (InOrder s))
+  pub stateDrop : (number : ℕ) (s : State) → OfBytes (s .stores) → (k .answersDrop number s ≡ Answer.State) ↔ (¬ (InOrder s))
   -- An opening outside the limits leaves the counts and all that is lent, and hands back a state that every call answers
   -- with STATE.
   pub unopened : (start : Start) → inLimits (start .limit) (start .count) (start .stores) ≡ false

@@ -1,5 +1,6 @@
 -- THE PROMISES: our collector keeps them.
 use Rattle.history.specs.Refused.{refused-group, unanswered-group, refused-drop, repeated-group, refused-opening}
+use Rattle.history.specs.State.{group-state, drop-state}
 use Rattle.history.specs.History.{ours}
 use Rattle.history.specs.Promise.{Promised}
 use Rattle.history.specs.Demands.{never-state, others-held, conflict-exactly, full-exactly, repeat-exactly, complete-exactly, stored-exactly, refused-unread, unheld-stored, finished-exactly, finished-lengths, shown-joined, unfinished-nothing}
@@ -13,6 +14,8 @@ promised = record {
   unanswered = unanswered-group;
   undropped = refused-drop;
   repeating = repeated-group;
+  state = group-state;
+  stateDrop = drop-state;
   unopened = λ start. refused-opening (start .limit) (start .count) (start .counts) (start .stores);
   neverState = λ r. never-state (r .start) (r .allowed) (r .calls) (r .bytes);
   others = others-held;

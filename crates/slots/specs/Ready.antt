@@ -65,7 +65,7 @@ found-passes test first i (slot ∷ slots) e = go (test slot) refl e (λ g. foun
 -- ---- of the slots of a sound state
 
 -- share i lies inside a store of count shares
-inside-store : (width count i : ℕ) → i < count → i * width + width ≤ count * width
+pub inside-store : (width count i : ℕ) → i < count → i * width + width ≤ count * width
 inside-store width count i h = let g : suc i * width ≤ count * width = mul-le-mul-right width h in omega (arith, suc-mul i width)
 
 -- a slot that holds a number is sound, where it is right; a free one has no mark set
@@ -90,7 +90,7 @@ module _ (limit count : ℕ) (slots : List Slot) (stores : Stores) (sound : soun
   w : Limits limit count (length (stores .header)) (length (stores .body)) (length (stores .marks))
   w = sound-limits limit count slots stores sound
 
-  pub sound-inside : (i : ℕ) → i < count → Inside limit i stores
+  sound-inside : (i : ℕ) → i < count → Inside limit i stores
   sound-inside i h = record {
     slot = omega (arith, w .slots);
     header = omega (arith, w .header, inside-store headerMost count i h);
