@@ -24,12 +24,14 @@ use Rattle.cut.specs.Requirement.{headerNumbers, bodyNumbers, Segment, Fits, Fi
 use Rattle.cut.specs.Decision.{both}
 use Rattle.cut.specs.LawsObject.{headersWith, bodiesWith}
 use Rattle.gathering.specs.declared.Stage.the-variants as Stage
+use Rattle.gathering.specs.declared.Outcome.{Outcome}
 use Rattle.gathering.specs.Offers.{Source, SentBy}
 use Rattle.slots.specs.declared.Found.the-variants.{Nothing, At}
-use Rattle.collector.specs.Calls.{heardAs, segmentIn}
-use Rattle.history.specs.Call.{State, sound, find, free, inLimits}
+use Rattle.collector.specs.Calls.{heardAs, segmentIn, answerAs}
+use Rattle.history.specs.Call.{State, sound, limitOf, find, free, inLimits}
 use Rattle.history.specs.Ready.{OfBytes}
 use Rattle.history.specs.State.{InOrder}
+use Rattle.history.specs.Answers.{Meets, Room, markedUnder}
 use Rattle.history.specs.Held.{stageFor, SlotFor, Same}
 use Rattle.history.specs.History.{Call, hand, drop, ask, CallBytes, Elsewhere, Event, handed, dropped, asked, Start, Allowed, Collecting, after, reached, told, under, storedUnder}
 
@@ -138,6 +140,9 @@ pub record Promised (k : Collecting) : Type 0 where
   -- STATE exactly when the state is damaged: document 01's list.
   pub state : (bytes : List ℕ) (s : State) → OfBytes (s .stores) → (k .answersGroup bytes s ≡ Answer.State) ↔ (¬ (InOrder s))
   pub stateDrop : (number : ℕ) (s : State) → OfBytes (s .stores) → (k .answersDrop number s ≡ Answer.State) ↔ (¬ (InOrder s))
+  -- Any other state is answered as if its marked segments had been stored.
+  pub marked : (s : State) → OfBytes (s .stores) → InOrder s → (g : Passing) (o : Outcome)
+      → (k .answersGroup (g .bytes) s ≡ answerAs o (heardOf g)) ↔ (Meets o (g .carried .part) (limitOf s) (segmentOf g) (markedUnder Header (g .carried .number) s) (markedUnder Body (g .carried .number) s) × Room o (g .carried .number) s)
   -- An opening outside the limits leaves the counts and all that is lent, and hands back a state that every call answers
   -- with STATE.
   pub unopened : (start : Start) → inLimits (start .limit) (start .count) (start .stores) ≡ false

@@ -1,8 +1,9 @@
 -- THE PROMISES: our collector keeps them.
 use Rattle.history.specs.Refused.{refused-group, unanswered-group, refused-drop, repeated-group, refused-opening}
-use Rattle.history.specs.State.{group-state, drop-state}
+use Rattle.history.specs.State.{in-order-exactly, group-state, drop-state}
 use Rattle.history.specs.History.{ours}
 use Rattle.history.specs.Promise.{Promised}
+use Rattle.history.specs.Answers.{marked-exactly}
 use Rattle.history.specs.Demands.{never-state, others-held, conflict-exactly, full-exactly, repeat-exactly, complete-exactly, stored-exactly, refused-unread, unheld-stored, finished-exactly, finished-lengths, shown-joined, unfinished-nothing}
 use Rattle.history.specs.Room.{none-free-exactly}
 use Rattle.history.specs.Tally.{reached-counts}
@@ -16,6 +17,7 @@ promised = record {
   repeating = repeated-group;
   state = group-state;
   stateDrop = drop-state;
+  marked = λ s y w g o. marked-exactly s (record { undamaged = in-order-exactly s y .1 w; bytes = y }) (g .bytes) (g .areBytes) (g .carried) (g .read) o;
   unopened = λ start. refused-opening (start .limit) (start .count) (start .counts) (start .stores);
   neverState = λ r. never-state (r .start) (r .allowed) (r .calls) (r .bytes);
   others = others-held;
