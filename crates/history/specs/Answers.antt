@@ -99,16 +99,16 @@ roomy Conflict number s r = tt
 offered-exactly : (o p : Outcome) (heard : Heard) (number : ℕ) (s : State) (M : Type 0) → (p ≡ o) ↔ M → SlotFor number s → (answerAs p heard ≡ answerAs o heard) ↔ (M × Room o number s)
 offered-exactly o p heard number s M x r = ((λ e. (x .0 (named-once p o heard e), roomy o number s r)), (λ m. ap (λ (q : Outcome). answerAs q heard) (x .1 (m .0))))
 
+among-none : (part : Part) (segment : Segment) → Among segment (those part [] []) → ⊥
+among-none Header segment i = i
+among-none Body segment i = i
+
 -- nothing is stored, and the segment conflicts alone
 alone-exactly : (o : Outcome) (carried : Carried) (segment : Segment) (s : State) (limit : ℕ) → ¬ (Fits limit (headersWith (carried .part) segment []) (bodiesWith (carried .part) segment []))
     → (Answer.Conflict (heardAs carried) ≡ answerAs o (heardAs carried)) ↔ (Meets o (carried .part) limit segment [] [] × Room o (carried .number) s)
 alone-exactly Stored carried segment s limit n = ((λ e. let z : _≡_ {A = ℕ} 0 1 = cc in absurd (omega arith)), (λ m. absurd (n (m .0 .0 .0))))
 alone-exactly Complete carried segment s limit n = ((λ e. let z : _≡_ {A = ℕ} 0 1 = cc in absurd (omega arith)), (λ m. absurd (n (m .0 .0 .0))))
-alone-exactly Repeat carried segment s limit n = ((λ e. let z : _≡_ {A = ℕ} 0 1 = cc in absurd (omega arith)), (λ m. absurd (among-none (carried .part) (m .0))))
-  where
-    among-none : (part : Part) → Among segment (those part [] []) → ⊥
-    among-none Header i = i
-    among-none Body i = i
+alone-exactly Repeat carried segment s limit n = ((λ e. let z : _≡_ {A = ℕ} 0 1 = cc in absurd (omega arith)), (λ m. absurd (among-none (carried .part) segment (m .0))))
 alone-exactly Conflict carried segment s limit n = ((λ e. (n, tt)), (λ m. refl))
 
 -- nothing is stored, the segment fits, and no slot is there
@@ -116,11 +116,7 @@ full-never : (o : Outcome) (carried : Carried) (segment : Segment) (s : State) (
     → (Answer.Full (heardAs carried) ≡ answerAs o (heardAs carried)) ↔ (Meets o (carried .part) limit segment [] [] × Room o (carried .number) s)
 full-never Stored carried segment s limit f n g = ((λ e. absurd (never-full Stored (heardAs carried) e)), (λ m. absurd (m .1 (n, g))))
 full-never Complete carried segment s limit f n g = ((λ e. absurd (never-full Complete (heardAs carried) e)), (λ m. absurd (m .1 (n, g))))
-full-never Repeat carried segment s limit f n g = ((λ e. absurd (never-full Repeat (heardAs carried) e)), (λ m. absurd (among-none (carried .part) (m .0))))
-  where
-    among-none : (part : Part) → Among segment (those part [] []) → ⊥
-    among-none Header i = i
-    among-none Body i = i
+full-never Repeat carried segment s limit f n g = ((λ e. absurd (never-full Repeat (heardAs carried) e)), (λ m. absurd (among-none (carried .part) segment (m .0))))
 full-never Conflict carried segment s limit f n g = ((λ e. absurd (never-full Conflict (heardAs carried) e)), (λ m. absurd (m .0 f)))
 
 -- ---- the answer to a group that was read
