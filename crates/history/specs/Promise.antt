@@ -173,6 +173,8 @@ pub record Promised (k : Collecting) : Type 0 where
   pub storing : (r : Run) (g : Passing) → (answerTo k r g ≡ Answer.Stored (heardOf g)) ↔ (((f : FitsWith k r g) × (¬ (Finished f))) × (¬ (Among (segmentOf g) (stored k r (g .carried .part) (g .carried .number)))) × SlotFor (g .carried .number) (reachedBy k r))
   -- A group that does not pass the reading checks is answered with the first that it fails.
   pub unread : (r : Run) (bytes : List ℕ) (why : Refusal) → readingOf bytes ≡ Refused why → k .answersGroup bytes (reachedBy k r) ≡ Answer.Refused why
+  -- A drop: DROPPED exactly when the number holds a slot, NOTHELD exactly when not.
+  pub dropping : (r : Run) (number : ℕ) → ((k .answersDrop number (reachedBy k r) ≡ Answer.Dropped number) ↔ (find number (reachedBy k r) ≢ Nothing)) × ((k .answersDrop number (reachedBy k r) ≡ Answer.NotHeld) ↔ (find number (reachedBy k r) ≡ Nothing))
   -- A number holds no slot exactly when nothing is stored under it; none is free exactly when each slot holds a number.
   pub unheld : (r : Run) (number : ℕ) → (find number (reachedBy k r) ≡ Nothing) ↔ ((stored k r Header number ≡ []) × (stored k r Body number ≡ []))
   pub noneFree : (r : Run) → (free (reachedBy k r) ≡ Nothing) ↔ ((i : ℕ) → i < r .start .count → (number : ℕ) × (find number (reachedBy k r) ≡ At i))

@@ -4,7 +4,7 @@ use Rattle.history.specs.State.{in-order-exactly, group-state, drop-stat
 use Rattle.history.specs.History.{ours}
 use Rattle.history.specs.Promise.{Promised}
 use Rattle.history.specs.Answers.{marked-exactly}
-use Rattle.history.specs.Demands.{never-state, others-held, conflict-exactly, full-exactly, repeat-exactly, complete-exactly, stored-exactly, refused-unread, unheld-stored, finished-exactly, finished-lengths, shown-joined, unfinished-nothing}
+use Rattle.history.specs.Demands.{never-state, others-held, conflict-exactly, full-exactly, repeat-exactly, complete-exactly, stored-exactly, refused-unread, drop-exactly, unheld-stored, finished-exactly, finished-lengths, shown-joined, unfinished-nothing}
 use Rattle.history.specs.Room.{none-free-exactly}
 use Rattle.history.specs.Tally.{reached-counts}
 use Rattle.history.specs.OneCut.{one-cut-agrees, one-cut-finishes}
@@ -30,6 +30,7 @@ promised = record {
   complete = complete-exactly;
   storing = stored-exactly;
   unread = refused-unread;
+  dropping = drop-exactly;
   unheld = unheld-stored;
   noneFree = λ r. none-free-exactly (r .start) (r .allowed) (r .calls) (r .bytes);
   finished = finished-exactly;
