@@ -10,6 +10,8 @@ use Rattle.answer.specs.declared.Heard.{Heard}
 use Rattle.answer.specs.declared.Part.{Part}
 use Rattle.answer.specs.declared.Part.the-variants.{Header, Body}
 use Rattle.group.specs.declared.Segment.{Segment as Carried}
+use Rattle.group.specs.declared.Reading.the-variants.{Read}
+use Rattle.group.specs.Reading.{readingOf}
 use Rattle.cut.specs.Lists.{Among, Bytes}
 use Rattle.cut.specs.Requirement.{limitMost, Segment, Fits, Finished}
 use Rattle.cut.specs.LawsObject.{headersWith, bodiesWith, those}
@@ -19,16 +21,18 @@ use Rattle.gathering.specs.declared.Outcome.{Outcome}
 use Rattle.gathering.specs.declared.Outcome.the-variants.{Stored, Complete, Repeat, Conflict}
 use Rattle.gathering.specs.Take.{Lent, partsOf, takeInto}
 use Rattle.gathering.specs.Held.{Gathers}
+use Rattle.gathering.specs.State.{markedSegments}
+use Rattle.gathering.specs.StateExact.{sound-holds}
 use Rattle.gathering.specs.Step.{conflict-exactly, repeat-exactly, complete-exactly, stored-exactly}
 use Rattle.slots.specs.declared.Found.{Found}
 use Rattle.slots.specs.declared.Found.the-variants.{Nothing, At}
 use Rattle.slots.specs.Stores.{freshSlot}
-use Rattle.collector.specs.Calls.{Answered, heardAs, answerAs}
-use Rattle.history.specs.Call.{State, limitOf, slotOf, lentOf, find, free, Came, alone, full, first, more}
+use Rattle.collector.specs.Calls.{heardAs, segmentIn, answerAs}
+use Rattle.history.specs.Call.{State, Reply, taking, groupAnswer, came, limitOf, slotOf, lentOf, find, free, Came, alone, full, first, more}
 use Rattle.history.specs.Held.{SlotFor}
-use Rattle.history.specs.Ready.{limit-low, used-lent, free-used, free-marks}
+use Rattle.history.specs.Ready.{limit-low, used-lent, found-used, found-sound, free-used, free-marks}
 use Rattle.history.specs.Taken.{fresh-gathers, alone-fits}
-use Rattle.history.specs.Sound.{Intact}
+use Rattle.history.specs.Sound.{Intact, segment-bytes}
 use Rattle.history.specs.Stands.{StandsFor}
 
 -- when a segment of a part is answered so, with hs and bs stored under its number
@@ -95,16 +99,16 @@ roomy Conflict number s r = tt
 offered-exactly : (o p : Outcome) (heard : Heard) (number : ℕ) (s : State) (M : Type 0) → (p ≡ o) ↔ M → SlotFor number s → (answerAs p heard ≡ answerAs o heard) ↔ (M × Room o number s)
 offered-exactly o p heard number s M x r = ((λ e. (x .0 (named-once p o heard e), roomy o number s r)), (λ m. ap (λ (q : Outcome). answerAs q heard) (x .1 (m .0))))
 
+among-none : (part : Part) (segment : Segment) → Among segment (those part [] []) → ⊥
+among-none Header segment i = i
+among-none Body segment i = i
+
 -- nothing is stored, and the segment conflicts alone
 alone-exactly : (o : Outcome) (carried : Carried) (segment : Segment) (s : State) (limit : ℕ) → ¬ (Fits limit (headersWith (carried .part) segment []) (bodiesWith (carried .part) segment []))
     → (Answer.Conflict (heardAs carried) ≡ answerAs o (heardAs carried)) ↔ (Meets o (carried .part) limit segment [] [] × Room o (carried .number) s)
 alone-exactly Stored carried segment s limit n = ((λ e. let z : _≡_ {A = ℕ} 0 1 = cc in absurd (omega arith)), (λ m. absurd (n (m .0 .0 .0))))
 alone-exactly Complete carried segment s limit n = ((λ e. let z : _≡_ {A = ℕ} 0 1 = cc in absurd (omega arith)), (λ m. absurd (n (m .0 .0 .0))))
-alone-exactly Repeat carried segment s limit n = ((λ e. let z : _≡_ {A = ℕ} 0 1 = cc in absurd (omega arith)), (λ m. absurd (among-none (carried .part) (m .0))))
-  where
-    among-none : (part : Part) → Among segment (those part [] []) → ⊥
-    among-none Header i = i
-    among-none Body i = i
+alone-exactly Repeat carried segment s limit n = ((λ e. let z : _≡_ {A = ℕ} 0 1 = cc in absurd (omega arith)), (λ m. absurd (among-none (carried .part) segment (m .0))))
 alone-exactly Conflict carried segment s limit n = ((λ e. (n, tt)), (λ m. refl))
 
 -- nothing is stored, the segment fits, and no slot is there
@@ -112,18 +116,14 @@ full-never : (o : Outcome) (carried : Carried) (segment : Segment) (s : State) (
     → (Answer.Full (heardAs carried) ≡ answerAs o (heardAs carried)) ↔ (Meets o (carried .part) limit segment [] [] × Room o (carried .number) s)
 full-never Stored carried segment s limit f n g = ((λ e. absurd (never-full Stored (heardAs carried) e)), (λ m. absurd (m .1 (n, g))))
 full-never Complete carried segment s limit f n g = ((λ e. absurd (never-full Complete (heardAs carried) e)), (λ m. absurd (m .1 (n, g))))
-full-never Repeat carried segment s limit f n g = ((λ e. absurd (never-full Repeat (heardAs carried) e)), (λ m. absurd (among-none (carried .part) (m .0))))
-  where
-    among-none : (part : Part) → Among segment (those part [] []) → ⊥
-    among-none Header i = i
-    among-none Body i = i
+full-never Repeat carried segment s limit f n g = ((λ e. absurd (never-full Repeat (heardAs carried) e)), (λ m. absurd (among-none (carried .part) segment (m .0))))
 full-never Conflict carried segment s limit f n g = ((λ e. absurd (never-full Conflict (heardAs carried) e)), (λ m. absurd (m .0 f)))
 
 -- ---- the answer to a group that was read
 
 module _ (carried : Carried) (segment : Segment) (s : State) (hs bs : List Segment) (y : Bytes (segment .bytes)) (whole : Intact s) (w : StandsFor (carried .number) s hs bs) where
   -- STORED, COMPLETE, REPEAT and CONFLICT, each exactly when demand 3 says
-  pub came-exactly : (t : Answered) → Came carried segment s t → (o : Outcome) → (t .answer ≡ answerAs o (heardAs carried)) ↔ (Meets o (carried .part) (limitOf s) segment hs bs × Room o (carried .number) s)
+  pub came-exactly : (t : Reply) → Came carried segment s t → (o : Outcome) → (t .answer ≡ answerAs o (heardAs carried)) ↔ (Meets o (carried .part) (limitOf s) segment hs bs × Room o (carried .number) s)
   came-exactly t (alone n a e) o =
       let none = w .rest n in
       rw (e, none .0, none .1) (alone-exactly o carried segment s (limitOf s) (λ f. false-true a (alone-fits (carried .part) (limitOf s) segment (limit-low s (whole .undamaged)) y .1 f)))
@@ -140,7 +140,7 @@ module _ (carried : Carried) (segment : Segment) (s : State) (hs bs : List Segme
       rw e (offered-exactly o (takeInto (carried .part) (limitOf s) segment (slotOf i s) (lentOf i s) .outcome) (heardAs carried) (carried .number) s (Meets o (carried .part) (limitOf s) segment hs bs) (exactly o (carried .part) (limitOf s) segment (slotOf i s) (lentOf i s) hs bs (limit-low s (whole .undamaged)) y (w .held i n .gathers)) (λ x. unlike i n (x .0)))
 
   -- FULL: it fits, its number holds no slot, and none is free
-  pub came-full : (t : Answered) → Came carried segment s t → (t .answer ≡ Answer.Full (heardAs carried)) ↔ (Fits (limitOf s) (headersWith (carried .part) segment hs) (bodiesWith (carried .part) segment bs) × (find (carried .number) s ≡ Nothing) × (free s ≡ Nothing))
+  pub came-full : (t : Reply) → Came carried segment s t → (t .answer ≡ Answer.Full (heardAs carried)) ↔ (Fits (limitOf s) (headersWith (carried .part) segment hs) (bodiesWith (carried .part) segment bs) × (find (carried .number) s ≡ Nothing) × (free s ≡ Nothing))
   came-full t (alone n a e) =
       let none = w .rest n in
       rw (e, none .0, none .1) ((λ d. let z : _≡_ {A = ℕ} 0 1 = cc in absurd (omega arith)), (λ m. absurd (false-true a (alone-fits (carried .part) (limitOf s) segment (limit-low s (whole .undamaged)) y .1 (m .0)))))
@@ -151,8 +151,29 @@ module _ (carried : Carried) (segment : Segment) (s : State) (hs bs : List Segme
   came-full t (more i n e) = rw e ((λ d. absurd (never-full (takeInto (carried .part) (limitOf s) segment (slotOf i s) (lentOf i s) .outcome) (heardAs carried) (sym d))), (λ m. absurd (unlike i n (m .1))))
 
 -- one of the five comes back
-pub came-named : (carried : Carried) (segment : Segment) (s : State) (t : Answered) → Came carried segment s t → (t .answer ≡ Answer.Full (heardAs carried)) ⊎ ((o : Outcome) × (t .answer ≡ answerAs o (heardAs carried)))
-came-named carried segment s t (alone n a e) = inr (Conflict, ap (λ (x : Answered). x .answer) e)
-came-named carried segment s t (full n a f e) = inl (ap (λ (x : Answered). x .answer) e)
-came-named carried segment s t (first i n a f e) = inr (takeInto (carried .part) (limitOf s) segment (freshSlot (carried .number)) (lentOf i s) .outcome, ap (λ (x : Answered). x .answer) e)
-came-named carried segment s t (more i n e) = inr (takeInto (carried .part) (limitOf s) segment (slotOf i s) (lentOf i s) .outcome, ap (λ (x : Answered). x .answer) e)
+pub came-named : (carried : Carried) (segment : Segment) (s : State) (t : Reply) → Came carried segment s t → (t .answer ≡ Answer.Full (heardAs carried)) ⊎ ((o : Outcome) × (t .answer ≡ answerAs o (heardAs carried)))
+came-named carried segment s t (alone n a e) = inr (Conflict, ap (λ (x : Reply). x .answer) e)
+came-named carried segment s t (full n a f e) = inl (ap (λ (x : Reply). x .answer) e)
+came-named carried segment s t (first i n a f e) = inr (takeInto (carried .part) (limitOf s) segment (freshSlot (carried .number)) (lentOf i s) .outcome, ap (λ (x : Reply). x .answer) e)
+came-named carried segment s t (more i n e) = inr (takeInto (carried .part) (limitOf s) segment (slotOf i s) (lentOf i s) .outcome, ap (λ (x : Reply). x .answer) e)
+
+-- ---- any state that is not damaged, however it came about
+
+-- the marked segments of the slot that holds a number
+abbrev pub markedIn : Part → Found → State → List Segment
+markedIn part Nothing s = []
+markedIn part (At i) s = markedSegments part (slotOf i s) (lentOf i s)
+
+abbrev pub markedUnder : Part → ℕ → State → List Segment
+markedUnder part number s = markedIn part (find number s) s
+
+marked-stands : (number : ℕ) (s : State) → Intact s → StandsFor number s (markedUnder Header number s) (markedUnder Body number s)
+marked-stands number s whole = record {
+  held = λ i e. rw e (sound-holds (limitOf s) (slotOf i s) (lentOf i s) (limit-low s (whole .undamaged)) (used-lent s (whole .undamaged) i (found-used s (whole .undamaged) number i e) (whole .bytes)) (found-sound s (whole .undamaged) number i e));
+  rest = λ e. rw e (refl, refl);
+}
+
+-- it is answered as if its marked segments had been stored
+pub marked-exactly : (s : State) → Intact s → (group : List ℕ) → Bytes group → (carried : Carried) → readingOf group ≡ Read carried → (o : Outcome)
+    → (groupAnswer group s ≡ answerAs o (heardAs carried)) ↔ (Meets o (carried .part) (limitOf s) (segmentIn group carried) (markedUnder Header (carried .number) s) (markedUnder Body (carried .number) s) × Room o (carried .number) s)
+marked-exactly s whole group y carried e o = came-exactly carried (segmentIn group carried) s (markedUnder Header (carried .number) s) (markedUnder Body (carried .number) s) (segment-bytes group carried y) whole (marked-stands (carried .number) s whole) (taking group s) (came group s (whole .undamaged) carried e) o

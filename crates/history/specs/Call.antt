@@ -37,30 +37,34 @@ pub record State : Type 0 where
   pub counts : Counts
   pub stores : Stores
 
+-- what a call answers and leaves
+pub record Reply : Type 0 where
+  pub answer : Answer
+  pub left : State
+
+abbrev pub replied : Answered → Reply
+replied t = record { answer = t .answer; left = record { collector = t .collector; counts = t .counts; stores = t .stores } }
+
 -- a group is taken, a number is dropped
-abbrev pub taking : List ℕ → State → Answered
-taking group s = takeGroup group (s .collector) (s .counts) (s .stores)
+unfoldable pub taking : List ℕ → State → Reply
+taking group s = replied (takeGroup group (s .collector) (s .counts) (s .stores))
 
-abbrev pub dropping : ℕ → State → Answered
-dropping number s = dropNumber number (s .collector) (s .counts) (s .stores)
-
--- what a call leaves
-abbrev pub left : Answered → State
-left t = record { collector = t .collector; counts = t .counts; stores = t .stores }
+unfoldable pub dropping : ℕ → State → Reply
+dropping number s = replied (dropNumber number (s .collector) (s .counts) (s .stores))
 
 -- what a group is answered, and what it leaves
 abbrev pub groupAnswer : List ℕ → State → Answer
 groupAnswer group s = taking group s .answer
 
 abbrev pub groupLeaves : List ℕ → State → State
-groupLeaves group s = left (taking group s)
+groupLeaves group s = taking group s .left
 
 -- and a drop
 abbrev pub dropAnswer : ℕ → State → Answer
 dropAnswer number s = dropping number s .answer
 
 abbrev pub dropLeaves : ℕ → State → State
-dropLeaves number s = left (dropping number s)
+dropLeaves number s = dropping number s .left
 
 -- the state is not damaged
 abbrev pub sound : State → Bool
@@ -91,27 +95,29 @@ free s = freeIn (s .collector .count) (s .collector .slots)
 -- ---- what a call can come to
 
 -- the answer is counted, and nothing else changes
-abbrev pub answering : Answer → State → Answered
-answering answer s = record { answer = answer; collector = s .collector; counts = counted answer (s .counts); stores = s .stores }
+abbrev pub answering : Answer → State → Reply
+answering answer s = record { answer = answer; left = record { collector = s .collector; counts = counted answer (s .counts); stores = s .stores } }
 
 -- the answer is counted, and slot i and its shares are replaced
-abbrev pub replacing : Answer → ℕ → Slot → Lent → State → Answered
+abbrev pub replacing : Answer → ℕ → Slot → Lent → State → Reply
 replacing answer i slot lent s = record {
   answer = answer;
-  collector = withSlots (set (s .collector .slots) i slot) (s .collector);
-  counts = counted answer (s .counts);
-  stores = withLent (limitOf s) i lent (s .stores);
+  left = record {
+    collector = withSlots (set (s .collector .slots) i slot) (s .collector);
+    counts = counted answer (s .counts);
+    stores = withLent (limitOf s) i lent (s .stores);
+  };
 }
 
 -- a segment is offered to slot i
-abbrev pub offering : Carried → Segment → ℕ → State → Taken → Answered
+abbrev pub offering : Carried → Segment → ℕ → State → Taken → Reply
 offering carried segment i s taken = replacing (answerAs (taken .outcome) (heardAs carried)) i (taken .slot) (taken .lent) s
 
 -- what the segment of a group that was read comes to
-pub data Came (carried : Carried) (segment : Segment) (s : State) (t : Answered) : Type 0 where
+pub data Came (carried : Carried) (segment : Segment) (s : State) (t : Reply) : Type 0 where
   -- no slot holds its number, and it conflicts alone
   alone : find (carried .number) s ≡ Nothing → fitsAlone (carried .part) (limitOf s) segment ≡ false → t ≡ answering (Answer.Conflict (heardAs carried)) s → Came carried segment s t
-  -- nor is one free
+  -- no slot holds its number, it fits, and none is free
   full : find (carried .number) s ≡ Nothing → fitsAlone (carried .part) (limitOf s) segment ≡ true → free s ≡ Nothing → t ≡ answering (Answer.Full (heardAs carried)) s → Came carried segment s t
   -- it takes the lowest free slot
   first : (i : ℕ) → find (carried .number) s ≡ Nothing → fitsAlone (carried .part) (limitOf s) segment ≡ true → free s ≡ At i
@@ -120,32 +126,32 @@ pub data Came (carried : Carried) (segment : Segment) (s : State) (t : Answered)
   more : (i : ℕ) → find (carried .number) s ≡ At i
       → t ≡ offering carried segment i s (takeInto (carried .part) (limitOf s) segment (slotOf i s) (lentOf i s)) → Came carried segment s t
 
-came-free : (carried : Carried) (segment : Segment) (s : State) → find (carried .number) s ≡ Nothing → fitsAlone (carried .part) (limitOf s) segment ≡ true → (found : Found) → free s ≡ found → Came carried segment s (intoFree found carried segment (s .collector) (s .counts) (s .stores))
+came-free : (carried : Carried) (segment : Segment) (s : State) → find (carried .number) s ≡ Nothing → fitsAlone (carried .part) (limitOf s) segment ≡ true → (found : Found) → free s ≡ found → Came carried segment s (replied (intoFree found carried segment (s .collector) (s .counts) (s .stores)))
 unfolding takeNew
 came-free carried segment s n a Nothing e = full n a e refl
 came-free carried segment s n a (At i) e = first i n a e refl
 
-came-alone : (carried : Carried) (segment : Segment) (s : State) → find (carried .number) s ≡ Nothing → (fits : Bool) → fitsAlone (carried .part) (limitOf s) segment ≡ fits → Came carried segment s (ifAlone fits carried segment (s .collector) (s .counts) (s .stores))
+came-alone : (carried : Carried) (segment : Segment) (s : State) → find (carried .number) s ≡ Nothing → (fits : Bool) → fitsAlone (carried .part) (limitOf s) segment ≡ fits → Came carried segment s (replied (ifAlone fits carried segment (s .collector) (s .counts) (s .stores)))
 came-alone carried segment s n false e = alone n e refl
 came-alone carried segment s n true e = came-free carried segment s n e (free s) refl
 
-came-held : (carried : Carried) (segment : Segment) (s : State) (found : Found) → find (carried .number) s ≡ found → Came carried segment s (intoHeld found carried segment (s .collector) (s .counts) (s .stores))
+came-held : (carried : Carried) (segment : Segment) (s : State) (found : Found) → find (carried .number) s ≡ found → Came carried segment s (replied (intoHeld found carried segment (s .collector) (s .counts) (s .stores)))
 unfolding takeAt
 came-held carried segment s Nothing e = came-alone carried segment s e (fitsAlone (carried .part) (limitOf s) segment) refl
 came-held carried segment s (At i) e = more i e refl
 
 module _ (group : List ℕ) (s : State) where
   pub group-damaged : sound s ≡ false → taking group s ≡ answering Answer.State s
-  unfolding takeGroup
+  unfolding taking takeGroup
   group-damaged d = rw d refl
 
   module _ (good : sound s ≡ true) where
     pub unread : (why : Refusal) → readingOf group ≡ Refused why → taking group s ≡ answering (Answer.Refused why) s
-    unfolding takeGroup
+    unfolding taking takeGroup
     unread why e = rw (good, e) refl
 
     pub came : (carried : Carried) → readingOf group ≡ Read carried → Came carried (segmentIn group carried) s (taking group s)
-    unfolding takeGroup
+    unfolding taking takeGroup
     came carried e = rw (good, e) (came-held carried (segmentIn group carried) s (find (carried .number) s) refl)
 
 -- ---- a drop
@@ -170,16 +176,16 @@ lent-cleared limit i stores inside = rw (over-same headerMost i (stores .header)
 
 module _ (number : ℕ) (s : State) where
   pub drop-damaged : sound s ≡ false → dropping number s ≡ answering Answer.State s
-  unfolding dropNumber
+  unfolding dropping dropNumber
   drop-damaged d = rw d refl
 
   module _ (good : sound s ≡ true) where
     pub none-dropped : find number s ≡ Nothing → dropping number s ≡ answering Answer.NotHeld s
-    unfolding dropNumber
+    unfolding dropping dropNumber
     none-dropped e = rw (good, e) refl
 
     pub found-dropped : (i : ℕ) → Inside (limitOf s) i (s .stores) → find number s ≡ At i → dropping number s ≡ replacing (Answer.Dropped number) i freeSlot (cleared (lentOf i s)) s
-    unfolding dropNumber dropAt
+    unfolding dropping dropNumber dropAt
     found-dropped i inside e = rw (good, e, lent-cleared (limitOf s) i (s .stores) inside) refl
 
 -- ---- an opening

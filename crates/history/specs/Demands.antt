@@ -1,8 +1,9 @@
 -- Demands 2 and 3 of a run of our collector, one by one.
 use mathlib.Core.Path.{_≡_, refl, ap}
-use mathlib.Core.Logic.{_↔_}
+use mathlib.Core.Logic.{_≢_, _↔_}
 use mathlib.Core.List.{List, [], _∷_}
 use Prim.Native.Nat.{ℕ}
+use native.Mathlib.Omega.{arith}
 use lib.ListN.{length}
 use Rattle.answer.specs.declared.Answer.the-variants as Answer
 use Rattle.answer.specs.declared.Part.{Part}
@@ -16,12 +17,15 @@ use Rattle.cut.specs.LawsObject.{those}
 use Rattle.gathering.specs.declared.Stage.the-variants as Stage
 use Rattle.gathering.specs.declared.Outcome.{Outcome}
 use Rattle.gathering.specs.declared.Outcome.the-variants.{Stored, Complete, Repeat, Conflict}
-use Rattle.slots.specs.declared.Found.the-variants.{Nothing}
-use Rattle.collector.specs.Calls.{Answered, answerAs}
-use Rattle.history.specs.Call.{State, taking, limitOf, find, free, unread, came}
+use Rattle.slots.specs.declared.Found.{Found}
+use Rattle.slots.specs.declared.Found.the-variants.{Nothing, At}
+use Rattle.collector.specs.Calls.{answerAs}
+use Rattle.history.specs.Call.{State, Reply, taking, dropAnswer, limitOf, find, free, unread, came, none-dropped, found-dropped}
+use Rattle.history.specs.Ready.{used-inside, found-used}
 use Rattle.history.specs.Held.{stageFor, SlotFor, Same}
 use Rattle.history.specs.Shown.{showing}
-use Rattle.history.specs.Sound.{Intact, segment-bytes, group-never, drop-never}
+use Rattle.history.specs.Sound.{Intact, segment-bytes}
+use Rattle.history.specs.State.{group-never, drop-never}
 use Rattle.history.specs.Others.{same-shown}
 use Rattle.history.specs.History.{Call, hand, drop, ask, CallBytes, Elsewhere, event, after, Start, Allowed, reached, told, ours}
 use Rattle.history.specs.Stands.{StandsFor}
@@ -34,8 +38,8 @@ use Rattle.history.specs.Promise.{Run, reachedBy, stored, Passing, segme
 -- ---- no state so reached meets STATE
 
 event-not-state : (call : Call) (s : State) → Intact s → NotState (event ours call s)
-event-not-state (hand bytes) s whole = group-never bytes s whole
-event-not-state (drop number) s whole = drop-never number s whole
+event-not-state (hand bytes) s whole = group-never bytes s (whole .undamaged)
+event-not-state (drop number) s whole = drop-never number s (whole .undamaged)
 event-not-state (ask number part) s whole = tt
 
 pub never-state : (start : Start) → Allowed start → (calls : List Call) → Each CallBytes calls → Each NotState (told ours start calls)
@@ -93,7 +97,22 @@ module _ (r : Run) where
 
   -- one that does not
   pub refused-unread : (bytes : List ℕ) (why : Refusal) → readingOf bytes ≡ Refused why → taking bytes (reachedBy ours r) .answer ≡ Answer.Refused why
-  refused-unread bytes why e = ap (λ (t : Answered). t .answer) (unread bytes (reachedBy ours r) (whole .undamaged) why e)
+  refused-unread bytes why e = ap (λ (t : Reply). t .answer) (unread bytes (reachedBy ours r) (whole .undamaged) why e)
+
+  -- a drop
+  pub drop-exactly : (number : ℕ) → ((dropAnswer number (reachedBy ours r) ≡ Answer.Dropped number) ↔ (find number (reachedBy ours r) ≢ Nothing)) × ((dropAnswer number (reachedBy ours r) ≡ Answer.NotHeld) ↔ (find number (reachedBy ours r) ≡ Nothing))
+  drop-exactly number = go (find number (reachedBy ours r)) refl
+    where
+      s : State
+      s = reachedBy ours r
+
+      go : (found : Found) → find number s ≡ found → ((dropAnswer number s ≡ Answer.Dropped number) ↔ (find number s ≢ Nothing)) × ((dropAnswer number s ≡ Answer.NotHeld) ↔ (find number s ≡ Nothing))
+      go Nothing e =
+          let a : dropAnswer number s ≡ Answer.NotHeld = ap (λ (t : Reply). t .answer) (none-dropped number s (whole .undamaged) e) in
+          (((λ d. let z : _≡_ {A = ℕ} 0 1 = cc in absurd (omega arith)), (λ n. absurd (n e))), ((λ d. e), (λ n. a)))
+      go (At i) e =
+          let a : dropAnswer number s ≡ Answer.Dropped number = ap (λ (t : Reply). t .answer) (found-dropped number s (whole .undamaged) i (used-inside s (whole .undamaged) i (found-used s (whole .undamaged) number i e)) e) in
+          (((λ d n. let z : _≡_ {A = ℕ} 0 1 = cc in absurd (omega arith)), (λ n. a)), ((λ d. let z : _≡_ {A = ℕ} 0 1 = cc in absurd (omega arith)), (λ n. let z : _≡_ {A = ℕ} 0 1 = cc in absurd (omega arith))))
 
   -- ---- what is held and shown for a number
 

@@ -36,7 +36,7 @@ use Rattle.slots.specs.Stores.{lentAt, withLent, freeSlot, freshSlot, slotAt}
 use Rattle.slots.specs.Show.{startOf, shownOf}
 use Rattle.slots.specs.Take.{takeAt, takeNew, dropAt}
 use Rattle.collector.specs.Calls.{soundState, segmentIn, takeGroup, dropNumber, openedBy, locate, show}
-use Rattle.history.specs.Call.{opening}
+use Rattle.history.specs.Call.{taking, dropping, opening}
 use Rattle.history.specs.Shown.{showing}
 use Rattle.history.specs.History.{Call, hand, drop, ask, CallBytes, handed, dropped, asked, Start, Allowed, ours, told, under}
 use Rattle.history.specs.Held.{stageFor}
@@ -67,7 +67,7 @@ otherNumber = 0x73 ∷ 0x00 ∷ 0x80 ∷ 0x00 ∷ 0x12 ∷ 0x00 ∷ 0x06 ∷ 0x0
 
 -- all that a run is computed with
 unfoldable pub computing : Unit {0}
-unfolding under opening openedBy takeGroup dropNumber soundState segmentIn locate show shownOf startOf takeAt takeNew dropAt slotAt freshSlot freeSlot withLent lentAt soundSlots rightFrom rightSlot distinct unlike heldAmong withinLimits freeIn findIn firstFrom holds isFree fitsAlone soundSlot soundParts recordRight takeInto slotWith sameSegment stageOf partsWith recordWithin recordWith takesIn coreIn lentOf partsOf put settled segmentAt suitsIn possibleIn settle alone largest room coreFits boundsOf headerSize bodySize within risen largestOf equal zeros over readingOf kindOf checkHolds sizeWrong segmentOf checkWord divided bitsEntered entered step
+unfolding under opening openedBy taking takeGroup dropping dropNumber soundState segmentIn locate show shownOf startOf takeAt takeNew dropAt slotAt freshSlot freeSlot withLent lentAt soundSlots rightFrom rightSlot distinct unlike heldAmong withinLimits freeIn findIn firstFrom holds isFree fitsAlone soundSlot soundParts recordRight takeInto slotWith sameSegment stageOf partsWith recordWithin recordWith takesIn coreIn lentOf partsOf put settled segmentAt suitsIn possibleIn settle alone largest room coreFits boundsOf headerSize bodySize within risen largestOf equal zeros over readingOf kindOf checkHolds sizeWrong segmentOf checkWord divided bitsEntered entered step
 computing = tt
 
 -- ---- every kind of answer

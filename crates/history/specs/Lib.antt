@@ -5,6 +5,7 @@ pub mod Counts
 pub mod Ready
 pub mod Taken
 pub mod Sound
+pub mod State
 pub mod Refused
 pub mod Shown
 pub mod Others

@@ -23,6 +23,7 @@ use Rattle.gathering.specs.declared.Stage.the-variants as Stage
 use Rattle.gathering.specs.declared.Outcome.{Outcome}
 use Rattle.gathering.specs.declared.Outcome.the-variants.{Stored, Complete, Repeat, Conflict}
 use Rattle.gathering.specs.Offers.{Source, SentBy}
+use Rattle.gathering.specs.OffersKept.{source-fits}
 use Rattle.collector.specs.Calls.{heardAs, segmentIn, answerAs}
 use Rattle.history.specs.Call.{taking, groupAnswer, dropAnswer, came}
 use Rattle.history.specs.Shown.{showing}
@@ -70,19 +71,16 @@ stored-sent start object part number (drop other ∷ calls) f = drop-sent object
 stored-sent start object part number (ask other p ∷ calls) f = stored-sent start object part number calls (f .1)
 
 -- so they fit it, with one more that it sends
-abbrev object-fits : {limit : ℕ} (object : Source limit) (hs bs : List Segment) → Each (SentBy object Header) hs → Each (SentBy object Body) bs → Fits limit hs bs
-object-fits object hs bs h b = record { header = object .header; body = object .body; object = object .object; headerCut = object .headerCut; bodyCut = object .bodyCut; headerCuts = object .headerCuts; bodyCuts = object .bodyCuts; headerSent = h; bodySent = b }
-
-more-fits : {limit : ℕ} (object : Source limit) (part : Part) (segment : Segment) (hs bs : List Segment) → SentBy object part segment → Each (SentBy object Header) hs → Each (SentBy object Body) bs → Fits limit (headersWith part segment hs) (bodiesWith part segment bs)
-more-fits object Header segment hs bs u h b = object-fits object (segment ∷ hs) bs (u, h) b
-more-fits object Body segment hs bs u h b = object-fits object hs (segment ∷ bs) h (u, b)
+more-fits : (limit : ℕ) (object : Source limit) (part : Part) (segment : Segment) (hs bs : List Segment) → SentBy object part segment → Each (SentBy object Header) hs → Each (SentBy object Body) bs → Fits limit (headersWith part segment hs) (bodiesWith part segment bs)
+more-fits limit object Header segment hs bs u h b = source-fits limit object (segment ∷ hs) bs (u, h) b
+more-fits limit object Body segment hs bs u h b = source-fits limit object hs (segment ∷ bs) h (u, b)
 
 -- the next group under the number, if it comes from the same cut as all before it, does not conflict
 pub one-cut-agrees : (r : Run) (object : Source (r .start .limit)) (number : ℕ) → Each (From object number) (r .calls)
     → (g : Passing) → g .carried .number ≡ number → SentBy object (g .carried .part) (segmentOf g) → answerTo ours r g ≢ Answer.Conflict (heardOf g)
 one-cut-agrees r object number f g n u e =
     conflict-exactly r g .0 e
-    (more-fits object (g .carried .part) (segmentOf g) (stored ours r Header (g .carried .number)) (stored ours r Body (g .carried .number)) u (rw n (stored-sent (r .start) object Header number (r .calls) f)) (rw n (stored-sent (r .start) object Body number (r .calls) f)))
+    (more-fits (r .start .limit) object (g .carried .part) (segmentOf g) (stored ours r Header (g .carried .number)) (stored ours r Body (g .carried .number)) u (rw n (stored-sent (r .start) object Header number (r .calls) f)) (rw n (stored-sent (r .start) object Body number (r .calls) f)))
 
 -- ---- all that came is stored
 
@@ -178,7 +176,7 @@ one-cut-finishes r object number f all =
     (finished-lengths r number fit done, shown .0, shown .1)
   where
     fit : FitsStored ours r number
-    fit = object-fits object (stored ours r Header number) (stored ours r Body number) (stored-sent (r .start) object Header number (r .calls) f) (stored-sent (r .start) object Body number (r .calls) f)
+    fit = source-fits (r .start .limit) object (stored ours r Header number) (stored ours r Body number) (stored-sent (r .start) object Header number (r .calls) f) (stored-sent (r .start) object Body number (r .calls) f)
 
     done : Finished fit
     done = record {

@@ -22,16 +22,16 @@ use Rattle.slots.specs.declared.Found.the-variants.{Nothing, At}
 use Rattle.slots.specs.Stores.{freeSlot, freshSlot}
 use Rattle.slots.specs.Find.{isFree, holds, findIn}
 use Rattle.slots.specs.Shares.{Wide, lent-other}
-use Rattle.collector.specs.Calls.{Answered, heardAs, segmentIn, answerAs}
+use Rattle.collector.specs.Calls.{heardAs, segmentIn, answerAs}
 use Rattle.history.specs.Slots.{held-is, free-holds, slot-there, same-found}
-use Rattle.history.specs.Call.{State, taking, dropping, left, groupLeaves, dropLeaves, sound, limitOf, InUse, slotOf, lentOf, find, answering, replacing, Came, alone, full, first, more, unread, came, none-dropped, found-dropped, cleared}
+use Rattle.history.specs.Call.{State, Reply, taking, dropping, groupLeaves, dropLeaves, sound, limitOf, InUse, slotOf, lentOf, find, answering, replacing, Came, alone, full, first, more, unread, came, none-dropped, found-dropped, cleared}
 use Rattle.history.specs.Held.{Same}
 use Rattle.history.specs.Ready.{used-inside, used-lent, found-used, found-holds, free-used, free-free}
 use Rattle.history.specs.Taken.{taken-number}
 use Rattle.history.specs.Shown.{showing, unheld-shown, held-shown}
 use Rattle.history.specs.Sound.{Intact, lent-is-wide, more-lent, first-lent, cleared-lent, segment-bytes, group-intact, drop-intact}
 
-same-all : (number : ℕ) (s : State) (answer : Answer) → Same number s (left (answering answer s))
+same-all : (number : ℕ) (s : State) (answer : Answer) → Same number s (answering answer s .left)
 same-all number s answer = record { limit = refl; found = refl; slot = λ i e. refl; lent = λ i e. refl }
 
 -- one after the other
@@ -51,7 +51,7 @@ module _ (number : ℕ) (answer : Answer) (i : ℕ) (slot : Slot) (lent : Lent) 
   apart : (j : ℕ) → find number s ≡ At j → j ≢ i
   apart j e d = false-true before (subst (λ (k : ℕ). holds number (slotOf k s) ≡ true) d (found-holds s good number j e))
 
-  replaced-same : Same number s (left (replacing answer i slot lent s))
+  replaced-same : Same number s (replacing answer i slot lent s .left)
   unfolding findIn
   replaced-same = record {
     limit = refl;
@@ -68,7 +68,7 @@ held-other number other slot d e = go (holds number slot) refl
     go false h = refl
     go true h = absurd (d (sym (held-is number slot h .1) ∙ e))
 
-pub came-same : (number : ℕ) (carried : Carried) (segment : Segment) (s : State) (t : Answered) → number ≢ carried .number → Bytes (segment .bytes) → Intact s → Came carried segment s t → Same number s (left t)
+pub came-same : (number : ℕ) (carried : Carried) (segment : Segment) (s : State) (t : Reply) → number ≢ carried .number → Bytes (segment .bytes) → Intact s → Came carried segment s t → Same number s (t .left)
 unfolding freshSlot
 came-same number carried segment s t d y whole (alone n a e) = rw e (same-all number s (Answer.Conflict (heardAs carried)))
 came-same number carried segment s t d y whole (full n a f e) = rw e (same-all number s (Answer.Full (heardAs carried)))
@@ -90,7 +90,7 @@ came-same number carried segment s t d y whole (more i n e) =
 pub group-others : (number : ℕ) (group : List ℕ) (s : State) → ((carried : Carried) → readingOf group ≡ Read carried → number ≢ carried .number) → Bytes group → Intact s → Same number s (groupLeaves group s)
 group-others number group s d y whole = go (readingOf group) refl
   where
-    go : (reading : Reading) → readingOf group ≡ reading → Same number s (left (taking group s))
+    go : (reading : Reading) → readingOf group ≡ reading → Same number s (taking group s .left)
     go (Refused why) e = rw (unread group s (whole .undamaged) why e) (same-all number s (Answer.Refused why))
     go (Read carried) e = came-same number carried (segmentIn group carried) s (taking group s) (d carried e) (segment-bytes group carried y) whole (came group s (whole .undamaged) carried e)
 
@@ -99,7 +99,7 @@ pub drop-others : (number other : ℕ) (s : State) → number ≢ other → Inta
 unfolding freeSlot isFree
 drop-others number other s d whole = go (find other s) refl
   where
-    go : (found : Found) → find other s ≡ found → Same number s (left (dropping other s))
+    go : (found : Found) → find other s ≡ found → Same number s (dropping other s .left)
     go Nothing e = rw (none-dropped other s (whole .undamaged) e) (same-all number s Answer.NotHeld)
     go (At i) e =
         let u = found-used s (whole .undamaged) other i e in
@@ -118,7 +118,7 @@ same-shown number part s t good good' same = go (find number s) refl
     go (At i) e = held-shown number part t good' i (same .found ∙ e) ∙ rw (same .slot i e, same .lent i e) (sym (held-shown number part s good i e))
 
 pub group-others-shown : (number : ℕ) (part : Part) (group : List ℕ) (s : State) → ((carried : Carried) → readingOf group ≡ Read carried → number ≢ carried .number) → Bytes group → Intact s → showing number part (groupLeaves group s) ≡ showing number part s
-group-others-shown number part group s d y whole = same-shown number part s (left (taking group s)) (whole .undamaged) (group-intact group s y whole .undamaged) (group-others number group s d y whole)
+group-others-shown number part group s d y whole = same-shown number part s (taking group s .left) (whole .undamaged) (group-intact group s y whole .undamaged) (group-others number group s d y whole)
 
 pub drop-others-shown : (number other : ℕ) (part : Part) (s : State) → number ≢ other → Intact s → showing number part (dropLeaves other s) ≡ showing number part s
-drop-others-shown number other part s d whole = same-shown number part s (left (dropping other s)) (whole .undamaged) (drop-intact other s whole .undamaged) (drop-others number other s d whole)
+drop-others-shown number other part s d whole = same-shown number part s (dropping other s .left) (whole .undamaged) (drop-intact other s whole .undamaged) (drop-others number other s d whole)

@@ -24,10 +24,14 @@ use Rattle.cut.specs.Requirement.{headerNumbers, bodyNumbers, Segment, Fits, Fi
 use Rattle.cut.specs.Decision.{both}
 use Rattle.cut.specs.LawsObject.{headersWith, bodiesWith}
 use Rattle.gathering.specs.declared.Stage.the-variants as Stage
+use Rattle.gathering.specs.declared.Outcome.{Outcome}
 use Rattle.gathering.specs.Offers.{Source, SentBy}
 use Rattle.slots.specs.declared.Found.the-variants.{Nothing, At}
-use Rattle.collector.specs.Calls.{heardAs, segmentIn}
-use Rattle.history.specs.Call.{State, sound, find, free, inLimits}
+use Rattle.collector.specs.Calls.{heardAs, segmentIn, answerAs}
+use Rattle.history.specs.Call.{State, sound, limitOf, find, free, inLimits}
+use Rattle.history.specs.Ready.{OfBytes}
+use Rattle.history.specs.State.{InOrder}
+use Rattle.history.specs.Answers.{Meets, Room, markedUnder}
 use Rattle.history.specs.Held.{stageFor, SlotFor, Same}
 use Rattle.history.specs.History.{Call, hand, drop, ask, CallBytes, Elsewhere, Event, handed, dropped, asked, Start, Allowed, Collecting, after, reached, told, under, storedUnder}
 
@@ -133,6 +137,12 @@ pub record Promised (k : Collecting) : Type 0 where
   -- A repeat: one more is repeated, and nothing else changes.
   pub repeating : (bytes : List ℕ) (s : State) (heard : Heard) → k .answersGroup bytes s ≡ Answer.Repeat heard
       → k .leavesGroup bytes s ≡ record { collector = s .collector; counts = oneRepeated (s .counts); stores = s .stores }
+  -- STATE exactly when the state is damaged: document 01's list.
+  pub state : (bytes : List ℕ) (s : State) → OfBytes (s .stores) → (k .answersGroup bytes s ≡ Answer.State) ↔ (¬ (InOrder s))
+  pub stateDrop : (number : ℕ) (s : State) → OfBytes (s .stores) → (k .answersDrop number s ≡ Answer.State) ↔ (¬ (InOrder s))
+  -- Any other state is answered as if its marked segments had been stored.
+  pub marked : (s : State) → OfBytes (s .stores) → InOrder s → (g : Passing) (o : Outcome)
+      → (k .answersGroup (g .bytes) s ≡ answerAs o (heardOf g)) ↔ (Meets o (g .carried .part) (limitOf s) (segmentOf g) (markedUnder Header (g .carried .number) s) (markedUnder Body (g .carried .number) s) × Room o (g .carried .number) s)
   -- An opening outside the limits leaves the counts and all that is lent, and hands back a state that every call answers
   -- with STATE.
   pub unopened : (start : Start) → inLimits (start .limit) (start .count) (start .stores) ≡ false
@@ -163,6 +173,8 @@ pub record Promised (k : Collecting) : Type 0 where
   pub storing : (r : Run) (g : Passing) → (answerTo k r g ≡ Answer.Stored (heardOf g)) ↔ (((f : FitsWith k r g) × (¬ (Finished f))) × (¬ (Among (segmentOf g) (stored k r (g .carried .part) (g .carried .number)))) × SlotFor (g .carried .number) (reachedBy k r))
   -- A group that does not pass the reading checks is answered with the first that it fails.
   pub unread : (r : Run) (bytes : List ℕ) (why : Refusal) → readingOf bytes ≡ Refused why → k .answersGroup bytes (reachedBy k r) ≡ Answer.Refused why
+  -- A drop: DROPPED exactly when the number holds a slot, NOTHELD exactly when not.
+  pub dropping : (r : Run) (number : ℕ) → ((k .answersDrop number (reachedBy k r) ≡ Answer.Dropped number) ↔ (find number (reachedBy k r) ≢ Nothing)) × ((k .answersDrop number (reachedBy k r) ≡ Answer.NotHeld) ↔ (find number (reachedBy k r) ≡ Nothing))
   -- A number holds no slot exactly when nothing is stored under it; none is free exactly when each slot holds a number.
   pub unheld : (r : Run) (number : ℕ) → (find number (reachedBy k r) ≡ Nothing) ↔ ((stored k r Header number ≡ []) × (stored k r Body number ≡ []))
   pub noneFree : (r : Run) → (free (reachedBy k r) ≡ Nothing) ↔ ((i : ℕ) → i < r .start .count → (number : ℕ) × (find number (reachedBy k r) ≡ At i))

@@ -17,9 +17,9 @@ use Rattle.slots.specs.declared.Found.the-variants.{Nothing, At}
 use Rattle.slots.specs.Stores.{slotsMost, freeSlot, slotAt}
 use Rattle.slots.specs.Find.{isFree, holds, findIn}
 use Rattle.counts.specs.Counted.{noneYet}
-use Rattle.collector.specs.Calls.{Answered, segmentIn, allFree}
+use Rattle.collector.specs.Calls.{segmentIn, allFree}
 use Rattle.history.specs.Slots.{free-holds, none-found, limits-within}
-use Rattle.history.specs.Call.{State, taking, dropping, left, limitOf, find, Came, alone, full, first, more, unread, came, none-dropped, found-dropped, opened-all}
+use Rattle.history.specs.Call.{State, Reply, taking, dropping, limitOf, find, Came, alone, full, first, more, unread, came, none-dropped, found-dropped, opened-all}
 use Rattle.history.specs.Held.{Same}
 use Rattle.history.specs.Ready.{used-inside, found-used}
 use Rattle.history.specs.Sound.{Intact, group-intact, drop-intact, opening-intact}
@@ -49,7 +49,7 @@ pub record SameBounds (s t : State) : Type 0 where
   pub limit : limitOf t ≡ limitOf s
   pub count : t .collector .count ≡ s .collector .count
 
-came-bounds : (carried : Carried) (segment : Segment) (s : State) (t : Answered) → Came carried segment s t → SameBounds s (left t)
+came-bounds : (carried : Carried) (segment : Segment) (s : State) (t : Reply) → Came carried segment s t → SameBounds s (t .left)
 came-bounds carried segment s t (alone n a e) = rw e (record { limit = refl; count = refl })
 came-bounds carried segment s t (full n a f e) = rw e (record { limit = refl; count = refl })
 came-bounds carried segment s t (first i n a f e) = rw e (record { limit = refl; count = refl })
@@ -58,12 +58,12 @@ came-bounds carried segment s t (more i n e) = rw e (record { limit = refl; coun
 leaves-bounds : (call : Call) (s : State) → Intact s → SameBounds s (leaves ours call s)
 leaves-bounds (hand bytes) s whole = go (readingOf bytes) refl
   where
-    go : (reading : Reading) → readingOf bytes ≡ reading → SameBounds s (left (taking bytes s))
+    go : (reading : Reading) → readingOf bytes ≡ reading → SameBounds s (taking bytes s .left)
     go (Refused why) e = rw (unread bytes s (whole .undamaged) why e) (record { limit = refl; count = refl })
     go (Read carried) e = came-bounds carried (segmentIn bytes carried) s (taking bytes s) (came bytes s (whole .undamaged) carried e)
 leaves-bounds (drop number) s whole = go (find number s) refl
   where
-    go : (found : Found) → find number s ≡ found → SameBounds s (left (dropping number s))
+    go : (found : Found) → find number s ≡ found → SameBounds s (dropping number s .left)
     go Nothing e = rw (none-dropped number s (whole .undamaged) e) (record { limit = refl; count = refl })
     go (At i) e = rw (found-dropped number s (whole .undamaged) i (used-inside s (whole .undamaged) i (found-used s (whole .undamaged) number i e)) e) (record { limit = refl; count = refl })
 leaves-bounds (ask number part) s whole = record { limit = refl; count = refl }

@@ -2,7 +2,8 @@
 use mathlib.Core.Path.{_≡_}
 use mathlib.Core.Bool.{true, false}
 use Prim.Native.Nat.{ℕ, _*_, _≤_}
-use lib.ListN.{drop}
+use native.Mathlib.Omega.{arith}
+use lib.ListN.{length, drop}
 use Rattle.octets.specs.Octets.{sumOf}
 use Rattle.counts.specs.Counted.{within}
 use Rattle.cut.specs.Lists.{Bytes, bytes-take, bytes-drop}
@@ -11,12 +12,13 @@ use Rattle.cut.specs.LawsDecision.{both-true}
 use Rattle.gathering.specs.Sound.{soundSlot}
 use Rattle.gathering.specs.Shape.{IsLent}
 use Rattle.slots.specs.declared.Found.the-variants.{Nothing, At}
-use Rattle.slots.specs.Stores.{Stores, lentAt}
+use Rattle.slots.specs.Stores.{slotMarks, Stores, lentAt}
 use Rattle.slots.specs.Find.{isFree, holds, findIn, freeIn}
 use Rattle.slots.specs.State.{soundSlots}
+use Rattle.slots.specs.StateTests.{Limits}
 use Rattle.slots.specs.Take.{Inside}
 use Rattle.slots.specs.Shares.{lent-wide}
-use Rattle.slots.specs.Ready.{held-sound, free-unmarked, sound-inside}
+use Rattle.slots.specs.Ready.{inside-store, held-sound, free-unmarked}
 use Rattle.collector.specs.Calls.{soundState}
 use Rattle.history.specs.Counts.{Low, within-low}
 use Rattle.history.specs.Slots.{Undamaged, found-at, found-none, sound-undamaged}
@@ -26,6 +28,28 @@ use Rattle.history.specs.Call.{State, sound, limitOf, InUse, slotOf, len
 pub record OfBytes (stores : Stores) : Type 0 where
   pub header : Bytes (stores .header)
   pub body : Bytes (stores .body)
+
+-- within the limits each slot has its shares
+module _ (s : State) (i : ℕ) (w : Limits (limitOf s) (s .collector .count) (length (s .stores .header)) (length (s .stores .body)) (length (s .stores .marks))) (u : InUse i s) where
+  pub limits-inside : Inside (limitOf s) i (s .stores)
+  limits-inside = record {
+    slot = omega (arith, w .slots, u .counted);
+    header = omega (arith, w .header, inside-store headerMost (s .collector .count) i (u .counted));
+    body = omega (arith, w .body, inside-store (limitOf s) (s .collector .count) i (u .counted));
+    marks = omega (arith, w .marks, inside-store slotMarks (s .collector .count) i (u .counted));
+  }
+
+  pub limits-lent : OfBytes (s .stores) → IsLent (limitOf s) (lentOf i s)
+  unfolding lentAt
+  limits-lent b =
+      let wide = lent-wide (limitOf s) i (s .stores) limits-inside in
+      record {
+        headerLength = wide .header;
+        bodyLength = wide .body;
+        marksLength = wide .marks;
+        headerBytes = bytes-take headerMost (drop (i * headerMost) (s .stores .header)) (bytes-drop (i * headerMost) (s .stores .header) (b .header));
+        bodyBytes = bytes-take (limitOf s) (drop (i * limitOf s) (s .stores .body)) (bytes-drop (i * limitOf s) (s .stores .body) (b .body));
+      }
 
 module _ (s : State) (good : sound s ≡ true) where
   both-sound : (soundSlots (limitOf s) (s .collector .count) (s .collector .slots) (s .stores) ≡ true) × (within (s .counts) ≡ true)
@@ -46,19 +70,10 @@ module _ (s : State) (good : sound s ≡ true) where
 
   -- the shares of a slot in use
   pub used-inside : (i : ℕ) → InUse i s → Inside (limitOf s) i (s .stores)
-  used-inside i u = sound-inside (limitOf s) (s .collector .count) (s .collector .slots) (s .stores) slots-sound i (u .counted)
+  used-inside i u = limits-inside s i (slots-right .limits) u
 
   pub used-lent : (i : ℕ) → InUse i s → OfBytes (s .stores) → IsLent (limitOf s) (lentOf i s)
-  unfolding lentAt
-  used-lent i u b =
-      let wide = lent-wide (limitOf s) i (s .stores) (used-inside i u) in
-      record {
-        headerLength = wide .header;
-        bodyLength = wide .body;
-        marksLength = wide .marks;
-        headerBytes = bytes-take headerMost (drop (i * headerMost) (s .stores .header)) (bytes-drop (i * headerMost) (s .stores .header) (b .header));
-        bodyBytes = bytes-take (limitOf s) (drop (i * limitOf s) (s .stores .body)) (bytes-drop (i * limitOf s) (s .stores .body) (b .body));
-      }
+  used-lent i u b = limits-lent s i (slots-right .limits) u b
 
   -- the slot that holds a number
   pub found-used : (number i : ℕ) → find number s ≡ At i → InUse i s

@@ -33,9 +33,9 @@ use Rattle.slots.specs.declared.Found.the-variants.{Nothing, At}
 use Rattle.slots.specs.Stores.{Stores, freeSlot, freshSlot, slotAt}
 use Rattle.slots.specs.Alone.{fitsAlone}
 use Rattle.slots.specs.Fresh.{fresh-taken}
-use Rattle.collector.specs.Calls.{Answered, heardAs, segmentIn, answerAs, allFree}
+use Rattle.collector.specs.Calls.{heardAs, segmentIn, answerAs, allFree}
 use Rattle.history.specs.Slots.{Used}
-use Rattle.history.specs.Call.{State, taking, dropping, left, groupAnswer, groupLeaves, dropAnswer, dropLeaves, sound, limitOf, slotOf, lentOf, find, answering, replacing, offering, Came, alone, full, first, more, group-damaged, unread, came, drop-damaged, none-dropped, found-dropped, lent-same, inLimits, opening, opened-none}
+use Rattle.history.specs.Call.{State, Reply, taking, dropping, groupAnswer, groupLeaves, dropAnswer, dropLeaves, sound, limitOf, slotOf, lentOf, find, answering, replacing, offering, Came, alone, full, first, more, group-damaged, unread, came, drop-damaged, none-dropped, found-dropped, lent-same, inLimits, opening, opened-none}
 use Rattle.history.specs.Ready.{slots-right, used-inside, found-used, free-marks}
 
 -- ---- the offer of a segment
@@ -103,7 +103,7 @@ same-replaced : (answer : Answer) (i : ℕ) (s : State) → sound s ≡ true →
 unfolding slotAt
 same-replaced answer i s good u = rw (set-getD (s .collector .slots) i freeSlot, lent-same (limitOf s) i (s .stores) (used-inside s good i u)) refl
 
-came-kept : (carried : Carried) (segment : Segment) (s : State) (t : Answered) → sound s ≡ true → Came carried segment s t → Kept (t .answer) → t ≡ answering (t .answer) s
+came-kept : (carried : Carried) (segment : Segment) (s : State) (t : Reply) → sound s ≡ true → Came carried segment s t → Kept (t .answer) → t ≡ answering (t .answer) s
 came-kept carried segment s t good (alone n a e) k = rw e refl
 came-kept carried segment s t good (full n a f e) k = rw e refl
 came-kept carried segment s t good (first i n a f e) k =
@@ -124,10 +124,10 @@ group-kept group s k = go (sound s) refl (readingOf group) refl
     go true d (Read carried) e = came-kept carried (segmentIn group carried) s (taking group s) d (came group s d carried e) k
 
 -- A DROP that is refused changes nothing at all
-pub drop-kept : (number : ℕ) (s : State) → Kept (dropping number s .answer) → left (dropping number s) ≡ s
+pub drop-kept : (number : ℕ) (s : State) → Kept (dropping number s .answer) → dropping number s .left ≡ s
 drop-kept number s k = go (sound s) refl (find number s) refl
   where
-    go : (b : Bool) → sound s ≡ b → (found : Found) → find number s ≡ found → left (dropping number s) ≡ s
+    go : (b : Bool) → sound s ≡ b → (found : Found) → find number s ≡ found → dropping number s .left ≡ s
     go false d found e = rw (drop-damaged number s d) refl
     go true d Nothing e = rw (none-dropped number s d e) refl
     go true d (At i) e = absurd (rw (found-dropped number s d i (used-inside s d i (found-used s d number i e)) e) at k)
@@ -199,13 +199,13 @@ pub refused-group : (group : List ℕ) (s : State) → 10 ≤ numberOf (groupAns
     → groupLeaves group s ≡ record { collector = s .collector; counts = oneRefused (s .counts); stores = s .stores }
 refused-group group s h g =
     let a : Answer = taking group s .answer in
-    ap left (group-kept group s (refusal-kept a h)) ∙ ap (λ (c : Counts). record { collector = s .collector; counts = c; stores = s .stores }) (counted-refused a (s .counts) h g)
+    ap (λ (t : Reply). t .left) (group-kept group s (refusal-kept a h)) ∙ ap (λ (c : Counts). record { collector = s .collector; counts = c; stores = s .stores }) (counted-refused a (s .counts) h g)
 
 -- 19 to 26 change nothing, the counts neither
 pub unanswered-group : (group : List ℕ) (s : State) → 19 ≤ numberOf (groupAnswer group s) → groupLeaves group s ≡ s
 unanswered-group group s h =
     let a : Answer = taking group s .answer in
-    ap left (group-kept group s (refusal-kept a (omega arith))) ∙ ap (λ (c : Counts). record { collector = s .collector; counts = c; stores = s .stores }) (counted-not a (s .counts) h)
+    ap (λ (t : Reply). t .left) (group-kept group s (refusal-kept a (omega arith))) ∙ ap (λ (c : Counts). record { collector = s .collector; counts = c; stores = s .stores }) (counted-not a (s .counts) h)
 
 -- A REFUSED DROP changes nothing
 pub refused-drop : (number : ℕ) (s : State) → 10 ≤ numberOf (dropAnswer number s) → dropLeaves number s ≡ s
@@ -214,7 +214,7 @@ refused-drop number s h = drop-kept number s (refusal-kept (dropping number s .a
 -- A REPEAT: one more is repeated, and nothing else changes
 pub repeated-group : (group : List ℕ) (s : State) (heard : Heard) → groupAnswer group s ≡ Answer.Repeat heard
     → groupLeaves group s ≡ record { collector = s .collector; counts = oneRepeated (s .counts); stores = s .stores }
-repeated-group group s heard e = ap left (group-kept group s (rw e tt)) ∙ ap (λ (a : Answer). record { collector = s .collector; counts = counted a (s .counts); stores = s .stores }) e
+repeated-group group s heard e = ap (λ (t : Reply). t .left) (group-kept group s (rw e tt)) ∙ ap (λ (a : Answer). record { collector = s .collector; counts = counted a (s .counts); stores = s .stores }) e
 
 -- ---- a refused opening
 

@@ -22,9 +22,9 @@ use Rattle.slots.specs.declared.Found.{Found}
 use Rattle.slots.specs.declared.Found.the-variants.{Nothing, At}
 use Rattle.slots.specs.Stores.{slotsMost, freeSlot}
 use Rattle.slots.specs.Find.{isFree, holds, findIn, freeIn}
-use Rattle.collector.specs.Calls.{Answered, segmentIn}
+use Rattle.collector.specs.Calls.{segmentIn}
 use Rattle.history.specs.Slots.{held-is, is-held, found-none, none-found, only-found}
-use Rattle.history.specs.Call.{State, taking, dropping, left, sound, limitOf, InUse, slotOf, lentOf, find, free, Came, alone, full, first, more, unread, came, none-dropped, found-dropped}
+use Rattle.history.specs.Call.{State, Reply, taking, dropping, sound, limitOf, InUse, slotOf, lentOf, find, free, Came, alone, full, first, more, unread, came, none-dropped, found-dropped}
 use Rattle.history.specs.Ready.{slots-right, used-inside, found-used, found-holds, found-sound}
 use Rattle.history.specs.Sound.{Intact}
 use Rattle.history.specs.History.{Call, hand, ask, CallBytes, leaves, Start, Allowed, ours, reached}
@@ -62,7 +62,7 @@ unheld-exactly number s hs bs good w = (w .rest, (λ none. go none (find number 
 slots-of : State → ℕ
 slots-of s = length (s .collector .slots)
 
-came-slots : (carried : Carried) (segment : Segment) (s : State) (t : Answered) → Came carried segment s t → slots-of (left t) ≡ slots-of s
+came-slots : (carried : Carried) (segment : Segment) (s : State) (t : Reply) → Came carried segment s t → slots-of (t .left) ≡ slots-of s
 unfolding slots-of
 came-slots carried segment s t (alone n a e) = rw e refl
 came-slots carried segment s t (full n a f e) = rw e refl
@@ -73,12 +73,12 @@ leaves-slots : (call : Call) (s : State) → Intact s → slots-of (leaves ours 
 unfolding slots-of
 leaves-slots (hand bytes) s whole = go (readingOf bytes) refl
   where
-    go : (reading : Reading) → readingOf bytes ≡ reading → slots-of (left (taking bytes s)) ≡ slots-of s
+    go : (reading : Reading) → readingOf bytes ≡ reading → slots-of (taking bytes s .left) ≡ slots-of s
     go (Refused why) e = rw (unread bytes s (whole .undamaged) why e) refl
     go (Read carried) e = came-slots carried (segmentIn bytes carried) s (taking bytes s) (came bytes s (whole .undamaged) carried e)
 leaves-slots (Call.drop number) s whole = go (find number s) refl
   where
-    go : (found : Found) → find number s ≡ found → slots-of (left (dropping number s)) ≡ slots-of s
+    go : (found : Found) → find number s ≡ found → slots-of (dropping number s .left) ≡ slots-of s
     go Nothing e = rw (none-dropped number s (whole .undamaged) e) refl
     go (At i) e = rw (found-dropped number s (whole .undamaged) i (used-inside s (whole .undamaged) i (found-used s (whole .undamaged) number i e)) e) (length-set (s .collector .slots) i freeSlot)
 leaves-slots (ask number part) s whole = refl

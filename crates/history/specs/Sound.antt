@@ -1,6 +1,5 @@
 -- No state so reached is damaged: an opening within the limits gives a state that is not, and every call leaves it so.
 use mathlib.Core.Path.{_≡_, refl, sym, _∙_}
-use mathlib.Core.Logic.{_≢_}
 use mathlib.Core.Bool.{true}
 use mathlib.Core.List.{List, []}
 use Prim.Native.Nat.{ℕ, _*_, _≤_}
@@ -12,7 +11,6 @@ use Rattle.octets.specs.Over.{zeros-length}
 use Rattle.octets.specs.Marks.{largest-part, zeros-largest}
 use Rattle.answer.specs.declared.Answer.{Answer}
 use Rattle.answer.specs.declared.Answer.the-variants as Answer
-use Rattle.answer.specs.declared.Heard.{Heard}
 use Rattle.answer.specs.declared.Part.{Part}
 use Rattle.counts.specs.declared.Counts.{Counts}
 use Rattle.counts.specs.Counted.{noneYet, counted, within}
@@ -24,10 +22,6 @@ use Rattle.cut.specs.Lists.{Bytes, bytes-take, bytes-drop, over-bytes}
 use Rattle.cut.specs.Requirement.{headerMost, limitMost, Segment}
 use Rattle.cut.specs.LawsDecision.{false-true, true-both}
 use Rattle.gathering.specs.declared.Slot.{Slot}
-use Rattle.gathering.specs.declared.Stage.{Stage}
-use Rattle.gathering.specs.declared.Stage.the-variants as Stage
-use Rattle.gathering.specs.declared.Outcome.{Outcome}
-use Rattle.gathering.specs.declared.Outcome.the-variants.{Stored, Complete, Repeat, Conflict}
 use Rattle.gathering.specs.Take.{Lent, Taken, takeInto}
 use Rattle.gathering.specs.Shape.{IsLent}
 use Rattle.gathering.specs.StepSound.{taken-lent, added-sound}
@@ -40,14 +34,12 @@ use Rattle.slots.specs.Alone.{fitsAlone}
 use Rattle.slots.specs.State.{rightSlot, soundSlots}
 use Rattle.slots.specs.StateTests.{limits-hold}
 use Rattle.slots.specs.Shares.{Wide}
-use Rattle.collector.specs.declared.Located.{Located}
-use Rattle.collector.specs.declared.Located.the-variants as Located
-use Rattle.collector.specs.Calls.{Answered, soundState, heardAs, segmentIn, answerAs, allFree, locatedAs, locatedIn, locate}
+use Rattle.collector.specs.Calls.{soundState, heardAs, segmentIn, answerAs, allFree}
 use Rattle.history.specs.Counts.{low-within, counted-low}
 use Rattle.history.specs.Ready.{OfBytes, slots-sound, counts-low, slots-right, limit-low, used-inside, used-lent, found-used, found-holds, found-sound, none-holds, free-used, free-marks}
 use Rattle.history.specs.Taken.{sound-right, taken-number, fresh-gathers, fresh-added}
 use Rattle.history.specs.Slots.{Used, Undamaged, held-is, is-held, free-holds, undamaged-sound, replaced}
-use Rattle.history.specs.Call.{State, taking, dropping, left, groupAnswer, groupLeaves, dropAnswer, dropLeaves, sound, limitOf, InUse, slotOf, lentOf, find, free, answering, replacing, Came, alone, full, first, more, unread, came, none-dropped, found-dropped, cleared, inLimits, opening, opened-all}
+use Rattle.history.specs.Call.{State, Reply, taking, dropping, groupLeaves, dropLeaves, sound, limitOf, InUse, slotOf, lentOf, find, free, answering, replacing, Came, alone, full, first, more, unread, came, none-dropped, found-dropped, cleared, inLimits, opening, opened-all}
 
 -- a state that is not damaged, and what is lent are bytes, as all memory is
 pub record Intact (s : State) : Type 0 where
@@ -57,7 +49,7 @@ pub record Intact (s : State) : Type 0 where
 -- ---- what a call leaves
 
 -- where nothing but a count changes
-answered-intact : (answer : Answer) (s : State) → Intact s → Intact (left (answering answer s))
+answered-intact : (answer : Answer) (s : State) → Intact s → Intact (answering answer s .left)
 unfolding soundState
 answered-intact answer s whole = record {
   undamaged = true-both (soundSlots (limitOf s) (s .collector .count) (s .collector .slots) (s .stores)) (within (counted answer (s .counts))) (slots-sound s (whole .undamaged)) (low-within (counted answer (s .counts)) (counted-low answer (s .counts) (counts-low s (whole .undamaged))));
@@ -80,7 +72,7 @@ with-bytes limit i lent stores l b = record {
 
 -- where slot i is replaced by a right one whose number no other slot holds
 replaced-intact : (answer : Answer) (i : ℕ) (slot : Slot) (lent : Lent) (s : State) → Intact s → InUse i s → IsLent (limitOf s) lent → rightSlot (limitOf s) slot lent ≡ true
-    → ((number j : ℕ) → InUse j s → holds number slot ≡ true → holds number (slotOf j s) ≡ true → i ≡ j) → Intact (left (replacing answer i slot lent s))
+    → ((number j : ℕ) → InUse j s → holds number slot ≡ true → holds number (slotOf j s) ≡ true → i ≡ j) → Intact (replacing answer i slot lent s .left)
 unfolding soundState
 replaced-intact answer i slot lent s whole u l r only = record {
   undamaged = true-both (soundSlots (limitOf s) (s .collector .count) (set (s .collector .slots) i slot) (withLent (limitOf s) i lent (s .stores))) (within (counted answer (s .counts)))
@@ -104,7 +96,7 @@ module _ (s : State) (whole : Intact s) where
 
   -- a segment offered to the slot that holds its number
   more-intact : (answer : Answer) (number i : ℕ) (part : Part) (segment : Segment) → Bytes (segment .bytes) → find number s ≡ At i
-      → Intact (left (replacing answer i (takeInto part (limitOf s) segment (slotOf i s) (lentOf i s) .slot) (takeInto part (limitOf s) segment (slotOf i s) (lentOf i s) .lent) s))
+      → Intact (replacing answer i (takeInto part (limitOf s) segment (slotOf i s) (lentOf i s) .slot) (takeInto part (limitOf s) segment (slotOf i s) (lentOf i s) .lent) s .left)
   more-intact answer number i part segment y e = replaced-intact answer i (x .slot) (x .lent) s whole u l (sound-right limit (x .slot) (x .lent) low l (sound-stays part limit segment slot lent low y (used-lent s (whole .undamaged) i u (whole .bytes)) (found-sound s (whole .undamaged) number i e))) only
     where
       limit : ℕ
@@ -130,7 +122,7 @@ module _ (s : State) (whole : Intact s) where
 
   -- the first segment of a number, in a free slot
   first-intact : (answer : Answer) (number i : ℕ) (part : Part) (segment : Segment) → Bytes (segment .bytes) → find number s ≡ Nothing → fitsAlone part (limitOf s) segment ≡ true → free s ≡ At i
-      → Intact (left (replacing answer i (takeInto part (limitOf s) segment (freshSlot number) (lentOf i s) .slot) (takeInto part (limitOf s) segment (freshSlot number) (lentOf i s) .lent) s))
+      → Intact (replacing answer i (takeInto part (limitOf s) segment (freshSlot number) (lentOf i s) .slot) (takeInto part (limitOf s) segment (freshSlot number) (lentOf i s) .lent) s .left)
   unfolding freshSlot
   first-intact answer number i part segment y n a e = replaced-intact answer i (x .slot) (x .lent) s whole u l (sound-right limit (x .slot) (x .lent) low l (added-sound part limit segment (freshSlot number) [] [] x (fresh-added part limit number segment lent low y lends none a))) only
     where
@@ -161,7 +153,7 @@ module _ (s : State) (whole : Intact s) where
           absurd (false-true (rw same at (none-holds s (whole .undamaged) number j n v)) g)
 
   -- a slot that is dropped
-  drop-left : (answer : Answer) (number i : ℕ) → find number s ≡ At i → Intact (left (replacing answer i freeSlot (cleared (lentOf i s)) s))
+  drop-left : (answer : Answer) (number i : ℕ) → find number s ≡ At i → Intact (replacing answer i freeSlot (cleared (lentOf i s)) s .left)
   unfolding rightSlot isFree freeSlot
   drop-left answer number i e = replaced-intact answer i freeSlot (cleared (lentOf i s)) s whole u (cleared-lent (limitOf s) (lentOf i s) l) (eq-eqb (largestOf (zeros slotMarks)) 0 (zeros-largest slotMarks)) (λ n j v h g. absurd (false-true (free-holds n freeSlot refl) h))
     where
@@ -176,7 +168,7 @@ pub segment-bytes : (group : List ℕ) (carried : Carried) → Bytes group → B
 unfolding segmentIn
 segment-bytes group carried y = bytes-take (carried .length) (drop (carried .start) group) (bytes-drop (carried .start) group y)
 
-came-intact : (carried : Carried) (segment : Segment) (s : State) (t : Answered) → Bytes (segment .bytes) → Intact s → Came carried segment s t → Intact (left t)
+came-intact : (carried : Carried) (segment : Segment) (s : State) (t : Reply) → Bytes (segment .bytes) → Intact s → Came carried segment s t → Intact (t .left)
 came-intact carried segment s t y whole (alone n a e) = rw e (answered-intact (Answer.Conflict (heardAs carried)) s whole)
 came-intact carried segment s t y whole (full n a f e) = rw e (answered-intact (Answer.Full (heardAs carried)) s whole)
 came-intact carried segment s t y whole (first i n a f e) = rw e (first-intact s whole (answerAs (takeInto (carried .part) (limitOf s) segment (freshSlot (carried .number)) (lentOf i s) .outcome) (heardAs carried)) (carried .number) i (carried .part) segment y n a f)
@@ -186,7 +178,7 @@ came-intact carried segment s t y whole (more i n e) = rw e (more-intact s whole
 pub group-intact : (group : List ℕ) (s : State) → Bytes group → Intact s → Intact (groupLeaves group s)
 group-intact group s y whole = go (readingOf group) refl
   where
-    go : (reading : Reading) → readingOf group ≡ reading → Intact (left (taking group s))
+    go : (reading : Reading) → readingOf group ≡ reading → Intact (taking group s .left)
     go (Refused why) e = rw (unread group s (whole .undamaged) why e) (answered-intact (Answer.Refused why) s whole)
     go (Read carried) e = came-intact carried (segmentIn group carried) s (taking group s) (segment-bytes group carried y) whole (came group s (whole .undamaged) carried e)
 
@@ -194,7 +186,7 @@ group-intact group s y whole = go (readingOf group) refl
 pub drop-intact : (number : ℕ) (s : State) → Intact s → Intact (dropLeaves number s)
 drop-intact number s whole = go (find number s) refl
   where
-    go : (found : Found) → find number s ≡ found → Intact (left (dropping number s))
+    go : (found : Found) → find number s ≡ found → Intact (dropping number s .left)
     go Nothing e = rw (none-dropped number s (whole .undamaged) e) (answered-intact Answer.NotHeld s whole)
     go (At i) e = rw (found-dropped number s (whole .undamaged) i (used-inside s (whole .undamaged) i (found-used s (whole .undamaged) number i e)) e) (drop-left s whole (Answer.Dropped number) number i e)
 
@@ -227,44 +219,3 @@ opening-intact limit count counts stores e b = rw (opened-all limit count counts
 
     whole : soundState (allFree limit count) noneYet lends ≡ true
     whole = true-both (soundSlots limit count slots lends) (within noneYet) (undamaged-sound limit count slots lends undamaged) refl
-
--- ---- so no call is answered with STATE
-
-named-never : (o : Outcome) (heard : Heard) → answerAs o heard ≢ Answer.State
-named-never Stored heard e = let z : _≡_ {A = ℕ} 0 1 = cc in absurd (omega arith)
-named-never Complete heard e = let z : _≡_ {A = ℕ} 0 1 = cc in absurd (omega arith)
-named-never Repeat heard e = let z : _≡_ {A = ℕ} 0 1 = cc in absurd (omega arith)
-named-never Conflict heard e = let z : _≡_ {A = ℕ} 0 1 = cc in absurd (omega arith)
-
-came-never : (carried : Carried) (segment : Segment) (s : State) (t : Answered) → Came carried segment s t → t .answer ≢ Answer.State
-came-never carried segment s t (alone n a e) d = let z : _≡_ {A = ℕ} 0 1 = cc in absurd (omega arith)
-came-never carried segment s t (full n a f e) d = let z : _≡_ {A = ℕ} 0 1 = cc in absurd (omega arith)
-came-never carried segment s t (first i n a f e) d = named-never (takeInto (carried .part) (limitOf s) segment (freshSlot (carried .number)) (lentOf i s) .outcome) (heardAs carried) (rw e at d)
-came-never carried segment s t (more i n e) d = named-never (takeInto (carried .part) (limitOf s) segment (slotOf i s) (lentOf i s) .outcome) (heardAs carried) (rw e at d)
-
-pub group-never : (group : List ℕ) (s : State) → Intact s → groupAnswer group s ≢ Answer.State
-group-never group s whole = go (readingOf group) refl
-  where
-    go : (reading : Reading) → readingOf group ≡ reading → taking group s .answer ≢ Answer.State
-    go (Refused why) e d = let f = unread group s (whole .undamaged) why e in let z : _≡_ {A = ℕ} 0 1 = cc in absurd (omega arith)
-    go (Read carried) e d = came-never carried (segmentIn group carried) s (taking group s) (came group s (whole .undamaged) carried e) d
-
-pub drop-never : (number : ℕ) (s : State) → Intact s → dropAnswer number s ≢ Answer.State
-drop-never number s whole = go (find number s) refl
-  where
-    go : (found : Found) → find number s ≡ found → dropping number s .answer ≢ Answer.State
-    go Nothing e d = let f = none-dropped number s (whole .undamaged) e in let z : _≡_ {A = ℕ} 0 1 = cc in absurd (omega arith)
-    go (At i) e d = let f = found-dropped number s (whole .undamaged) i (used-inside s (whole .undamaged) i (found-used s (whole .undamaged) number i e)) e in let z : _≡_ {A = ℕ} 0 1 = cc in absurd (omega arith)
-
-pub question-never : (number : ℕ) (s : State) → Intact s → locate number (s .collector) (s .stores) ≢ Located.Refused Answer.State
-unfolding locate
-question-never number s whole d = asked (find number s) (rw (slots-sound s (whole .undamaged)) at d)
-  where
-    staged : (stage : Stage) (i : ℕ) → locatedAs stage i ≢ Located.Refused Answer.State
-    staged Stage.Free i e = let z : _≡_ {A = ℕ} 0 1 = cc in absurd (omega arith)
-    staged Stage.Gathering i e = let z : _≡_ {A = ℕ} 0 1 = cc in absurd (omega arith)
-    staged (Stage.Finished header body) i e = let z : _≡_ {A = ℕ} 0 1 = cc in absurd (omega arith)
-
-    asked : (found : Found) → locatedIn found (s .collector) ≢ Located.Refused Answer.State
-    asked Nothing e = let z : _≡_ {A = ℕ} 0 1 = cc in absurd (omega arith)
-    asked (At i) e = staged (slotOf i s .stage) i e

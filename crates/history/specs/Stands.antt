@@ -35,9 +35,9 @@ use Rattle.slots.specs.Stores.{freeSlot, freshSlot, slotAt}
 use Rattle.slots.specs.Find.{isFree, holds, findIn}
 use Rattle.slots.specs.Alone.{fitsAlone}
 use Rattle.slots.specs.Shares.{lent-back}
-use Rattle.collector.specs.Calls.{Answered, heardAs, segmentIn, answerAs}
+use Rattle.collector.specs.Calls.{heardAs, segmentIn, answerAs}
 use Rattle.history.specs.Slots.{held-is, is-held, free-holds, none-found, only-found, slot-here, slot-there, used-before, used-after}
-use Rattle.history.specs.Call.{State, taking, dropping, left, sound, limitOf, InUse, slotOf, lentOf, find, free, answering, replacing, offering, Came, alone, full, first, more, unread, came, none-dropped, found-dropped, cleared}
+use Rattle.history.specs.Call.{State, Reply, taking, dropping, sound, limitOf, InUse, slotOf, lentOf, find, free, answering, replacing, offering, Came, alone, full, first, more, unread, came, none-dropped, found-dropped, cleared}
 use Rattle.history.specs.Held.{Same}
 use Rattle.history.specs.Ready.{slots-right, limit-low, used-inside, used-lent, found-used, found-holds, free-used, free-marks}
 use Rattle.history.specs.Taken.{holds-held, taken-number, fresh-gathers, fresh-added}
@@ -62,9 +62,9 @@ same-stands number s t hs bs same w = record {
 
 -- ---- a slot is replaced by one that holds the number
 
-module _ (number : ℕ) (answer : Answer) (i : ℕ) (slot : Slot) (lent : Lent) (s : State) (good : sound s ≡ true) (u : InUse i s) (l : IsLent (limitOf s) lent) (whole : Intact (left (replacing answer i slot lent s))) where
+module _ (number : ℕ) (answer : Answer) (i : ℕ) (slot : Slot) (lent : Lent) (s : State) (good : sound s ≡ true) (u : InUse i s) (l : IsLent (limitOf s) lent) (whole : Intact (replacing answer i slot lent s .left)) where
   t : State
-  t = left (replacing answer i slot lent s)
+  t = replacing answer i slot lent s .left
 
   here : slotOf i t ≡ slot
   unfolding t
@@ -84,7 +84,7 @@ module _ (number : ℕ) (answer : Answer) (i : ℕ) (slot : Slot) (lent : Lent) 
       own : holds number (slotOf i t) ≡ true
       own = rw here h
 
-  replaced-stands : (hs bs : List Segment) → slot .number ≡ number → Holds (limitOf s) slot lent hs bs → StandsFor number (left (replacing answer i slot lent s)) hs bs
+  replaced-stands : (hs bs : List Segment) → slot .number ≡ number → Holds (limitOf s) slot lent hs bs → StandsFor number (replacing answer i slot lent s .left) hs bs
   unfolding t
   replaced-stands hs bs e h = record { held = held; rest = λ f. let z : _≡_ {A = ℕ} 0 1 = cc found in absurd (omega arith) }
     where
@@ -126,13 +126,13 @@ next-own part carried segment answer segments = rw (eq-eqb (carried .number) (ca
 
 -- nothing is stored: all stands as it did
 not-stands : (carried : Carried) (segment : Segment) (answer : Answer) (s : State) (hs bs : List Segment) → isStored answer ≡ false → StandsFor (carried .number) s hs bs
-    → StandsFor (carried .number) (left (answering answer s)) (pick (isStored answer) (headersWith (carried .part) segment hs) hs) (pick (isStored answer) (bodiesWith (carried .part) segment bs) bs)
+    → StandsFor (carried .number) (answering answer s .left) (pick (isStored answer) (headersWith (carried .part) segment hs) hs) (pick (isStored answer) (bodiesWith (carried .part) segment bs) bs)
 not-stands carried segment answer s hs bs e w = rw e (record { held = w .held; rest = w .rest })
 
 -- the segment is offered to the slot that holds its number
 more-stands : (carried : Carried) (segment : Segment) (s : State) (i : ℕ) (hs bs : List Segment) (taken : Taken) → taken ≡ takeInto (carried .part) (limitOf s) segment (slotOf i s) (lentOf i s)
-    → Bytes (segment .bytes) → Intact s → Intact (left (offering carried segment i s taken)) → StandsFor (carried .number) s hs bs → find (carried .number) s ≡ At i
-    → StandsFor (carried .number) (left (offering carried segment i s taken)) (pick (isStored (answerAs (taken .outcome) (heardAs carried))) (headersWith (carried .part) segment hs) hs) (pick (isStored (answerAs (taken .outcome) (heardAs carried))) (bodiesWith (carried .part) segment bs) bs)
+    → Bytes (segment .bytes) → Intact s → Intact (offering carried segment i s taken .left) → StandsFor (carried .number) s hs bs → find (carried .number) s ≡ At i
+    → StandsFor (carried .number) (offering carried segment i s taken .left) (pick (isStored (answerAs (taken .outcome) (heardAs carried))) (headersWith (carried .part) segment hs) hs) (pick (isStored (answerAs (taken .outcome) (heardAs carried))) (bodiesWith (carried .part) segment bs) bs)
 more-stands carried segment s i hs bs taken same y whole whole' w n = replaced-stands (carried .number) (answerAs (taken .outcome) (heardAs carried)) i (taken .slot) (taken .lent) s (whole .undamaged) (found-used s (whole .undamaged) (carried .number) i n)
     (rw same (more-lent s whole (carried .number) i (carried .part) segment y n))
     whole'
@@ -149,8 +149,8 @@ more-stands carried segment s i hs bs taken same y whole whole' w n = replaced-s
 
 -- the first segment of its number takes a free slot
 first-stands : (carried : Carried) (segment : Segment) (s : State) (i : ℕ) (taken : Taken) → taken ≡ takeInto (carried .part) (limitOf s) segment (freshSlot (carried .number)) (lentOf i s)
-    → Bytes (segment .bytes) → Intact s → Intact (left (offering carried segment i s taken)) → fitsAlone (carried .part) (limitOf s) segment ≡ true → free s ≡ At i
-    → (isStored (answerAs (taken .outcome) (heardAs carried)) ≡ true) × StandsFor (carried .number) (left (offering carried segment i s taken)) (headersWith (carried .part) segment []) (bodiesWith (carried .part) segment [])
+    → Bytes (segment .bytes) → Intact s → Intact (offering carried segment i s taken .left) → fitsAlone (carried .part) (limitOf s) segment ≡ true → free s ≡ At i
+    → (isStored (answerAs (taken .outcome) (heardAs carried)) ≡ true) × StandsFor (carried .number) (offering carried segment i s taken .left) (headersWith (carried .part) segment []) (bodiesWith (carried .part) segment [])
 unfolding freshSlot
 first-stands carried segment s i taken same y whole whole' a f = (
   added-stored (taken .outcome) (heardAs carried) (carried .part) (limitOf s) segment (freshSlot (carried .number)) (lentOf i s) taken added told,
@@ -175,8 +175,8 @@ first-stands carried segment s i taken same y whole whole' a f = (
     told : Tells (taken .outcome) (carried .part) (limitOf s) segment (freshSlot (carried .number)) (lentOf i s) [] [] taken
     told = rw same (outcome-tells (carried .part) (limitOf s) segment (freshSlot (carried .number)) (lentOf i s) [] [] (limit-low s (whole .undamaged)) y (fresh-gathers (carried .part) (limitOf s) (carried .number) segment (lentOf i s) (limit-low s (whole .undamaged)) y lends none) (takeInto (carried .part) (limitOf s) segment (freshSlot (carried .number)) (lentOf i s) .outcome) refl)
 
-came-own : (carried : Carried) (segment : Segment) (s : State) (t : Answered) (hs bs : List Segment) → Bytes (segment .bytes) → Intact s → Intact (left t) → StandsFor (carried .number) s hs bs → Came carried segment s t
-    → StandsFor (carried .number) (left t) (pick (isStored (t .answer)) (headersWith (carried .part) segment hs) hs) (pick (isStored (t .answer)) (bodiesWith (carried .part) segment bs) bs)
+came-own : (carried : Carried) (segment : Segment) (s : State) (t : Reply) (hs bs : List Segment) → Bytes (segment .bytes) → Intact s → Intact (t .left) → StandsFor (carried .number) s hs bs → Came carried segment s t
+    → StandsFor (carried .number) (t .left) (pick (isStored (t .answer)) (headersWith (carried .part) segment hs) hs) (pick (isStored (t .answer)) (bodiesWith (carried .part) segment bs) bs)
 came-own carried segment s t hs bs y whole whole' w (alone n a e) = rw e (not-stands carried segment (Answer.Conflict (heardAs carried)) s hs bs refl w)
 came-own carried segment s t hs bs y whole whole' w (full n a f e) = rw e (not-stands carried segment (Answer.Full (heardAs carried)) s hs bs refl w)
 came-own carried segment s t hs bs y whole whole' w (first i n a f e) =
@@ -187,11 +187,11 @@ came-own carried segment s t hs bs y whole whole' w (first i n a f e) =
 came-own carried segment s t hs bs y whole whole' w (more i n e) = rw e (more-stands carried segment s i hs bs (takeInto (carried .part) (limitOf s) segment (slotOf i s) (lentOf i s)) refl y whole (rw e at whole') w n)
 
 -- A GROUP: each slot holds just what was stored, this group counted
-pub group-stands : (bytes : List ℕ) (s : State) (events : List Event) → Bytes bytes → Intact s → Stands s events → Stands (left (taking bytes s)) (handed bytes (taking bytes s .answer) ∷ events)
+pub group-stands : (bytes : List ℕ) (s : State) (events : List Event) → Bytes bytes → Intact s → Stands s events → Stands (taking bytes s .left) (handed bytes (taking bytes s .answer) ∷ events)
 unfolding under
 group-stands bytes s events y whole w number = go (readingOf bytes) refl
   where
-    t : Answered
+    t : Reply
     t = taking bytes s
 
     hs : ℕ → List Segment
@@ -200,26 +200,26 @@ group-stands bytes s events y whole w number = go (readingOf bytes) refl
     bs : ℕ → List Segment
     bs n = storedUnder Body n events
 
-    whole' : Intact (left t)
+    whole' : Intact (t .left)
     whole' = group-intact bytes s y whole
 
-    read : (carried : Carried) → readingOf bytes ≡ Read carried → (n : ℕ) → Dec (n ≡ carried .number) → StandsFor n (left t) (next Header n carried (segmentIn bytes carried) (t .answer) (hs n)) (next Body n carried (segmentIn bytes carried) (t .answer) (bs n))
+    read : (carried : Carried) → readingOf bytes ≡ Read carried → (n : ℕ) → Dec (n ≡ carried .number) → StandsFor n (t .left) (next Header n carried (segmentIn bytes carried) (t .answer) (hs n)) (next Body n carried (segmentIn bytes carried) (t .answer) (bs n))
     read carried e n (no d) =
         rw (next-other Header n carried (segmentIn bytes carried) (t .answer) (hs n) d, next-other Body n carried (segmentIn bytes carried) (t .answer) (bs n) d)
-        (same-stands n s (left t) (hs n) (bs n) (came-same n carried (segmentIn bytes carried) s t d (segment-bytes bytes carried y) whole (came bytes s (whole .undamaged) carried e)) (w n))
+        (same-stands n s (t .left) (hs n) (bs n) (came-same n carried (segmentIn bytes carried) s t d (segment-bytes bytes carried y) whole (came bytes s (whole .undamaged) carried e)) (w n))
     read carried e n (yes d) =
-        subst (λ (m : ℕ). StandsFor m (left t) (next Header m carried (segmentIn bytes carried) (t .answer) (hs m)) (next Body m carried (segmentIn bytes carried) (t .answer) (bs m))) (sym d)
+        subst (λ (m : ℕ). StandsFor m (t .left) (next Header m carried (segmentIn bytes carried) (t .answer) (hs m)) (next Body m carried (segmentIn bytes carried) (t .answer) (bs m))) (sym d)
         (rw (next-own Header carried (segmentIn bytes carried) (t .answer) (hs (carried .number)), next-own Body carried (segmentIn bytes carried) (t .answer) (bs (carried .number)))
         (came-own carried (segmentIn bytes carried) s t (hs (carried .number)) (bs (carried .number)) (segment-bytes bytes carried y) whole whole' (w (carried .number)) (came bytes s (whole .undamaged) carried e)))
 
-    go : (reading : Reading) → readingOf bytes ≡ reading → StandsFor number (left t) (afterGroup isStored Header number (readingOf bytes) bytes (t .answer) (hs number)) (afterGroup isStored Body number (readingOf bytes) bytes (t .answer) (bs number))
+    go : (reading : Reading) → readingOf bytes ≡ reading → StandsFor number (t .left) (afterGroup isStored Header number (readingOf bytes) bytes (t .answer) (hs number)) (afterGroup isStored Body number (readingOf bytes) bytes (t .answer) (bs number))
     go (Refused why) e = rw (e, unread bytes s (whole .undamaged) why e) (record { held = w number .held; rest = w number .rest })
     go (Read carried) e = rw e (read carried e number (ℕ-discrete number (carried .number)))
 
 -- ---- a drop
 
 -- the slot that held the number is free, and no other holds it
-dropped-none : (number i : ℕ) (answer : Answer) (lent : Lent) (s : State) → sound s ≡ true → find number s ≡ At i → find number (left (replacing answer i freeSlot lent s)) ≡ Nothing
+dropped-none : (number i : ℕ) (answer : Answer) (lent : Lent) (s : State) → sound s ≡ true → find number s ≡ At i → find number (replacing answer i freeSlot lent s .left) ≡ Nothing
 unfolding findIn freeSlot isFree
 dropped-none number i answer lent s good e = none-found (holds number) (s .collector .count) (set (s .collector .slots) i freeSlot) (λ j u. go j (used-before i freeSlot (s .collector .slots) (s .collector .count) j u) (ℕ-discrete j i))
   where
@@ -243,10 +243,10 @@ after-other number other answer segments d = rw (ne-eqb other number (λ e. d (s
 after-own : (number : ℕ) (answer : Answer) (segments : List Segment) → afterDrop number number answer segments ≡ pick (isDropped answer) [] segments
 after-own number answer segments = rw (eq-eqb number number refl) refl
 
-drop-own : (number : ℕ) (s : State) (hs bs : List Segment) → Intact s → StandsFor number s hs bs → StandsFor number (left (dropping number s)) (pick (isDropped (dropping number s .answer)) [] hs) (pick (isDropped (dropping number s .answer)) [] bs)
+drop-own : (number : ℕ) (s : State) (hs bs : List Segment) → Intact s → StandsFor number s hs bs → StandsFor number (dropping number s .left) (pick (isDropped (dropping number s .answer)) [] hs) (pick (isDropped (dropping number s .answer)) [] bs)
 drop-own number s hs bs whole w = go (find number s) refl
   where
-    go : (found : Found) → find number s ≡ found → StandsFor number (left (dropping number s)) (pick (isDropped (dropping number s .answer)) [] hs) (pick (isDropped (dropping number s .answer)) [] bs)
+    go : (found : Found) → find number s ≡ found → StandsFor number (dropping number s .left) (pick (isDropped (dropping number s .answer)) [] hs) (pick (isDropped (dropping number s .answer)) [] bs)
     go Nothing e = rw (none-dropped number s (whole .undamaged) e) (record { held = w .held; rest = w .rest })
     go (At i) e =
         let gone = dropped-none number i (Answer.Dropped number) (cleared (lentOf i s)) s (whole .undamaged) e in
@@ -254,11 +254,11 @@ drop-own number s hs bs whole w = go (find number s) refl
         (record { held = λ j f. let z : _≡_ {A = ℕ} 0 1 = cc gone in absurd (omega arith); rest = λ f. (refl, refl) })
 
 -- A DROP: under its number nothing is stored any more
-pub drop-stands : (other : ℕ) (s : State) (events : List Event) → Intact s → Stands s events → Stands (left (dropping other s)) (dropped other (dropping other s .answer) ∷ events)
+pub drop-stands : (other : ℕ) (s : State) (events : List Event) → Intact s → Stands s events → Stands (dropping other s .left) (dropped other (dropping other s .answer) ∷ events)
 unfolding under
 drop-stands other s events whole w number = go number (ℕ-discrete number other)
   where
-    t : Answered
+    t : Reply
     t = dropping other s
 
     hs : ℕ → List Segment
@@ -267,8 +267,8 @@ drop-stands other s events whole w number = go number (ℕ-discrete number other
     bs : ℕ → List Segment
     bs n = storedUnder Body n events
 
-    go : (n : ℕ) → Dec (n ≡ other) → StandsFor n (left t) (afterDrop n other (t .answer) (hs n)) (afterDrop n other (t .answer) (bs n))
-    go n (no d) = rw (after-other n other (t .answer) (hs n) d, after-other n other (t .answer) (bs n) d) (same-stands n s (left t) (hs n) (bs n) (drop-others n other s d whole) (w n))
+    go : (n : ℕ) → Dec (n ≡ other) → StandsFor n (t .left) (afterDrop n other (t .answer) (hs n)) (afterDrop n other (t .answer) (bs n))
+    go n (no d) = rw (after-other n other (t .answer) (hs n) d, after-other n other (t .answer) (bs n) d) (same-stands n s (t .left) (hs n) (bs n) (drop-others n other s d whole) (w n))
     go n (yes d) =
-        subst (λ (m : ℕ). StandsFor m (left t) (afterDrop m other (t .answer) (hs m)) (afterDrop m other (t .answer) (bs m))) (sym d)
+        subst (λ (m : ℕ). StandsFor m (t .left) (afterDrop m other (t .answer) (hs m)) (afterDrop m other (t .answer) (bs m))) (sym d)
         (rw (after-own other (t .answer) (hs other), after-own other (t .answer) (bs other)) (drop-own other s (hs other) (bs other) whole (w other)))

@@ -20,8 +20,8 @@ use Rattle.cut.specs.Lists.{pick}
 use Rattle.cut.specs.Requirement.{Segment}
 use Rattle.slots.specs.declared.Found.{Found}
 use Rattle.slots.specs.declared.Found.the-variants.{Nothing, At}
-use Rattle.collector.specs.Calls.{Answered, segmentIn}
-use Rattle.history.specs.Call.{State, taking, dropping, sound, find, Came, alone, full, first, more, group-damaged, unread, came, drop-damaged, none-dropped, found-dropped}
+use Rattle.collector.specs.Calls.{segmentIn}
+use Rattle.history.specs.Call.{State, Reply, taking, dropping, sound, find, Came, alone, full, first, more, group-damaged, unread, came, drop-damaged, none-dropped, found-dropped}
 use Rattle.history.specs.Ready.{used-inside, found-used}
 use Rattle.history.specs.Promise.{between, answersFrom, tallied}
 use Rattle.history.specs.History.{Call, hand, drop, ask, Event, dropped, leaves, event, Start, Allowed, ours, reached, told}
@@ -71,24 +71,24 @@ counted-more Answer.State t r f c d = refl
 
 -- ---- each call counts its answer, in any state
 
-came-counted : (carried : Carried) (segment : Segment) (s : State) (t : Answered) → Came carried segment s t → t .counts ≡ counted (t .answer) (s .counts)
+came-counted : (carried : Carried) (segment : Segment) (s : State) (t : Reply) → Came carried segment s t → t .left .counts ≡ counted (t .answer) (s .counts)
 came-counted carried segment s t (alone n a e) = rw e refl
 came-counted carried segment s t (full n a f e) = rw e refl
 came-counted carried segment s t (first i n a f e) = rw e refl
 came-counted carried segment s t (more i n e) = rw e refl
 
-group-counted : (bytes : List ℕ) (s : State) → taking bytes s .counts ≡ counted (taking bytes s .answer) (s .counts)
+group-counted : (bytes : List ℕ) (s : State) → taking bytes s .left .counts ≡ counted (taking bytes s .answer) (s .counts)
 group-counted bytes s = go (sound s) refl (readingOf bytes) refl
   where
-    go : (b : Bool) → sound s ≡ b → (reading : Reading) → readingOf bytes ≡ reading → taking bytes s .counts ≡ counted (taking bytes s .answer) (s .counts)
+    go : (b : Bool) → sound s ≡ b → (reading : Reading) → readingOf bytes ≡ reading → taking bytes s .left .counts ≡ counted (taking bytes s .answer) (s .counts)
     go false d reading e = rw (group-damaged bytes s d) refl
     go true d (Refused why) e = rw (unread bytes s d why e) refl
     go true d (Read carried) e = came-counted carried (segmentIn bytes carried) s (taking bytes s) (came bytes s d carried e)
 
-drop-counted : (number : ℕ) (s : State) → dropping number s .counts ≡ counted (dropping number s .answer) (s .counts)
+drop-counted : (number : ℕ) (s : State) → dropping number s .left .counts ≡ counted (dropping number s .answer) (s .counts)
 drop-counted number s = go (sound s) refl (find number s) refl
   where
-    go : (b : Bool) → sound s ≡ b → (found : Found) → find number s ≡ found → dropping number s .counts ≡ counted (dropping number s .answer) (s .counts)
+    go : (b : Bool) → sound s ≡ b → (found : Found) → find number s ≡ found → dropping number s .left .counts ≡ counted (dropping number s .answer) (s .counts)
     go false d found e = rw (drop-damaged number s d) refl
     go true d Nothing e = rw (none-dropped number s d e) refl
     go true d (At i) e = rw (found-dropped number s d i (used-inside s d i (found-used s d number i e)) e) refl

@@ -22,7 +22,7 @@ use Rattle.cut.specs.Requirement.{bodySize, headerSize, Segment, Fits, Finished
 use Rattle.cut.specs.LawsSegment.{sends-sits, inside, Numbered}
 use Rattle.cut.specs.Finished.{whole-numbers, whole-empty}
 use Rattle.collector.specs.Calls.{heardAs, segmentIn}
-use Rattle.history.specs.Call.{left, groupAnswer, groupLeaves, dropAnswer, dropLeaves, answering}
+use Rattle.history.specs.Call.{groupAnswer, groupLeaves, dropAnswer, dropLeaves, answering}
 use Rattle.history.specs.Shown.{showing}
 use Rattle.history.specs.History.{hand, Collecting, under, opened}
 use Rattle.history.specs.Promise.{Run, reachedBy, toldBy, stored, Passing, answersFrom, Promised}
@@ -34,7 +34,7 @@ abbrev pub refusesAll : Collecting
 refusesAll = record {
   opens = opened;
   answersGroup = λ bytes s. Answer.Refused Refusal.Length;
-  leavesGroup = λ bytes s. left (answering (Answer.Refused Refusal.Length) s);
+  leavesGroup = λ bytes s. answering (Answer.Refused Refusal.Length) s .left;
   answersDrop = dropAnswer;
   leavesDrop = dropLeaves;
   shows = showing;
@@ -50,7 +50,7 @@ abbrev pub saysStored : Collecting
 saysStored = record {
   opens = opened;
   answersGroup = λ bytes s. alwaysStored (readingOf bytes);
-  leavesGroup = λ bytes s. left (answering (alwaysStored (readingOf bytes)) s);
+  leavesGroup = λ bytes s. answering (alwaysStored (readingOf bytes)) s .left;
   answersDrop = dropAnswer;
   leavesDrop = dropLeaves;
   shows = showing;

@@ -1,0 +1,155 @@
+-- STATE, exactly: document 01's list, in its words and order, of any state whatever.
+use mathlib.Core.Path.{_≡_, refl, ap}
+use mathlib.Core.Logic.{_≢_, _↔_}
+use mathlib.Core.Bool.{Bool, true, false}
+use mathlib.Core.List.{List}
+use Prim.Native.Nat.{ℕ, _≤_}
+use native.Mathlib.Omega.{arith}
+use lib.ListN.{length, getD}
+use borrow.Author.Tests.{eqb-true, eq-eqb}
+use Rattle.octets.specs.Octets.{largestOf}
+use Rattle.octets.specs.Marks.{largest-each}
+use Rattle.answer.specs.declared.Answer.the-variants as Answer
+use Rattle.answer.specs.declared.Heard.{Heard}
+use Rattle.counts.specs.Counted.{within}
+use Rattle.group.specs.declared.Segment.{Segment as Carried}
+use Rattle.group.specs.declared.Reading.{Reading}
+use Rattle.group.specs.declared.Reading.the-variants.{Read, Refused}
+use Rattle.group.specs.Reading.{readingOf}
+use Rattle.cut.specs.Requirement.{limitMost, Segment}
+use Rattle.cut.specs.LawsDecision.{true-both}
+use Rattle.gathering.specs.declared.Slot.{Slot}
+use Rattle.gathering.specs.declared.Stage.{Stage}
+use Rattle.gathering.specs.declared.Stage.the-variants as Stage
+use Rattle.gathering.specs.declared.Outcome.{Outcome}
+use Rattle.gathering.specs.declared.Outcome.the-variants.{Stored, Complete, Repeat, Conflict}
+use Rattle.gathering.specs.Take.{Lent, takeInto}
+use Rattle.gathering.specs.Shape.{IsLent}
+use Rattle.gathering.specs.State.{Sound}
+use Rattle.gathering.specs.StateExact.{sound-exactly}
+use Rattle.slots.specs.declared.Found.{Found}
+use Rattle.slots.specs.declared.Found.the-variants.{Nothing, At}
+use Rattle.slots.specs.Stores.{freshSlot}
+use Rattle.slots.specs.Find.{isFree, holds}
+use Rattle.slots.specs.State.{rightSlot, soundSlots}
+use Rattle.slots.specs.StateTests.{Limits}
+use Rattle.collector.specs.declared.Located.{Located}
+use Rattle.collector.specs.declared.Located.the-variants as Located
+use Rattle.collector.specs.Calls.{soundState, heardAs, segmentIn, answerAs, locatedAs, locatedIn, locate}
+use Rattle.history.specs.Slots.{undamaged-sound}
+use Rattle.history.specs.Call.{State, Reply, taking, dropping, groupAnswer, dropAnswer, sound, limitOf, InUse, slotOf, lentOf, find, Came, alone, full, first, more, group-damaged, unread, came, drop-damaged, none-dropped, found-dropped}
+use Rattle.history.specs.Counts.{Low, low-within}
+use Rattle.history.specs.Ready.{OfBytes, slots-sound, counts-low, slots-right, limit-low, limits-lent, used-inside, used-lent, found-used}
+
+-- a state that is not damaged
+pub record InOrder (s : State) : Type 0 where
+  -- the lent lengths are right, and the limit and the number of slots are within their bounds
+  pub limits : Limits (limitOf s) (s .collector .count) (length (s .stores .header)) (length (s .stores .body)) (length (s .stores .marks))
+  -- no two slots hold one number
+  pub once : (number i j : ℕ) → InUse i s → InUse j s → holds number (slotOf i s) ≡ true → holds number (slotOf j s) ≡ true → i ≡ j
+  -- no mark is set in a free slot
+  pub unmarked : (i : ℕ) → InUse i s → isFree (slotOf i s) ≡ true → (n : ℕ) → getD (lentOf i s .marks) n 0 ≡ 0
+  -- the marks of a held slot are 0 or 1 and one is set; its marked segments, with their recorded lengths and stored bytes,
+  -- fit some object and cut; and its record and stage are those that these segments give
+  pub held : (i : ℕ) → InUse i s → isFree (slotOf i s) ≡ false → Sound (limitOf s) (slotOf i s) (lentOf i s)
+  -- no count lies outside 0 to 2147483647
+  pub counts : Low (s .counts)
+
+-- ---- the test of a state is this list
+
+module _ (limit : ℕ) (slot : Slot) (lent : Lent) (z : limit ≤ limitMost) (l : IsLent limit lent) where
+  right-free : isFree slot ≡ true → (rightSlot limit slot lent ≡ true) ↔ ((n : ℕ) → getD (lent .marks) n 0 ≡ 0)
+  unfolding rightSlot
+  right-free f = rw f (
+    (λ e n. none (getD (lent .marks) n 0) (largest-each (lent .marks) 0 .0 (omega (arith, eqb-true (largestOf (lent .marks)) 0 e)) n)),
+    (λ u. eq-eqb (largestOf (lent .marks)) 0 (none (largestOf (lent .marks)) (largest-each (lent .marks) 0 .1 (λ n. omega (arith, u n))))),
+  )
+    where
+      none : (x : ℕ) → x ≤ 0 → x ≡ 0
+      none x h = omega arith
+
+  right-held : isFree slot ≡ false → (rightSlot limit slot lent ≡ true) ↔ Sound limit slot lent
+  unfolding rightSlot
+  right-held f = rw f (sound-exactly limit slot lent z l)
+
+pub in-order-exactly : (s : State) → OfBytes (s .stores) → (sound s ≡ true) ↔ InOrder s
+unfolding soundState
+in-order-exactly s b = (there, back)
+  where
+    there : sound s ≡ true → InOrder s
+    there good = record {
+      limits = slots-right s good .limits;
+      once = slots-right s good .once;
+      unmarked = λ i u f. right-free (limitOf s) (slotOf i s) (lentOf i s) (limit-low s good) (used-lent s good i u b) f .0 (slots-right s good .right i u);
+      held = λ i u f. right-held (limitOf s) (slotOf i s) (lentOf i s) (limit-low s good) (used-lent s good i u b) f .0 (slots-right s good .right i u);
+      counts = counts-low s good;
+    }
+
+    back : InOrder s → sound s ≡ true
+    back w =
+        true-both (soundSlots (limitOf s) (s .collector .count) (s .collector .slots) (s .stores)) (within (s .counts))
+        (undamaged-sound (limitOf s) (s .collector .count) (s .collector .slots) (s .stores) (record { limits = w .limits; once = w .once; right = λ i u. right i u (isFree (slotOf i s)) refl }))
+        (low-within (s .counts) (w .counts))
+      where
+        right : (i : ℕ) → InUse i s → (b : Bool) → isFree (slotOf i s) ≡ b → rightSlot (limitOf s) (slotOf i s) (lentOf i s) ≡ true
+        right i u true f = right-free (limitOf s) (slotOf i s) (lentOf i s) (w .limits .most) (limits-lent s i (w .limits) u b) f .1 (w .unmarked i u f)
+        right i u false f = right-held (limitOf s) (slotOf i s) (lentOf i s) (w .limits .most) (limits-lent s i (w .limits) u b) f .1 (w .held i u f)
+
+-- ---- a state that passes the test is not answered with STATE
+
+named-never : (o : Outcome) (heard : Heard) → answerAs o heard ≢ Answer.State
+named-never Stored heard e = let z : _≡_ {A = ℕ} 0 1 = cc in absurd (omega arith)
+named-never Complete heard e = let z : _≡_ {A = ℕ} 0 1 = cc in absurd (omega arith)
+named-never Repeat heard e = let z : _≡_ {A = ℕ} 0 1 = cc in absurd (omega arith)
+named-never Conflict heard e = let z : _≡_ {A = ℕ} 0 1 = cc in absurd (omega arith)
+
+came-never : (carried : Carried) (segment : Segment) (s : State) (t : Reply) → Came carried segment s t → t .answer ≢ Answer.State
+came-never carried segment s t (alone n a e) d = let z : _≡_ {A = ℕ} 0 1 = cc in absurd (omega arith)
+came-never carried segment s t (full n a f e) d = let z : _≡_ {A = ℕ} 0 1 = cc in absurd (omega arith)
+came-never carried segment s t (first i n a f e) d = named-never (takeInto (carried .part) (limitOf s) segment (freshSlot (carried .number)) (lentOf i s) .outcome) (heardAs carried) (rw e at d)
+came-never carried segment s t (more i n e) d = named-never (takeInto (carried .part) (limitOf s) segment (slotOf i s) (lentOf i s) .outcome) (heardAs carried) (rw e at d)
+
+pub group-never : (group : List ℕ) (s : State) → sound s ≡ true → groupAnswer group s ≢ Answer.State
+group-never group s good = go (readingOf group) refl
+  where
+    go : (reading : Reading) → readingOf group ≡ reading → taking group s .answer ≢ Answer.State
+    go (Refused why) e d = let f = unread group s good why e in let z : _≡_ {A = ℕ} 0 1 = cc in absurd (omega arith)
+    go (Read carried) e d = came-never carried (segmentIn group carried) s (taking group s) (came group s good carried e) d
+
+pub drop-never : (number : ℕ) (s : State) → sound s ≡ true → dropAnswer number s ≢ Answer.State
+drop-never number s good = go (find number s) refl
+  where
+    go : (found : Found) → find number s ≡ found → dropping number s .answer ≢ Answer.State
+    go Nothing e d = let f = none-dropped number s good e in let z : _≡_ {A = ℕ} 0 1 = cc in absurd (omega arith)
+    go (At i) e d = let f = found-dropped number s good i (used-inside s good i (found-used s good number i e)) e in let z : _≡_ {A = ℕ} 0 1 = cc in absurd (omega arith)
+
+pub question-never : (number : ℕ) (s : State) → sound s ≡ true → locate number (s .collector) (s .stores) ≢ Located.Refused Answer.State
+unfolding locate
+question-never number s good d = asked (find number s) (rw (slots-sound s good) at d)
+  where
+    staged : (stage : Stage) (i : ℕ) → locatedAs stage i ≢ Located.Refused Answer.State
+    staged Stage.Free i e = let z : _≡_ {A = ℕ} 0 1 = cc in absurd (omega arith)
+    staged Stage.Gathering i e = let z : _≡_ {A = ℕ} 0 1 = cc in absurd (omega arith)
+    staged (Stage.Finished header body) i e = let z : _≡_ {A = ℕ} 0 1 = cc in absurd (omega arith)
+
+    asked : (found : Found) → locatedIn found (s .collector) ≢ Located.Refused Answer.State
+    asked Nothing e = let z : _≡_ {A = ℕ} 0 1 = cc in absurd (omega arith)
+    asked (At i) e = staged (slotOf i s .stage) i e
+
+-- ---- STATE exactly when the state is damaged
+
+tested : (s : State) (b : Bool) → sound s ≡ b → OfBytes (s .stores) → ¬ (InOrder s) → sound s ≡ false
+tested s false e y n = e
+tested s true e y n = absurd (n (in-order-exactly s y .0 e))
+
+pub group-state : (group : List ℕ) (s : State) → OfBytes (s .stores) → (groupAnswer group s ≡ Answer.State) ↔ (¬ (InOrder s))
+group-state group s y = (
+  (λ e w. group-never group s (in-order-exactly s y .1 w) e),
+  (λ n. ap (λ (t : Reply). t .answer) (group-damaged group s (tested s (sound s) refl y n))),
+)
+
+pub drop-state : (number : ℕ) (s : State) → OfBytes (s .stores) → (dropAnswer number s ≡ Answer.State) ↔ (¬ (InOrder s))
+drop-state number s y = (
+  (λ e w. drop-never number s (in-order-exactly s y .1 w) e),
+  (λ n. ap (λ (t : Reply). t .answer) (drop-damaged number s (tested s (sound s) refl y n))),
+)
