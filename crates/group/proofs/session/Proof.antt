@@ -14,11 +14,11 @@ shared-slice-read-flags c = search needs
 
 returns : tie.Need-returns
 unfolding sessionOf
-returns c = simp (eq-eqb _ _ (c .if1 .taken))
+returns c = rw (eq-eqb _ _ (c .if1 .taken))
 
 returns-2 : tie.Need-returns-2
 unfolding sessionOf
-returns-2 c = simp (ne-eqb _ _ (c .before .if1 .left), eq-eqb _ _ (c .if2 .taken))
+returns-2 c = rw (ne-eqb _ _ (c .before .if1 .left), eq-eqb _ _ (c .if2 .taken))
 
 sub-end : tie.Need-sub-end
 sub-end c = search needs
@@ -40,7 +40,7 @@ add-if3 c = omega (arith, c .before .before .shared-slice-known2 .given 0)
 
 returns-3 : tie.Need-returns-3
 unfolding sessionOf
-returns-3 c = simp (ne-eqb _ _ (c .before .before .if1 .left), ne-eqb _ _ (c .before .if2 .left), lt-ltb _ _ (c .if3 .taken))
+returns-3 c = rw (ne-eqb _ _ (c .before .before .if1 .left), ne-eqb _ _ (c .before .if2 .left), lt-ltb _ _ (c .if3 .taken))
 
 shared-slice-read-indicator : tie.Need-shared-slice-read-indicator
 shared-slice-read-indicator c = search needs
@@ -53,11 +53,11 @@ shared-slice-read-if4 c = search needs
 
 returns-4 : tie.Need-returns-4
 unfolding sessionOf
-returns-4 c = simp (ne-eqb _ _ (c .before .before .before .before .before .if1 .left), ne-eqb _ _ (c .before .before .before .before .if2 .left), le-ltb _ _ (c .before .before .before .if3 .left), eq-eqb _ _ (c .if4 .taken))
+returns-4 c = rw (ne-eqb _ _ (c .before .before .before .before .before .if1 .left), ne-eqb _ _ (c .before .before .before .before .if2 .left), le-ltb _ _ (c .before .before .before .if3 .left), eq-eqb _ _ (c .if4 .taken))
 
 returns-5 : tie.Need-returns-5
 unfolding sessionOf
-returns-5 c = simp (ne-eqb _ _ (c .before .before .before .before .before .before .if1 .left), ne-eqb _ _ (c .before .before .before .before .before .if2 .left), le-ltb _ _ (c .before .before .before .before .if3 .left), ne-eqb _ _ (c .before .if4 .left), lt-ltb _ _ (c .if5 .taken))
+returns-5 c = rw (ne-eqb _ _ (c .before .before .before .before .before .before .if1 .left), ne-eqb _ _ (c .before .before .before .before .before .if2 .left), le-ltb _ _ (c .before .before .before .before .if3 .left), ne-eqb _ _ (c .before .if4 .left), lt-ltb _ _ (c .if5 .taken))
 
 add-start : tie.Need-add-start
 add-start c = search needs
@@ -70,7 +70,7 @@ add-start-3 c = search needs
 
 returns-6 : tie.Need-returns-6
 unfolding sessionOf
-returns-6 c = simp (ne-eqb _ _ (c .before .before .before .before .before .before .before .if1 .left), ne-eqb _ _ (c .before .before .before .before .before .before .if2 .left), le-ltb _ _ (c .before .before .before .before .before .if3 .left), ne-eqb _ _ (c .before .before .if4 .left), le-ltb _ _ (c .before .if5 .left), lt-ltb _ _ (c .if6 .taken))
+returns-6 c = rw (ne-eqb _ _ (c .before .before .before .before .before .before .before .if1 .left), ne-eqb _ _ (c .before .before .before .before .before .before .if2 .left), le-ltb _ _ (c .before .before .before .before .before .if3 .left), ne-eqb _ _ (c .before .before .if4 .left), le-ltb _ _ (c .before .if5 .left), lt-ltb _ _ (c .if6 .taken))
 
 add-word-at : tie.Need-add-word-at
 add-word-at c = search needs
@@ -94,7 +94,7 @@ returns-7 : tie.Need-returns-7
 unfolding sessionOf
 returns-7 c =
     let wrong = rw (c .before .before .before .word-at .ensures, c .before .before .word-at2 .ensures) at (sym (c .before .size-wrong .ensures) ∙ c .if7 .taken) in
-    simp (ne-eqb _ _ (c .before .before .before .before .before .before .before .before .before .before .before .if1 .left), ne-eqb _ _ (c .before .before .before .before .before .before .before .before .before .before .if2 .left), le-ltb _ _ (c .before .before .before .before .before .before .before .before .before .if3 .left), ne-eqb _ _ (c .before .before .before .before .before .before .if4 .left), le-ltb _ _ (c .before .before .before .before .before .if5 .left), le-ltb _ _ (c .before .before .before .before .if6 .left), wrong)
+    rw (ne-eqb _ _ (c .before .before .before .before .before .before .before .before .before .before .before .if1 .left), ne-eqb _ _ (c .before .before .before .before .before .before .before .before .before .before .if2 .left), le-ltb _ _ (c .before .before .before .before .before .before .before .before .before .if3 .left), ne-eqb _ _ (c .before .before .before .before .before .before .if4 .left), le-ltb _ _ (c .before .before .before .before .before .if5 .left), le-ltb _ _ (c .before .before .before .before .if6 .left), wrong)
 
 add-word-at-3 : tie.Need-add-word-at-3
 add-word-at-3 c = search needs
@@ -111,7 +111,7 @@ returns-8 c =
     let size = c .before .before .before .before .before .word-at .ensures in
     let last = c .before .before .before .before .word-at2 .ensures in
     let right = rw (size, last) at (sym (c .before .before .before .size-wrong .ensures) ∙ c .before .before .if7 .left) in
-    simp (ne-eqb _ _ (c .before .before .before .before .before .before .before .before .before .before .before .before .before .if1 .left), ne-eqb _ _ (c .before .before .before .before .before .before .before .before .before .before .before .before .if2 .left), le-ltb _ _ (c .before .before .before .before .before .before .before .before .before .before .before .if3 .left), ne-eqb _ _ (c .before .before .before .before .before .before .before .before .if4 .left), le-ltb _ _ (c .before .before .before .before .before .before .before .if5 .left), le-ltb _ _ (c .before .before .before .before .before .before .if6 .left), right, size, last, c .before .word-at3 .ensures, c .word-at4 .ensures)
+    rw (ne-eqb _ _ (c .before .before .before .before .before .before .before .before .before .before .before .before .before .if1 .left), ne-eqb _ _ (c .before .before .before .before .before .before .before .before .before .before .before .before .if2 .left), le-ltb _ _ (c .before .before .before .before .before .before .before .before .before .before .before .if3 .left), ne-eqb _ _ (c .before .before .before .before .before .before .before .before .if4 .left), le-ltb _ _ (c .before .before .before .before .before .before .before .if5 .left), le-ltb _ _ (c .before .before .before .before .before .before .if6 .left), right, size, last, c .before .word-at3 .ensures, c .word-at4 .ensures)
 
 pub session-spec : {M : Type 1} → statement M
 session-spec =
