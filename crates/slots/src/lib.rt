@@ -174,11 +174,11 @@ fn part_alone(bounds: Bounds, last: bool, number: usize, count: usize) -> bool
     requires { ⌜ number < 32768 ⌝ }
     ensures { λ r. ⌜ r ≡ acceptsIn last number bounds (addPart last number count noRecord) [] ⌝ }
 {
-    let kept = cut::add(last, number, count, no_record());
+    let kept = kept::add(last, number, count, no_record());
     if last {
-        return cut::alone(bounds, kept);
+        return fitting::alone(bounds, kept);
     }
-    number < cut::room(bounds, kept)
+    number < fitting::room(bounds, kept)
 }
 
 fn other_part(part: Part) -> Part
@@ -198,14 +198,19 @@ pub fn fits_alone(part: Part, limit: usize, last: bool, number: usize, bytes: &[
         return false;
     }
     let core = core_said(part, number, bytes);
-    if !cut::core_fits(limit, core) {
+    if !fitting::core_fits(limit, core) {
         return false;
     }
-    if !part_alone(cut::bounds_of(part, limit, core), last, number, bytes.len()) {
+    if !part_alone(
+        fitting::bounds_of(part, limit, core),
+        last,
+        number,
+        bytes.len(),
+    ) {
         return false;
     }
     let other = other_part(part);
-    cut::alone(cut::bounds_of(other, limit, core), no_record())
+    fitting::alone(fitting::bounds_of(other, limit, core), no_record())
 }
 
 // Whether the limit and the number of slots are within their bounds, and each lent length is the one that they give.
