@@ -81,7 +81,7 @@ fn kept_with(piece: Piece, kept: Record) -> Record
     ensures { λ r. ⌜ r ≡ keptWith piece kept ⌝ }
 {
     if is_there(piece) {
-        return cut::add(piece.last, piece.number, piece.length, kept);
+        return kept::add(piece.last, piece.number, piece.length, kept);
     }
     kept
 }
@@ -105,7 +105,7 @@ fn goes_with(piece: Piece, top: usize, kept: Record) -> bool
     ensures { λ r. ⌜ r ≡ goesWith piece top kept ⌝ }
 {
     if is_there(piece) {
-        return cut::joins(0 < top, piece.last, piece.length, kept);
+        return kept::joins(0 < top, piece.last, piece.length, kept);
     }
     true
 }
@@ -159,7 +159,7 @@ fn case(limit: usize, core: Core, header: Piece, first: Piece, second: Piece) {
     let count = count_of(first) + count_of(second);
     if goes_with(second, top, held) {
         say_verdict(
-            cut::suits(
+            fitting::suits(
                 limit,
                 core,
                 top_with(header, 0),
@@ -167,7 +167,7 @@ fn case(limit: usize, core: Core, header: Piece, first: Piece, second: Piece) {
                 top_with(second, top),
                 b,
             ),
-            cut::finished(core, count_of(header), h, count, b),
+            kept::finished(core, count_of(header), h, count, b),
         );
     } else {
         say_verdict(false, false);

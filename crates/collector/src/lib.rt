@@ -110,14 +110,35 @@ fn refusal_of(reading: Reading) -> Refusal
 }
 
 impl Collector {
+    // Document 01, "Numbers that bound it".
+    pub const GROUP_LEAST: usize = 2;
+
+    pub const GROUP_MOST: usize = 8215;
+
+    pub const SEGMENT_LEAST: usize = 1;
+
+    pub const SEGMENT_MOST: usize = 8189;
+
+    // Of a segment that is not the last.
+    pub const FULL_LEAST: usize = 16;
+
+    pub const HEADER_LEAST: usize = 7;
+
     pub const HEADER_MOST: usize = 1024;
 
     pub const LIMIT_LEAST: usize = 1024;
 
     pub const LIMIT_MOST: usize = 1048576;
 
+    pub const HEADER_NUMBERS: usize = 64;
+
+    pub const BODY_NUMBERS: usize = 1024;
+
+    pub const SLOTS_LEAST: usize = 1;
+
     pub const SLOTS_MOST: usize = 16;
 
+    // Marks of a slot: one for each number of the header and of the body.
     pub const SLOT_MARKS: usize = 1088;
 
     // Opens a collector over lent memory, by value: all marks and counts are 0. Outside the bounds,

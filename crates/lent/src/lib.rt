@@ -21,9 +21,9 @@ pub fn open(
 ) -> Opened
     ensures { λ r. ⌜ record { opening = r .opening; collector = r .collector; counts = now (counts .exit); marks = now (marks .exit) } ≡ openedBy limit count (now (counts .entry)) (record { header = now (header .entry); body = now (body .entry); marks = now (marks .entry) }) ⌝ }
 {
-    let t = Collector::opened(limit, count, *counts, header, body, marks);
-    *counts = t.counts;
-    t.opened
+    let opened = Collector::opened(limit, count, *counts, header, body, marks);
+    *counts = opened.counts;
+    opened.opened
 }
 
 // Takes a group: what comes of it is answered, and counted where the counts stand.
@@ -37,9 +37,9 @@ pub fn take(
 ) -> Answered
     ensures { λ r. ⌜ record { answer = r .answer; collector = r .collector; counts = now (counts .exit); stores = record { header = now (header .exit); body = now (body .exit); marks = now (marks .exit) } } ≡ takeGroup (now (group .entry)) collector (now (counts .entry)) (record { header = now (header .entry); body = now (body .entry); marks = now (marks .entry) }) ⌝ }
 {
-    let t = collector.taken(*counts, group, header, body, marks);
-    *counts = t.counts;
-    t.answered
+    let taken = collector.taken(*counts, group, header, body, marks);
+    *counts = taken.counts;
+    taken.answered
 }
 
 // Drops a number: what comes of it is answered, and counted where the counts stand.
@@ -53,7 +53,7 @@ pub fn drop(
 ) -> Answered
     ensures { λ r. ⌜ record { answer = r .answer; collector = r .collector; counts = now (counts .exit); stores = record { header = now (header .entry); body = now (body .entry); marks = now (marks .exit) } } ≡ dropNumber number collector (now (counts .entry)) (record { header = now (header .entry); body = now (body .entry); marks = now (marks .entry) }) ⌝ }
 {
-    let t = collector.dropped(*counts, number, header, body, marks);
-    *counts = t.counts;
-    t.answered
+    let dropped = collector.dropped(*counts, number, header, body, marks);
+    *counts = dropped.counts;
+    dropped.answered
 }

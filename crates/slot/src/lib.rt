@@ -95,9 +95,9 @@ fn possible_in(bounds: Bounds, kept: Record, marks: &[u8]) -> bool
 {
     let ends = ended(kept);
     if sum_from(marks, 0) == ends {
-        return cut::alone(bounds, kept);
+        return fitting::alone(bounds, kept);
     }
-    let room = cut::room(bounds, kept);
+    let room = fitting::room(bounds, kept);
     sum_from(marks, room) == ends
 }
 
@@ -105,10 +105,10 @@ fn accepts_in(last: bool, number: usize, bounds: Bounds, kept: Record, marks: &[
     requires { ⌜ (length (now marks) ≡ bounds .numbers) × (bounds .numbers ≤ 1024) ⌝ }
     ensures { λ r. ⌜ r ≡ acceptsIn last number bounds kept (now (marks .entry)) ⌝ }
 {
-    let room = cut::room(bounds, kept);
+    let room = fitting::room(bounds, kept);
     if last {
         if sum_from(marks, 0) == 0 {
-            return cut::alone(bounds, kept);
+            return fitting::alone(bounds, kept);
         }
         return sum_from(marks, room) == 0;
     }
@@ -134,19 +134,25 @@ fn takes(
 {
     let kept = kept_of(part, slot);
     let mine = marks_of(part, marks);
-    if !cut::joins(full_in(kept, mine), last, count, kept) {
+    if !kept::joins(full_in(kept, mine), last, count, kept) {
         return false;
     }
-    if !cut::core_fits(limit, core) {
+    if !fitting::core_fits(limit, core) {
         return false;
     }
-    let with = cut::add(last, number, count, kept);
-    if !accepts_in(last, number, cut::bounds_of(part, limit, core), with, mine) {
+    let with = kept::add(last, number, count, kept);
+    if !accepts_in(
+        last,
+        number,
+        fitting::bounds_of(part, limit, core),
+        with,
+        mine,
+    ) {
         return false;
     }
     let other = other_part(part);
     possible_in(
-        cut::bounds_of(other, limit, core),
+        fitting::bounds_of(other, limit, core),
         kept_of(other, slot),
         marks_of(other, marks),
     )
@@ -167,12 +173,12 @@ fn record_as(
     ensures { λ r. ⌜ r ≡ recordAs part limit core slot (now (marks .entry)) last number count ⌝ }
 {
     let kept = kept_of(part, slot);
-    let bounds = cut::bounds_of(part, limit, core);
-    let with = cut::add(last, number, count, kept);
+    let bounds = fitting::bounds_of(part, limit, core);
+    let with = kept::add(last, number, count, kept);
     if last {
-        return cut::settle(bounds, full_in(kept, marks_of(part, marks)), with);
+        return kept::settle(bounds, full_in(kept, marks_of(part, marks)), with);
     }
-    cut::settle(bounds, true, with)
+    kept::settle(bounds, true, with)
 }
 
 // The record of a part that gets no segment, within bounds that may have met.
@@ -181,8 +187,8 @@ fn record_still(part: Part, limit: usize, core: Core, slot: Slot, marks: &[u8]) 
     ensures { λ r. ⌜ r ≡ recordStill part limit core slot (now (marks .entry)) ⌝ }
 {
     let kept = kept_of(part, slot);
-    cut::settle(
-        cut::bounds_of(part, limit, core),
+    kept::settle(
+        fitting::bounds_of(part, limit, core),
         full_in(kept, marks_of(part, marks)),
         kept,
     )
@@ -242,7 +248,7 @@ fn slot_from(number: u16, header: Record, body: Record, share: &[u8], marks: &[u
     let core = core_from(marks_of(Part::Header, marks), share);
     let headers = sum_from(marks_of(Part::Header, marks), 0) as usize;
     let bodies = sum_from(marks_of(Part::Body, marks), 0) as usize;
-    let stage = stage_by(cut::finished(core, headers, header, bodies, body), core);
+    let stage = stage_by(kept::finished(core, headers, header, bodies, body), core);
     Slot {
         number,
         stage,
@@ -544,7 +550,7 @@ fn record_right(part: Part, limit: usize, core: Core, slot: Slot, marks: &[u8]) 
     if full_in(kept, mine) {
         return true;
     }
-    let settled = cut::settle(cut::bounds_of(part, limit, core), false, kept);
+    let settled = kept::settle(fitting::bounds_of(part, limit, core), false, kept);
     kept.size == settled.size
 }
 
@@ -581,18 +587,18 @@ fn suits_in(limit: usize, core: Core, slot: Slot, marks: &[u8]) -> bool
 {
     let header = slot.header;
     let body = slot.body;
-    if !cut::core_fits(limit, core) {
+    if !fitting::core_fits(limit, core) {
         return false;
     }
     if !possible_in(
-        cut::bounds_of(Part::Header, limit, core),
+        fitting::bounds_of(Part::Header, limit, core),
         header,
         marks_of(Part::Header, marks),
     ) {
         return false;
     }
     possible_in(
-        cut::bounds_of(Part::Body, limit, core),
+        fitting::bounds_of(Part::Body, limit, core),
         body,
         marks_of(Part::Body, marks),
     )

@@ -14,18 +14,18 @@ use slot::Took;
 ghost use mathlib.Core.Path.{_≡_};
 ghost use Prim.Native.Nat.{_+_, _*_, _≤_, _<_};
 ghost use lib.Dec.{leb};
-ghost use lib.ListN.{length, take, drop};
+ghost use lib.ListN.{length, take, drop, set};
 ghost use mathlib.Core.List.{[]};
 ghost use Rattle.cut.specs.Decision.{addPart};
 ghost use Rattle.cut.specs.Sums.{acceptsIn};
 ghost use Rattle.gathering.specs.Take.{takeInto};
 ghost use Rattle.slot.specs.Inner.{otherPart, Offered};
-ghost use Rattle.slots.specs.Stores.{noRecord, freeSlot, lentAt};
+ghost use Rattle.slots.specs.Stores.{noRecord, freeSlot, freshSlot, lentAt, slotAt};
 ghost use Rattle.slots.specs.Find.{isFree, holds, findIn, freeIn, findFrom};
 ghost use Rattle.slots.specs.Alone.{coreAlone, fitsAlone};
 ghost use Rattle.slots.specs.State.{withinLimits, unlike, distinct, rightBy, soundSlots};
 ghost use Rattle.slots.specs.Show.{startOf, shownOf};
-ghost use Rattle.slots.specs.Take.{placedAt, takeAt, takeNew, dropAt, Inside, OfferedAt, OpenAt};
+ghost use Rattle.slots.specs.Take.{placedAt, among, takeAt, takeNew, dropAt, Inside, OfferedAt, OpenAt};
 
 pub const SLOTS_MOST: usize = 16;
 
@@ -54,6 +54,36 @@ pub fn free_slot() -> Slot
     Slot {
         number: 0,
         stage: Stage::Free,
+        header: no_record(),
+        body: no_record(),
+    }
+}
+
+// Slot i.
+fn slot_at(i: usize, slots: [Slot; 16]) -> Slot
+    requires { ⌜ i < 16 ⌝ }
+    ensures { λ r. ⌜ r ≡ slotAt i slots ⌝ }
+{
+    slots[i]
+}
+
+// All the slots, with another one in the place of slot i.
+fn with_slot(i: usize, slot: Slot, slots: [Slot; 16]) -> [Slot; 16]
+    requires { ⌜ i < 16 ⌝ }
+    ensures { λ r. ⌜ r ≡ set slots i slot ⌝ }
+{
+    let mut all = slots;
+    all[i] = slot;
+    all
+}
+
+// A slot that a transport number has just taken.
+fn fresh_slot(transport: u16) -> Slot
+    ensures { λ r. ⌜ r ≡ freshSlot transport ⌝ }
+{
+    Slot {
+        number: transport,
+        stage: Stage::Gathering,
         header: no_record(),
         body: no_record(),
     }
@@ -88,7 +118,7 @@ fn find_from(number: u16, from: usize, count: usize, slots: [Slot; 16]) -> Found
         if SLOTS_MOST <= i {
             return Found::Nothing;
         }
-        let slot = slots[i];
+        let slot = slot_at(i, slots);
         if holds(number, slot) {
             return Found::At(i);
         }
@@ -113,7 +143,7 @@ pub fn free(count: usize, slots: [Slot; 16]) -> Found
         if SLOTS_MOST <= i {
             return Found::Nothing;
         }
-        let slot = slots[i];
+        let slot = slot_at(i, slots);
         if is_free(slot) {
             return Found::At(i);
         }
@@ -144,11 +174,11 @@ fn part_alone(bounds: Bounds, last: bool, number: usize, count: usize) -> bool
     requires { ⌜ number < 32768 ⌝ }
     ensures { λ r. ⌜ r ≡ acceptsIn last number bounds (addPart last number count noRecord) [] ⌝ }
 {
-    let kept = cut::add(last, number, count, no_record());
+    let kept = kept::add(last, number, count, no_record());
     if last {
-        return cut::alone(bounds, kept);
+        return fitting::alone(bounds, kept);
     }
-    number < cut::room(bounds, kept)
+    number < fitting::room(bounds, kept)
 }
 
 fn other_part(part: Part) -> Part
@@ -168,14 +198,19 @@ pub fn fits_alone(part: Part, limit: usize, last: bool, number: usize, bytes: &[
         return false;
     }
     let core = core_said(part, number, bytes);
-    if !cut::core_fits(limit, core) {
+    if !fitting::core_fits(limit, core) {
         return false;
     }
-    if !part_alone(cut::bounds_of(part, limit, core), last, number, bytes.len()) {
+    if !part_alone(
+        fitting::bounds_of(part, limit, core),
+        last,
+        number,
+        bytes.len(),
+    ) {
         return false;
     }
     let other = other_part(part);
-    cut::alone(cut::bounds_of(other, limit, core), no_record())
+    fitting::alone(fitting::bounds_of(other, limit, core), no_record())
 }
 
 // Whether the limit and the number of slots are within their bounds, and each lent length is the one that they give.
@@ -223,7 +258,7 @@ fn all_distinct(count: usize, slots: [Slot; 16]) -> bool
 {
     let mut i = 0;
     while i < count {
-        let slot = slots[i];
+        let slot = slot_at(i, slots);
         if !is_unlike(slot, i + 1, count, slots) {
             return false;
         }
@@ -267,7 +302,7 @@ pub fn sound(
     }
     let mut i = 0;
     while i < count {
-        let slot = slots[i];
+        let slot = slot_at(i, slots);
         if !right_at(limit, i, slot, header, marks) {
             return false;
         }
@@ -282,6 +317,19 @@ pub struct TookAt {
     pub slots: [Slot; 16],
 }
 
+// What a slot has taken, and the slot among the others.
+fn taken_at(i: usize, took: Took, slots: [Slot; 16]) -> TookAt
+    requires { ⌜ i < 16 ⌝ }
+    ensures { λ r. ⌜ (r .outcome ≡ took .outcome) × (r .slots ≡ set slots i (took .slot)) ⌝ }
+{
+    let outcome = took.outcome;
+    let slot = took.slot;
+    TookAt {
+        outcome,
+        slots: with_slot(i, slot, slots),
+    }
+}
+
 // A segment is offered to a slot that stands, or is to stand, at i; its shares are lent to it.
 fn take_into(
     slot: Slot,
@@ -291,13 +339,14 @@ fn take_into(
     last: bool,
     number: usize,
     bytes: &[u8],
+    slots: [Slot; 16],
     header: &mut [u8],
     body: &mut [u8],
     marks: &mut [u8],
-) -> Took
+) -> TookAt
     requires { ⌜ Inside limit i (record { header = now header; body = now body; marks = now marks }) ⌝ }
     requires { ⌜ Offered limit slot (lentAt limit i (record { header = now header; body = now body; marks = now marks })) ⌝ }
-    ensures { λ r. ⌜ record { outcome = r .outcome; slot = r .slot; stores = record { header = now (header .exit); body = now (body .exit); marks = now (marks .exit) } } ≡ placedAt limit i (record { header = now (header .entry); body = now (body .entry); marks = now (marks .entry) }) (takeInto part limit (record { number = number; last = last; bytes = now (bytes .entry) }) slot (lentAt limit i (record { header = now (header .entry); body = now (body .entry); marks = now (marks .entry) }))) ⌝ }
+    ensures { λ r. ⌜ record { outcome = r .outcome; slots = r .slots; stores = record { header = now (header .exit); body = now (body .exit); marks = now (marks .exit) } } ≡ among i slots (placedAt limit i (record { header = now (header .entry); body = now (body .entry); marks = now (marks .entry) }) (takeInto part limit (record { number = number; last = last; bytes = now (bytes .entry) }) slot (lentAt limit i (record { header = now (header .entry); body = now (body .entry); marks = now (marks .entry) })))) ⌝ }
 {
     let header_start = i * cut::HEADER_MOST;
     let header_end = header_start + cut::HEADER_MOST;
@@ -305,7 +354,7 @@ fn take_into(
     let body_end = body_start + limit;
     let marks_start = i * SLOT_MARKS;
     let marks_end = marks_start + SLOT_MARKS;
-    slot::take(
+    let took = slot::take(
         slot,
         limit,
         part,
@@ -315,7 +364,8 @@ fn take_into(
         &mut header[header_start..header_end],
         &mut body[body_start..body_end],
         &mut marks[marks_start..marks_end],
-    )
+    );
+    taken_at(i, took, slots)
 }
 
 // A segment is offered to slot i.
@@ -334,8 +384,8 @@ pub fn take_at(
     requires { ⌜ OfferedAt limit i slots (record { header = now header; body = now body; marks = now marks }) ⌝ }
     ensures { λ r. ⌜ record { outcome = r .outcome; slots = r .slots; stores = record { header = now (header .exit); body = now (body .exit); marks = now (marks .exit) } } ≡ takeAt part limit i (record { number = number; last = last; bytes = now (bytes .entry) }) slots (record { header = now (header .entry); body = now (body .entry); marks = now (marks .entry) }) ⌝ }
 {
-    let old = slots[i];
-    let took = take_into(
+    let old = slot_at(i, slots);
+    take_into(
         old,
         part,
         limit,
@@ -343,18 +393,11 @@ pub fn take_at(
         last,
         number,
         bytes,
+        slots,
         header,
         body,
         marks,
-    );
-    let outcome = took.outcome;
-    let slot = took.slot;
-    let mut all = slots;
-    all[i] = slot;
-    TookAt {
-        outcome,
-        slots: all,
-    }
+    )
 }
 
 // The first segment of a transport number takes the free slot i.
@@ -374,13 +417,8 @@ pub fn take_new(
     requires { ⌜ OpenAt limit i (record { header = now header; body = now body; marks = now marks }) ⌝ }
     ensures { λ r. ⌜ record { outcome = r .outcome; slots = r .slots; stores = record { header = now (header .exit); body = now (body .exit); marks = now (marks .exit) } } ≡ takeNew transport part limit i (record { number = number; last = last; bytes = now (bytes .entry) }) slots (record { header = now (header .entry); body = now (body .entry); marks = now (marks .entry) }) ⌝ }
 {
-    let fresh = Slot {
-        number: transport,
-        stage: Stage::Gathering,
-        header: no_record(),
-        body: no_record(),
-    };
-    let took = take_into(
+    let fresh = fresh_slot(transport);
+    take_into(
         fresh,
         part,
         limit,
@@ -388,18 +426,11 @@ pub fn take_new(
         last,
         number,
         bytes,
+        slots,
         header,
         body,
         marks,
-    );
-    let outcome = took.outcome;
-    let slot = took.slot;
-    let mut all = slots;
-    all[i] = slot;
-    TookAt {
-        outcome,
-        slots: all,
-    }
+    )
 }
 
 // Slot i is dropped: its marks are 0 and it is free; its store bytes stay.
@@ -410,10 +441,7 @@ pub fn drop_at(i: usize, slots: [Slot; 16], marks: &mut [u8]) -> [Slot; 16]
     let start = i * SLOT_MARKS;
     let end = start + SLOT_MARKS;
     octets::clear(&mut marks[start..end]);
-    let slot = free_slot();
-    let mut all = slots;
-    all[i] = slot;
-    all
+    with_slot(i, free_slot(), slots)
 }
 
 // Whether share i starts inside a store of that length, by division: the product could wrap.

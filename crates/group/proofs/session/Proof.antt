@@ -2,23 +2,22 @@
 -- Assumes nothing.
 use mathlib.Core.Path.{sym, _∙_}
 use native.Mathlib.Omega.{arith}
-use borrow.Author.Tests.{eq-eqb, ne-eqb, lt-ltb, le-ltb}
-use Rattle.group.specs.Reading.{segmentOf}
-use Rattle.group.specs.Session.{sessionOf}
+use Rattle.group.proofs.Laws.{no-segment, no-access, access-past, no-transport, address-short, segment-past, size-refused, segment-read}
 use borrow.Author.Needs.{needs}
 use Rattle.group.proofs.session.Statement.{statement}
 use Rattle.group.proofs.session.Tie as tie
+
+abbrev start : tie.Else2 → tie.Start
+start c = c .before .before .before .before
 
 shared-slice-read-flags : tie.Need-shared-slice-read-flags
 shared-slice-read-flags c = search needs
 
 returns : tie.Need-returns
-unfolding sessionOf
-returns c = simp (eq-eqb _ _ (c .if1 .taken))
+returns c = let s = c .before .before .before in no-segment (s .args .group .now) (s .args .part) (c .if1 .taken)
 
 returns-2 : tie.Need-returns-2
-unfolding sessionOf
-returns-2 c = simp (ne-eqb _ _ (c .before .if1 .left), eq-eqb _ _ (c .if2 .taken))
+returns-2 c = let s = c .before .before .before .before in no-access (s .args .group .now) (s .args .part) (c .before .if1 .left) (c .if2 .taken)
 
 sub-end : tie.Need-sub-end
 sub-end c = search needs
@@ -39,8 +38,7 @@ add-if3 : tie.Need-add-if3
 add-if3 c = omega (arith, c .before .before .shared-slice-known2 .given 0)
 
 returns-3 : tie.Need-returns-3
-unfolding sessionOf
-returns-3 c = simp (ne-eqb _ _ (c .before .before .if1 .left), ne-eqb _ _ (c .before .if2 .left), lt-ltb _ _ (c .if3 .taken))
+returns-3 c = let s = start (c .before) in access-past (s .args .group .now) (s .args .part) (c .before .before .if1 .left) (c .before .if2 .left) (c .if3 .taken)
 
 shared-slice-read-indicator : tie.Need-shared-slice-read-indicator
 shared-slice-read-indicator c = search needs
@@ -52,66 +50,78 @@ shared-slice-read-if4 : tie.Need-shared-slice-read-if4
 shared-slice-read-if4 c = search needs
 
 returns-4 : tie.Need-returns-4
-unfolding sessionOf
-returns-4 c = simp (ne-eqb _ _ (c .before .before .before .before .before .if1 .left), ne-eqb _ _ (c .before .before .before .before .if2 .left), le-ltb _ _ (c .before .before .before .if3 .left), eq-eqb _ _ (c .if4 .taken))
+returns-4 c =
+    let e = c .before .before .before in
+    let s = start (e .before) in
+    no-transport (s .args .group .now) (s .args .part) (e .before .before .if1 .left) (e .before .if2 .left) (e .if3 .left) (c .if4 .taken)
 
 returns-5 : tie.Need-returns-5
-unfolding sessionOf
-returns-5 c = simp (ne-eqb _ _ (c .before .before .before .before .before .before .if1 .left), ne-eqb _ _ (c .before .before .before .before .before .if2 .left), le-ltb _ _ (c .before .before .before .before .if3 .left), ne-eqb _ _ (c .before .if4 .left), lt-ltb _ _ (c .if5 .taken))
+returns-5 c =
+    let e = c .before .before .before .before in
+    let s = start (e .before) in
+    address-short (s .args .group .now) (s .args .part) (e .before .before .if1 .left) (e .before .if2 .left) (e .if3 .left) (c .before .if4 .left) (c .if5 .taken)
 
 add-start : tie.Need-add-start
-add-start c = search needs
+add-start c = omega arith
 
 add-start-2 : tie.Need-add-start-2
-add-start-2 c = search needs
+add-start-2 c = omega arith
 
 add-start-3 : tie.Need-add-start-3
-add-start-3 c = search needs
+add-start-3 c = omega arith
 
 returns-6 : tie.Need-returns-6
-unfolding sessionOf
-returns-6 c = simp (ne-eqb _ _ (c .before .before .before .before .before .before .before .if1 .left), ne-eqb _ _ (c .before .before .before .before .before .before .if2 .left), le-ltb _ _ (c .before .before .before .before .before .if3 .left), ne-eqb _ _ (c .before .before .if4 .left), le-ltb _ _ (c .before .if5 .left), lt-ltb _ _ (c .if6 .taken))
+returns-6 c =
+    let e = c .before .before .before .before .before in
+    let s = start (e .before) in
+    segment-past (s .args .group .now) (s .args .part) (e .before .before .if1 .left) (e .before .if2 .left) (e .if3 .left) (c .before .before .if4 .left) (c .before .if5 .left) (c .if6 .taken)
 
 add-word-at : tie.Need-add-word-at
-add-word-at c = search needs
+add-word-at c = omega arith
 
 add-word-at-2 : tie.Need-add-word-at-2
-add-word-at-2 c = search needs
+add-word-at-2 c = omega arith
 
 word-at-requires : tie.Need-word-at-requires
-word-at-requires c κs = search needs
+word-at-requires c κs = omega arith
 
 cast-size : tie.Need-cast-size
-cast-size c = search needs
+cast-size c = omega arith
 
 word-at-requires-2 : tie.Need-word-at-requires-2
-word-at-requires-2 c κs = search needs
+word-at-requires-2 c κs = omega arith
 
 size-wrong-requires : tie.Need-size-wrong-requires
 size-wrong-requires c κs = search needs
 
 returns-7 : tie.Need-returns-7
-unfolding sessionOf
 returns-7 c =
-    let wrong = rw (c .before .before .before .word-at .ensures, c .before .before .word-at2 .ensures) at (sym (c .before .size-wrong .ensures) ∙ c .if7 .taken) in
-    simp (ne-eqb _ _ (c .before .before .before .before .before .before .before .before .before .before .before .if1 .left), ne-eqb _ _ (c .before .before .before .before .before .before .before .before .before .before .if2 .left), le-ltb _ _ (c .before .before .before .before .before .before .before .before .before .if3 .left), ne-eqb _ _ (c .before .before .before .before .before .before .if4 .left), le-ltb _ _ (c .before .before .before .before .before .if5 .left), le-ltb _ _ (c .before .before .before .before .if6 .left), wrong)
+    let w = c .before .before in
+    let f = w .before .before in
+    let e = f .before .before .before .before .before in
+    let s = start (e .before) in
+    size-refused (s .args .group .now) (s .args .part) (e .before .before .if1 .left) (e .before .if2 .left) (e .if3 .left) (f .before .before .if4 .left) (f .before .if5 .left) (f .if6 .left)
+    (w .before .word-at .result) (w .word-at2 .result) (w .before .word-at .ensures) (w .word-at2 .ensures) (sym (c .before .size-wrong .ensures) ∙ c .if7 .taken)
 
 add-word-at-3 : tie.Need-add-word-at-3
-add-word-at-3 c = search needs
+add-word-at-3 c = omega arith
 
 word-at-requires-3 : tie.Need-word-at-requires-3
-word-at-requires-3 c κs = search needs
+word-at-requires-3 c κs = omega arith
 
 word-at-requires-4 : tie.Need-word-at-requires-4
-word-at-requires-4 c κs = search needs
+word-at-requires-4 c κs = omega arith
 
 returns-8 : tie.Need-returns-8
-unfolding sessionOf segmentOf
 returns-8 c =
-    let size = c .before .before .before .before .before .word-at .ensures in
-    let last = c .before .before .before .before .word-at2 .ensures in
-    let right = rw (size, last) at (sym (c .before .before .before .size-wrong .ensures) ∙ c .before .before .if7 .left) in
-    simp (ne-eqb _ _ (c .before .before .before .before .before .before .before .before .before .before .before .before .before .if1 .left), ne-eqb _ _ (c .before .before .before .before .before .before .before .before .before .before .before .before .if2 .left), le-ltb _ _ (c .before .before .before .before .before .before .before .before .before .before .before .if3 .left), ne-eqb _ _ (c .before .before .before .before .before .before .before .before .if4 .left), le-ltb _ _ (c .before .before .before .before .before .before .before .if5 .left), le-ltb _ _ (c .before .before .before .before .before .before .if6 .left), right, size, last, c .before .word-at3 .ensures, c .word-at4 .ensures)
+    let r = c .before .before in
+    let w = r .before .before in
+    let f = w .before .before in
+    let e = f .before .before .before .before .before in
+    let s = start (e .before) in
+    segment-read (s .args .group .now) (s .args .part) (e .before .before .if1 .left) (e .before .if2 .left) (e .if3 .left) (f .before .before .if4 .left) (f .before .if5 .left) (f .if6 .left)
+    (w .before .word-at .result) (w .word-at2 .result) (w .before .word-at .ensures) (w .word-at2 .ensures)
+    (c .before .word-at3 .result) (c .word-at4 .result) (sym (r .before .size-wrong .ensures) ∙ r .if7 .left) (c .before .word-at3 .ensures) (c .word-at4 .ensures)
 
 pub session-spec : {M : Type 1} → statement M
 session-spec =

@@ -3,7 +3,6 @@
 use Prim.Native.Nat.{_-_}
 use mathlib.Core.Path.{_≡_, refl, sym, _∙_}
 use native.Mathlib.Omega.{arith}
-use Rattle.slots.specs.Stores.{freeSlot}
 use lib.ListN.{length, take, drop, length-take}
 use Rattle.slots.proofs.Laws.{first-none, first-here, first-on}
 use Rattle.slots.specs.Find.{holds, firstFrom, findFrom}
@@ -17,7 +16,7 @@ Inv-loop number from count slots i₀ i = findFrom number from count slots ≡ f
 abbrev μ-loop : tie.MeasureT-loop
 μ-loop number from count slots i₀ i = count - i
 
-sixteen : (s : tie.Start Inv-loop μ-loop) → length (s .args .t4) ≡ 16
+sixteen : (s : tie.Start Inv-loop μ-loop) → length (s .args .slots) ≡ 16
 sixteen s = s .good .1 .1 .1 .0 .1 .0 .1
 
 loop-holds : tie.Need-loop-holds Inv-loop μ-loop
@@ -25,23 +24,19 @@ unfolding findFrom
 loop-holds c = refl
 
 returns : tie.Need-returns Inv-loop μ-loop
-returns c = sym (c .before .before .loop .inv ∙ first-none (holds (c .before .before .before .args .number)) (c .before .before .before .args .t4) (c .before .before .before .args .count) (c .before .before .loop .i) (rw length-take (omega (arith, sixteen (c .before .before .before)))))
+returns c = sym (c .before .before .loop .inv ∙ first-none (holds (c .before .before .before .args .number)) (c .before .before .before .args .slots) (c .before .before .before .args .count) (c .before .before .loop .i) (rw length-take (omega (arith, sixteen (c .before .before .before)))))
 
-mul-slot : tie.Need-mul-slot Inv-loop μ-loop
-mul-slot c = search needs
-
-array-copy-out-slot : tie.Need-array-copy-out-slot Inv-loop μ-loop
-array-copy-out-slot c = search needs
+slot-at-requires : tie.Need-slot-at-requires Inv-loop μ-loop
+slot-at-requires c κs = omega arith
 
 holds-requires : tie.Need-holds-requires Inv-loop μ-loop
 holds-requires c κs = search needs
 
 returns-2 : tie.Need-returns-2 Inv-loop μ-loop
-unfolding freeSlot
 returns-2 c =
     let s = c .before .before .before .before in
     let a = s .before .before .args in
-    sym (s .before .loop .inv ∙ first-here (holds (a .number)) (a .t4) (a .count) (s .before .loop .i) (omega arith) (omega (arith, sixteen (s .before .before))) (sym (c .before .holds .ensures) ∙ c .if2 .taken))
+    sym (s .before .loop .inv ∙ first-here (holds (a .number)) (a .slots) (a .count) (s .before .loop .i) (omega arith) (omega (arith, sixteen (s .before .before))) (c .before .before .slot-at .result) (c .before .before .slot-at .ensures) (sym (c .before .holds .ensures) ∙ c .if2 .taken))
 
 add-i : tie.Need-add-i Inv-loop μ-loop
 add-i c = search needs
@@ -50,16 +45,15 @@ loop-less : tie.Need-loop-less Inv-loop μ-loop
 loop-less c = search needs
 
 loop-again : tie.Need-loop-again Inv-loop μ-loop
-unfolding freeSlot
 loop-again c =
     let s = c .before .before .before .before in
     let a = s .before .before .args in
-    s .before .loop .inv ∙ first-on (holds (a .number)) (a .t4) (a .count) (s .before .loop .i) (omega arith) (omega (arith, sixteen (s .before .before))) (sym (c .before .holds .ensures) ∙ c .if2 .left)
+    s .before .loop .inv ∙ first-on (holds (a .number)) (a .slots) (a .count) (s .before .loop .i) (omega arith) (omega (arith, sixteen (s .before .before))) (c .before .before .slot-at .result) (c .before .before .slot-at .ensures) (sym (c .before .holds .ensures) ∙ c .if2 .left)
 
 returns-3 : tie.Need-returns-3 Inv-loop μ-loop
 returns-3 c =
     let a = c .before .before .args in
-    sym (c .before .loop .inv ∙ first-none (holds (a .number)) (a .t4) (a .count) (c .before .loop .i) (rw length-take (omega arith)))
+    sym (c .before .loop .inv ∙ first-none (holds (a .number)) (a .slots) (a .count) (c .before .loop .i) (rw length-take (omega arith)))
 
 pub find-from-spec : {M : Type 1} → statement M
 find-from-spec =
@@ -69,8 +63,7 @@ find-from-spec =
     μ-loop
     loop-holds
     returns
-    mul-slot
-    array-copy-out-slot
+    slot-at-requires
     holds-requires
     returns-2
     add-i

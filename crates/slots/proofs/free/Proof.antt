@@ -3,7 +3,6 @@
 use Prim.Native.Nat.{_-_}
 use mathlib.Core.Path.{_≡_, refl, sym, _∙_}
 use native.Mathlib.Omega.{arith}
-use Rattle.slots.specs.Stores.{freeSlot}
 use lib.ListN.{length, take, drop, length-take}
 use Rattle.slots.proofs.Laws.{first-none, first-here, first-on}
 use Rattle.slots.specs.Find.{isFree, firstFrom, freeIn}
@@ -17,7 +16,7 @@ Inv-loop count slots i₀ i = freeIn count slots ≡ firstFrom isFree i (drop i 
 abbrev μ-loop : tie.MeasureT-loop
 μ-loop count slots i₀ i = count - i
 
-sixteen : (s : tie.Start Inv-loop μ-loop) → length (s .args .t2) ≡ 16
+sixteen : (s : tie.Start Inv-loop μ-loop) → length (s .args .slots) ≡ 16
 sixteen s = s .good .1 .0 .1 .0 .1
 
 loop-holds : tie.Need-loop-holds Inv-loop μ-loop
@@ -25,23 +24,19 @@ unfolding freeIn
 loop-holds c = refl
 
 returns : tie.Need-returns Inv-loop μ-loop
-returns c = sym (c .before .before .loop .inv ∙ first-none isFree (c .before .before .before .args .t2) (c .before .before .before .args .count) (c .before .before .loop .i) (rw length-take (omega (arith, sixteen (c .before .before .before)))))
+returns c = sym (c .before .before .loop .inv ∙ first-none isFree (c .before .before .before .args .slots) (c .before .before .before .args .count) (c .before .before .loop .i) (rw length-take (omega (arith, sixteen (c .before .before .before)))))
 
-mul-slot : tie.Need-mul-slot Inv-loop μ-loop
-mul-slot c = search needs
-
-array-copy-out-slot : tie.Need-array-copy-out-slot Inv-loop μ-loop
-array-copy-out-slot c = search needs
+slot-at-requires : tie.Need-slot-at-requires Inv-loop μ-loop
+slot-at-requires c κs = omega arith
 
 is-free-requires : tie.Need-is-free-requires Inv-loop μ-loop
 is-free-requires c κs = search needs
 
 returns-2 : tie.Need-returns-2 Inv-loop μ-loop
-unfolding freeSlot
 returns-2 c =
     let s = c .before .before .before .before in
     let a = s .before .before .args in
-    sym (s .before .loop .inv ∙ first-here isFree (a .t2) (a .count) (s .before .loop .i) (omega arith) (omega (arith, sixteen (s .before .before))) (sym (c .before .is-free .ensures) ∙ c .if2 .taken))
+    sym (s .before .loop .inv ∙ first-here isFree (a .slots) (a .count) (s .before .loop .i) (omega arith) (omega (arith, sixteen (s .before .before))) (c .before .before .slot-at .result) (c .before .before .slot-at .ensures) (sym (c .before .is-free .ensures) ∙ c .if2 .taken))
 
 add-i : tie.Need-add-i Inv-loop μ-loop
 add-i c = search needs
@@ -50,16 +45,15 @@ loop-less : tie.Need-loop-less Inv-loop μ-loop
 loop-less c = search needs
 
 loop-again : tie.Need-loop-again Inv-loop μ-loop
-unfolding freeSlot
 loop-again c =
     let s = c .before .before .before .before in
     let a = s .before .before .args in
-    s .before .loop .inv ∙ first-on isFree (a .t2) (a .count) (s .before .loop .i) (omega arith) (omega (arith, sixteen (s .before .before))) (sym (c .before .is-free .ensures) ∙ c .if2 .left)
+    s .before .loop .inv ∙ first-on isFree (a .slots) (a .count) (s .before .loop .i) (omega arith) (omega (arith, sixteen (s .before .before))) (c .before .before .slot-at .result) (c .before .before .slot-at .ensures) (sym (c .before .is-free .ensures) ∙ c .if2 .left)
 
 returns-3 : tie.Need-returns-3 Inv-loop μ-loop
 returns-3 c =
     let a = c .before .before .args in
-    sym (c .before .loop .inv ∙ first-none isFree (a .t2) (a .count) (c .before .loop .i) (rw length-take (omega arith)))
+    sym (c .before .loop .inv ∙ first-none isFree (a .slots) (a .count) (c .before .loop .i) (rw length-take (omega arith)))
 
 pub free-spec : {M : Type 1} → statement M
 free-spec =
@@ -69,8 +63,7 @@ free-spec =
     μ-loop
     loop-holds
     returns
-    mul-slot
-    array-copy-out-slot
+    slot-at-requires
     is-free-requires
     returns-2
     add-i
