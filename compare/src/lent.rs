@@ -5,7 +5,7 @@ use independent::collector::{Collector, Memory, HEADER_SHARE};
 use independent::group::Part;
 use independent::header::Reading;
 use independent::object::Core;
-use independent::state::{StageRecord, State};
+use independent::state::{PartRecord, StageRecord, State};
 use yovtirak::lent::{self, COUNTS, FIELD_WORDS, PLACE_WORDS, STATE_WORDS};
 
 pub struct Lent {
@@ -173,4 +173,39 @@ pub fn words(state: &State) -> Vec<u64> {
         }
     }
     words
+}
+
+/// The state that words hold, or nothing where one of them holds none of its kind: a stage that there
+/// is not, or a number of more than 16 bits in a slot that is held.
+pub fn state_of(words: &[u64]) -> Option<State> {
+    if words.len() != STATE_WORDS {
+        return None;
+    }
+    let word = |place: usize| words[place] as usize;
+    let mut state = State {
+        limit: word(0),
+        count: word(1),
+        slots: Default::default(),
+    };
+    let count = state.count;
+    for (number, slot) in state.slots.iter_mut().enumerate().take(count) {
+        let first = 2 + 10 * number;
+        slot.stage = match word(first + 1) {
+            0 => continue,
+            1 => StageRecord::Gathering,
+            2 => StageRecord::Finished {
+                header: word(first + 2),
+                body: word(first + 3),
+            },
+            _ => return None,
+        };
+        slot.transport = u16::try_from(words[first]).ok()?;
+        let part = |first: usize| PartRecord {
+            size: word(first),
+            end: word(first + 1),
+            tail: word(first + 2),
+        };
+        (slot.header, slot.body) = (part(first + 4), part(first + 7));
+    }
+    Some(state)
 }

@@ -4,9 +4,11 @@
 //! calls from it, as if its marked segments had been stored; where it is damaged nothing may change.
 
 use crate::collectors::{call, same, Tally};
-use crate::lent::{words, Lent};
+use crate::lent::{state_of, words, Lent};
 use independent::answer::{Answer, Reply};
-use independent::collector::{Collector, Counts, Memory};
+use independent::collector::{Collector, Counts, Memory, MOST_COUNTED};
+use independent::group::{Fields, Part};
+use independent::object::Core;
 use independent::random::histories::{calls, Call};
 use independent::random::{damage, Random};
 use independent::state::{StageRecord, State};
@@ -22,6 +24,7 @@ struct Seen {
     sound: usize,
     damaged: usize,
     words: usize,
+    each: usize,
 }
 
 /// A collector after a history of calls.
@@ -147,8 +150,126 @@ fn one_word(random: &mut Random, collector: &Collector, seen: &mut Seen) -> Resu
     }
 }
 
+/// A collector of two slots: 5 finished, 9 with a last body segment whose place isn't known, and a
+/// header segment that is not the last.
+fn two_slots() -> Collector {
+    let limit = 1_024;
+    let memory = Memory::filled(limit, 2, 0);
+    let mut collector = Collector::open(limit, 2, memory).expect("the limits are in bounds");
+    let core = |body_size, header_size| {
+        let core = Core {
+            body_size,
+            header_size,
+            content_type: 2,
+            content_subtype: 1,
+        };
+        core.bytes().to_vec()
+    };
+    let longer = [core(130, 20), vec![0x4A, 5, 0, 0, 0, 0, 0, 0, 0]].concat();
+    for (transport, part, number, last, bytes) in [
+        (5, Part::Header, 0, true, core(20, 7)),
+        (5, Part::Body, 0, false, vec![1; 16]),
+        (5, Part::Body, 1, true, vec![2; 4]),
+        (9, Part::Body, 3, true, vec![3; 10]),
+        (9, Part::Header, 0, false, longer),
+    ] {
+        let group = Fields::of_segment(transport, part, number, last, &bytes);
+        collector.take(&group.whole());
+    }
+    collector
+}
+
+/// The independent verdict on words, and the proved one.
+fn verdict(lent: &mut Lent, seen: &mut Seen) -> Result<(), String> {
+    let sound = state_of(&lent.state).is_some_and(|state| {
+        let [taken, repeated, refused, completed, dropped] = lent.counts[..] else {
+            return false;
+        };
+        let counts = Counts {
+            taken,
+            repeated,
+            refused,
+            completed,
+            dropped,
+        };
+        state.resume(lent.memory.clone(), counts).is_ok()
+    });
+    seen.each += 1;
+    match lent.take(&[]).answer {
+        Answer::Length if sound => Ok(()),
+        Answer::State if !sound => Ok(()),
+        said => Err(format!("{said:?} where the state is sound: {sound}")),
+    }
+}
+
+/// Every word, count, mark and byte of a state in turn, each made several others.
+fn everything(seen: &mut Seen) -> Result<(), String> {
+    let collector = two_slots();
+    let state = State::of(&collector);
+    let fresh = || lent_of(&state, &collector.memory, &collector.counts);
+    let mut lent = fresh();
+    for word in 0..lent.state.len() {
+        let was = lent.state[word];
+        for other in [
+            0,
+            1,
+            2,
+            3,
+            4,
+            5,
+            7,
+            16,
+            20,
+            1_024,
+            65_541,
+            was + 1,
+            was.wrapping_sub(1),
+            u64::MAX,
+        ] {
+            lent.state[word] = other;
+            verdict(&mut lent, seen).map_err(|said| format!("word {word} as {other}: {said}"))?;
+            lent.counts = fresh().counts;
+        }
+        lent.state[word] = was;
+    }
+    for count in 0..lent.counts.len() {
+        for other in [0, MOST_COUNTED, MOST_COUNTED + 1, u32::MAX] {
+            lent.counts[count] = other;
+            verdict(&mut lent, seen).map_err(|said| format!("count {count} as {other}: {said}"))?;
+            lent.counts = fresh().counts;
+        }
+    }
+    for mark in 0..lent.memory.marks.len() {
+        let was = lent.memory.marks[mark];
+        for other in [0, 1, 2, 255] {
+            lent.memory.marks[mark] = other;
+            verdict(&mut lent, seen).map_err(|said| format!("mark {mark} as {other}: {said}"))?;
+            lent.counts = fresh().counts;
+        }
+        lent.memory.marks[mark] = was;
+    }
+    for byte in 0..lent.memory.header_store.len() {
+        let was = lent.memory.header_store[byte];
+        for bit in 0..8 {
+            lent.memory.header_store[byte] = was ^ 1 << bit;
+            verdict(&mut lent, seen)
+                .map_err(|said| format!("header byte {byte}, bit {bit}: {said}"))?;
+            lent.counts = fresh().counts;
+        }
+        lent.memory.header_store[byte] = was;
+    }
+    for byte in 0..lent.memory.body_store.len() {
+        lent.memory.body_store[byte] ^= 0xFF;
+        verdict(&mut lent, seen).map_err(|said| format!("body byte {byte}: {said}"))?;
+        lent.counts = fresh().counts;
+        lent.memory.body_store[byte] ^= 0xFF;
+    }
+    Ok(())
+}
+
 pub fn run() -> Result<String, String> {
     let mut seen = Seen::default();
+    everything(&mut seen)?;
     let mut tally = Tally::new();
     for number in 0..HISTORIES {
         let random = &mut Random::from_seed(SEED + number);
@@ -166,12 +287,13 @@ pub fn run() -> Result<String, String> {
         sound,
         damaged,
         words,
+        each,
     } = seen;
     if sound < 5_000 || damaged < 10_000 {
         return Err(format!("only {sound} sound and {damaged} damaged"));
     }
     Ok(format!(
-        "{} states with one thing changed, {damaged} damaged and {sound} sound, and {words} with a word that holds nothing of its kind; after the sound ones {tally:?}",
+        "{} states with one thing changed, {damaged} damaged and {sound} sound, {words} with a word that holds nothing of its kind, and every word, count, mark and byte of one in turn, {each} states; after the sound ones {tally:?}",
         sound + damaged
     ))
 }
