@@ -3,14 +3,15 @@
 use mathlib.Core.Path.{_≡_, refl, sym, ap, ap₂, _∙_}
 use mathlib.Core.Logic.{_≢_}
 use mathlib.Core.Bool.{Bool, true, false}
-use mathlib.Core.List.{List}
+use mathlib.Core.List.{List, [], _∷_}
 use Prim.Native.Nat.{ℕ, zero, suc, _+_, _-_, _*_, _/_, _≤_, _<_, min}
+use native.Mathlib.Decide.{ℕ-discrete}
 use native.Mathlib.Omega.{arith}
 use lib.ListN.{length, take, drop, getD, length-take, length-drop, List·getD-eq-default}
 use lib.Seq.{getD-take, getD-drop}
-use lib.Dec.{leb, ltb}
-use borrow.Author.Tests.{leb-true, le-leb}
-use Rattle.octets.specs.Octets.{over, sumOf}
+use lib.Dec.{leb, ltb, eqb}
+use borrow.Author.Tests.{leb-true, le-leb, lt-leb, eq-eqb, ne-eqb}
+use Rattle.octets.specs.Octets.{over, sumOf, largestOf}
 use Rattle.answer.specs.declared.Part.{Part}
 use Rattle.answer.specs.declared.Part.the-variants.{Header, Body}
 use Rattle.cut.specs.declared.Core.{Core}
@@ -137,5 +138,20 @@ pub both-only : (a : Bool) → both a true ≡ a
 both-only true = refl
 both-only false = refl
 
-pub some-sum : (marks : List ℕ) → sumOf marks ≢ 0 → leb 1 (sumOf marks) ≡ true
-some-sum marks h = le-leb 1 (sumOf marks) (omega arith)
+-- some mark is set exactly where the largest is 1
+largest-sum : (marks : List ℕ) → largestOf marks ≤ sumOf marks
+unfolding largestOf
+largest-sum [] = omega arith
+largest-sum (b ∷ marks) = omega (arith, largest-sum marks)
+
+largest-none : (marks : List ℕ) → largestOf marks ≡ 0 → sumOf marks ≡ 0
+unfolding largestOf
+largest-none [] h = refl
+largest-none (b ∷ marks) h = omega (arith, largest-none marks (omega (arith, h)), h)
+
+pub some-largest : (marks : List ℕ) → largestOf marks ≤ 1 → eqb (largestOf marks) 1 ≡ leb 1 (sumOf marks)
+some-largest marks h = go (ℕ-discrete (largestOf marks) 1)
+  where
+    go : Dec (largestOf marks ≡ 1) → eqb (largestOf marks) 1 ≡ leb 1 (sumOf marks)
+    go (yes d) = rw (eq-eqb (largestOf marks) 1 d, le-leb 1 (sumOf marks) (omega (arith, largest-sum marks, d))) refl
+    go (no d) = rw (ne-eqb (largestOf marks) 1 d, lt-leb 1 (sumOf marks) (omega (arith, largest-none marks (omega (arith, h, d))))) refl

@@ -149,6 +149,10 @@ rightAs part limit core slot marks =
     both (endRight (keptOf part slot .end) (keptOf part slot .tail) (marksOf part marks))
     (pick (fullIn (keptOf part slot) (marksOf part marks)) true (eqb (keptOf part slot .size) (derived (boundsOf part limit core) (keptOf part slot .end) (keptOf part slot .tail))))
 
+-- each mark is 0 or 1 and some are 1
+unfoldable pub marksRight : List ℕ → Bool
+marksRight marks = both (leb (largestOf marks) 1) (leb 1 (sumOf marks))
+
 -- the body's bytes play no part in it
 unfoldable pub soundBy : ℕ → Slot → List ℕ → List ℕ → Bool
 soundBy limit slot header marks = soundSlot limit slot (record { header = header; body = []; marks = marks })

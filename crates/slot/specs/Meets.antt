@@ -24,7 +24,7 @@ use Rattle.gathering.specs.Take.{Lent, Parts, partsOf, memoryOf, coreIn, takesI
 use Rattle.gathering.specs.Sound.{recordRight, sameStage, soundParts, soundSlot}
 use Rattle.gathering.specs.Shape.{numbersOf, Shaped, coreWith, recordAfter}
 use Rattle.gathering.specs.Inside.{takes-beyond, takes-inside, settled-inside, body-inside, marked-inside, lent-shaped, lent-bits}
-use Rattle.slot.specs.Inner.{marksOf, keptOf, coreFrom, takesAs, recordAs, recordStill, sameAs, shareOf, CanMove, CanPut, putIn, slotFrom, Left, headerStored, bodyStored, leftOf, Ready, Offered, rightAs, soundBy}
+use Rattle.slot.specs.Inner.{marksOf, keptOf, coreFrom, takesAs, recordAs, recordStill, sameAs, shareOf, CanMove, CanPut, putIn, slotFrom, Left, headerStored, bodyStored, leftOf, Ready, Offered, rightAs, soundBy, marksRight}
 
 -- a last test, and two tests the other way round
 both-only : (a : Bool) → both a true ≡ a
@@ -208,14 +208,14 @@ pub sound-meets : (limit : ℕ) (slot : Slot) (lent : Lent) → soundSlot limit 
 unfolding soundBy soundSlot soundParts recordRight partsOf coreIn stageOf
 sound-meets limit slot lent = refl
 
-within-all : (a b c : Bool) → both a (both b (both c true)) ≡ both a (both b c)
-within-all a b c = ap (λ (x : Bool). both a (both b x)) (both-only c)
+within-all : (a b c : Bool) → both a (both b (both c true)) ≡ both (both a b) c
+within-all true b c = ap (λ (x : Bool). both b x) (both-only c)
+within-all false b c = refl
 
 -- the tests one after the other, as they are asked
 abbrev pub soundTests : ℕ → Slot → List ℕ → List ℕ → Core → List Bool
 soundTests limit slot header marks core =
-    leb (largestOf marks) 1
-    ∷ leb 1 (sumOf marks)
+    marksRight marks
     ∷ rightAs Header limit core slot marks
     ∷ rightAs Body limit core slot marks
     ∷ suitsIn limit core (slot .header) (marksOf Header marks) (slot .body) (marksOf Body marks)
@@ -223,5 +223,5 @@ soundTests limit slot header marks core =
     ∷ []
 
 pub sound-tests : (limit : ℕ) (slot : Slot) (header marks : List ℕ) → soundBy limit slot header marks ≡ all (soundTests limit slot header marks (coreFrom (marksOf Header marks) header))
-unfolding soundBy soundSlot soundParts rightAs recordRight slotFrom partsOf marksOf coreFrom coreIn stageOf
+unfolding soundBy soundSlot soundParts marksRight rightAs recordRight slotFrom partsOf marksOf coreFrom coreIn stageOf
 sound-tests limit slot header marks = within-all (leb (largestOf marks) 1) (leb 1 (sumOf marks)) (soundParts limit (slot .stage) (partsOf slot (record { header = header; body = []; marks = marks })))

@@ -20,7 +20,7 @@ ghost use Rattle.cut.specs.Sums.{ended, possibleIn, acceptsIn, fullIn, suitsIn}
 ghost use Rattle.gathering.specs.Memory.{placeOf, lengthOf, movedAs};
 ghost use Rattle.gathering.specs.Take.{stageBy, sameFlag, outcomeBy, takeInto};
 ghost use Rattle.gathering.specs.Sound.{endRight, sameStage};
-ghost use Rattle.slot.specs.Inner.{otherPart, marksOf, keptOf, coreFrom, takesAs, recordAs, recordStill, putIn, slotFrom, sameAs, CanMove, CanPut, headerStored, bodyStored, Ready, Offered, rightAs, soundBy};
+ghost use Rattle.slot.specs.Inner.{otherPart, marksOf, keptOf, coreFrom, takesAs, recordAs, recordStill, putIn, slotFrom, sameAs, CanMove, CanPut, headerStored, bodyStored, Ready, Offered, rightAs, soundBy, marksRight};
 
 fn other_part(part: Part) -> Part
     ensures { λ r. ⌜ r ≡ otherPart part ⌝ }
@@ -525,6 +525,17 @@ pub fn take(
     }
 }
 
+// Whether each mark is 0 or 1 and some are 1: by the largest, which is the quickest to find.
+fn marks_right(marks: &[u8]) -> bool
+    ensures { λ r. ⌜ r ≡ marksRight (now (marks .entry)) ⌝ }
+{
+    let top = octets::largest(marks);
+    if 1 < top {
+        return false;
+    }
+    top == 1
+}
+
 // Whether the last segment that a record tells of is marked.
 fn end_right(end: usize, tail: usize, marks: &[u8]) -> bool
     ensures { λ r. ⌜ r ≡ endRight end tail (now (marks .entry)) ⌝ }
@@ -610,10 +621,7 @@ pub fn is_sound(slot: Slot, limit: usize, header: &[u8], marks: &[u8]) -> bool
     requires { ⌜ length (now marks) ≡ 1088 ⌝ }
     ensures { λ r. ⌜ r ≡ soundBy limit slot (now (header .entry)) (now (marks .entry)) ⌝ }
 {
-    if 1 < octets::largest(marks) {
-        return false;
-    }
-    if octets::sum(marks) == 0 {
+    if !marks_right(marks) {
         return false;
     }
     let core = core_from(marks_of(Part::Header, marks), header);
