@@ -19,7 +19,7 @@ const LIMITS: [usize; 4] = [1_024, 12_288, 65_536, 1_048_576];
 const SMALL: usize = 40_000;
 
 /// What no call of a collector that is open and sound, with a whole core in each finished header, is
-/// answered: `states` and `openings` have these.
+/// answered: `states` has STATE, the openings here LIMITS, and `headers` CORE.
 const OTHERS: [Answer; 3] = [Answer::Core, Answer::Limits, Answer::State];
 
 /// How often each answer was given.
@@ -149,6 +149,32 @@ fn history(random: &mut Random, tally: &mut Tally) -> Result<(), String> {
     same(&lent, &collector, true)
 }
 
+/// Openings in and out of the bounds, with right and wrong lent lengths: both open or answer LIMITS.
+fn openings() -> Result<usize, String> {
+    let random = &mut Random::from_seed(SEED);
+    let mut refused = 0;
+    for _ in 0..2_000 {
+        let limit = random.one_of(&[0, 1_023, 1_024, 2_048, 1_048_577, usize::MAX]);
+        let slots = random.within(0, 17);
+        let mut memory = Memory::filled(limit.min(2_048), slots, random.byte());
+        match random.within(0, 5) {
+            0 => memory.header_store.push(0),
+            1 => memory.body_store.push(0),
+            2 => memory.marks.push(0),
+            _ => (),
+        }
+        let ours = Lent::open(limit, slots, memory.clone()).map(|lent| lent.memory);
+        let theirs = Collector::open(limit, slots, memory).map(|collector| collector.memory);
+        if ours != theirs {
+            return Err(format!(
+                "an opening with limit {limit} and {slots} slots differs"
+            ));
+        }
+        refused += usize::from(theirs.is_err());
+    }
+    Ok(refused)
+}
+
 /// All histories, or the first few: under a checker of memory each takes long.
 pub fn run(few: Option<u64>) -> Result<String, String> {
     let mut tally = Tally::new();
@@ -165,7 +191,8 @@ pub fn run(few: Option<u64>) -> Result<String, String> {
         return Err(format!("never given: {missing:?}"));
     }
     let calls: usize = tally.values().sum();
+    let refused = openings()?;
     Ok(format!(
-        "{histories} histories, {calls} answers compared {tally:?}"
+        "{histories} histories, {calls} answers compared {tally:?}; 2000 openings, {refused} of them LIMITS"
     ))
 }
