@@ -2,8 +2,6 @@
 // counts that the caller lends. Its limits are the type's constants, and opening is a function of
 // the type. Every call checks all that it is given before anything else; what it answers and all that
 // it leaves is one definition (specs/Calls.antt).
-pub mod questions;
-
 use answer::Answer;
 use answer::Heard;
 use answer::Part;
@@ -213,7 +211,7 @@ impl Collector {
     }
 
     // A part of the finished object in slot i; nothing where there is none.
-    fn shown_at<'a>(self, part: Part, i: usize, header: &'a [u8], body: &'a [u8]) -> &'a [u8]
+    pub fn shown_at<'a>(self, part: Part, i: usize, header: &'a [u8], body: &'a [u8]) -> &'a [u8]
         ensures { λ r. ⌜ now r ≡ shownOf part i (self .limit) (slotAt i (self .slots)) (now (header .entry)) (now (body .entry)) ⌝ }
     {
         if 16 <= i {

@@ -23,11 +23,11 @@ use Rattle.collector.specs.declared.Located.the-variants as Located
 use Rattle.collector.specs.declared.Opening.{Opening}
 use Rattle.collector.specs.declared.Opening.the-variants as Opening
 use Rattle.collector.specs.Calls.{Answered, Opened, takeGroup, dropNumber, openedBy, locate}
-use Rattle.collector.specs.declared.questions.Asked.{Asked}
-use Rattle.collector.specs.declared.questions.Asked.the-variants as Asked
-use Rattle.collector.specs.declared.questions.Sought.{Sought}
-use Rattle.collector.specs.declared.questions.Sought.the-variants as Sought
-use Rattle.collector.specs.Questions.{parameters, find}
+use Rattle.questions.specs.declared.Asked.{Asked}
+use Rattle.questions.specs.declared.Asked.the-variants as Asked
+use Rattle.questions.specs.declared.Sought.{Sought}
+use Rattle.questions.specs.declared.Sought.the-variants as Sought
+use Rattle.questions.specs.Questions.{parameters, find}
 use Rattle.header.specs.declared.Fields.{Fields}
 use Rattle.header.specs.declared.Name.{Name}
 use Rattle.header.specs.declared.Name.the-variants as Name

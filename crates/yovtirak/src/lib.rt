@@ -10,13 +10,13 @@ use collector::Collector;
 use collector::CountedAnswer;
 use collector::Located;
 use collector::Opening;
-use collector::questions::Asked;
-use collector::questions::Sought;
 use gathering::Slot;
 use gathering::Stage;
 use header::Fields;
 use header::Name;
 use header::Priority;
+use questions::Asked;
+use questions::Sought;
 ghost use mathlib.Core.Path.{_≡_};
 ghost use Prim.Native.Nat.{_<_};
 ghost use lib.ListN.{length, getD};
@@ -343,7 +343,7 @@ pub extern "C" fn yovtirak_read<'a>(
         return 26;
     }
     let collector = words::collector_from(state);
-    let asked = collector.parameters(number, header, body, marks);
+    let asked = questions::parameters(collector, number, header, body, marks);
     let Asked::Fields(fields) = asked else {
         return unread_word(asked);
     };
@@ -375,7 +375,7 @@ pub extern "C" fn yovtirak_find(
         return 26;
     }
     let collector = words::collector_from(state);
-    sought_word(collector.find(name, header, body, marks))
+    sought_word(questions::find(collector, name, header, body, marks))
 }
 
 // One of the five counts, in the order taken, repeated, refused, completed, dropped; 0 where there

@@ -1,11 +1,11 @@
--- `collector::Collector::name` meets its contract: the name is a part of the header that is shown.
+-- `questions::name` meets its contract: the name is a part of the header that is shown.
 -- Assumes nothing.
 use mathlib.Core.Path.{ap, _∙_}
 use Rattle.names.specs.Finding.{nameData}
-use Rattle.collector.specs.Questions.{name}
+use Rattle.questions.specs.Questions.{name}
 use borrow.Author.Needs.{needs}
-use Rattle.collector.proofs.Collector.name.Statement.{statement}
-use Rattle.collector.proofs.Collector.name.Tie as tie
+use Rattle.questions.proofs.name.Statement.{statement}
+use Rattle.questions.proofs.name.Tie as tie
 
 show-requires : tie.Need-show-requires
 show-requires c κs = search needs

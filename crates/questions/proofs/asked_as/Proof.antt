@@ -1,10 +1,10 @@
--- `collector::questions::asked_as` meets its contract: what is read is told, and a refusal by its answer.
+-- `questions::asked_as` meets its contract: what is read is told, and a refusal by its answer.
 -- Assumes nothing.
 use mathlib.Core.Path.{ap}
-use Rattle.collector.specs.declared.questions.Asked.the-variants.{Refused}
+use Rattle.questions.specs.declared.Asked.the-variants.{Refused}
 use borrow.Author.Needs.{needs}
-use Rattle.collector.proofs.questions.asked_as.Statement.{statement}
-use Rattle.collector.proofs.questions.asked_as.Tie as tie
+use Rattle.questions.proofs.asked_as.Statement.{statement}
+use Rattle.questions.proofs.asked_as.Tie as tie
 
 enum-known-reading : tie.Need-enum-known-reading
 enum-known-reading c = search needs

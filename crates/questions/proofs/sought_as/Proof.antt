@@ -1,8 +1,8 @@
--- `collector::questions::sought_as` meets its contract: nobody is NOTFOUND.
+-- `questions::sought_as` meets its contract: nobody is NOTFOUND.
 -- Assumes nothing.
 use borrow.Author.Needs.{needs}
-use Rattle.collector.proofs.questions.sought_as.Statement.{statement}
-use Rattle.collector.proofs.questions.sought_as.Tie as tie
+use Rattle.questions.proofs.sought_as.Statement.{statement}
+use Rattle.questions.proofs.sought_as.Tie as tie
 
 enum-known-holder : tie.Need-enum-known-holder
 enum-known-holder c = search needs

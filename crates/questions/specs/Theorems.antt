@@ -32,13 +32,13 @@ use Rattle.slots.specs.Held.{sound-held}
 use Rattle.slots.specs.Ready.{found-right}
 use Rattle.slots.specs.Show.{startOf, shownOf}
 use Rattle.slots.specs.State.{soundSlots}
 use Rattle.collector.specs.declared.Collector.{Collector}
 use Rattle.collector.specs.declared.Located.{Located}
 use Rattle.collector.specs.declared.Located.the-variants as Located
-use Rattle.collector.specs.declared.questions.Asked.the-variants as Asked
-use Rattle.collector.specs.declared.questions.Sought.the-variants as Sought
+use Rattle.questions.specs.declared.Asked.the-variants as Asked
+use Rattle.questions.specs.declared.Sought.the-variants as Sought
 use Rattle.collector.specs.Calls.{locatedAs, locatedIn, locate, show}
-use Rattle.collector.specs.Questions.{askedAs, askedOf, parameters, name, soughtAs, find}
+use Rattle.questions.specs.Questions.{askedAs, askedOf, parameters, name, soughtAs, find}
 
 -- ---- the name and the parameters
 

@@ -1,12 +1,12 @@
--- `collector::Collector::find` meets its contract: STATE, then the search.
+-- `questions::find` meets its contract: STATE, then the search.
 -- Assumes nothing.
 use mathlib.Core.Path.{sym, ap, _∙_}
 use borrow.Author.Tests.{not-true, not-false}
 use Rattle.slots.specs.Ready.{sound-limits}
-use Rattle.collector.specs.Questions.{soughtAs, find}
+use Rattle.questions.specs.Questions.{soughtAs, find}
 use borrow.Author.Needs.{needs}
-use Rattle.collector.proofs.Collector.find.Statement.{statement}
-use Rattle.collector.proofs.Collector.find.Tie as tie
+use Rattle.questions.proofs.find.Statement.{statement}
+use Rattle.questions.proofs.find.Tie as tie
 
 sound-requires : tie.Need-sound-requires
 sound-requires c κs = search needs
@@ -18,7 +18,7 @@ returns c = rw (sym (c .before .sound .ensures) ∙ not-true _ (c .if1 .taken))
 find-requires : tie.Need-find-requires
 find-requires c κs =
     let a = c .before .before .before .before .before .before .before .args in
-    sound-limits (a .self .limit) (a .self .count) (a .self .slots) (record { header = a .header .now; body = a .body .now; marks = a .marks .now }) (sym (c .before .sound .ensures) ∙ not-false _ (c .if1 .left)) .slots
+    sound-limits (a .collector .limit) (a .collector .count) (a .collector .slots) (record { header = a .header .now; body = a .body .now; marks = a .marks .now }) (sym (c .before .sound .ensures) ∙ not-false _ (c .if1 .left)) .slots
 
 sought-as-requires : tie.Need-sought-as-requires
 sought-as-requires c κs = search needs

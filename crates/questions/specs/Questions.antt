@@ -15,14 +15,14 @@ use Rattle.names.specs.declared.Holder.the-variants.{Nobody, Number}
 use Rattle.names.specs.Finding.{nameData, foundByName}
 use Rattle.slots.specs.Stores.{Stores}
 use Rattle.slots.specs.State.{soundSlots}
 use Rattle.collector.specs.declared.Collector.{Collector}
 use Rattle.collector.specs.declared.Located.{Located}
 use Rattle.collector.specs.declared.Located.the-variants as Located
-use Rattle.collector.specs.declared.questions.Asked.{Asked}
-use Rattle.collector.specs.declared.questions.Asked.the-variants as Asked
-use Rattle.collector.specs.declared.questions.Sought.{Sought}
-use Rattle.collector.specs.declared.questions.Sought.the-variants as Sought
+use Rattle.questions.specs.declared.Asked.{Asked}
+use Rattle.questions.specs.declared.Asked.the-variants as Asked
+use Rattle.questions.specs.declared.Sought.{Sought}
+use Rattle.questions.specs.declared.Sought.the-variants as Sought
 use Rattle.collector.specs.Calls.{locate, show}
 
 -- ---- what a header says
 

@@ -1,12 +1,12 @@
--- `collector::Collector::parameters` meets its contract: where the object is, then what its header says.
+-- `questions::parameters` meets its contract: where the object is, then what its header says.
 -- Assumes nothing.
 use mathlib.Core.Path.{sym, ap, _∙_}
 use Rattle.header.specs.Parameters.{readHeader}
 use Rattle.collector.specs.Calls.{show}
-use Rattle.collector.specs.Questions.{askedAs, parameters}
+use Rattle.questions.specs.Questions.{askedAs, parameters}
 use borrow.Author.Needs.{needs}
-use Rattle.collector.proofs.Collector.parameters.Statement.{statement}
-use Rattle.collector.proofs.Collector.parameters.Tie as tie
+use Rattle.questions.proofs.parameters.Statement.{statement}
+use Rattle.questions.proofs.parameters.Tie as tie
 
 locate-requires : tie.Need-locate-requires
 locate-requires c κs = search needs
