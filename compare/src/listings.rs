@@ -1,7 +1,7 @@
 //! The listing program against the independent listing: random histories of lines handed to both,
 //! and every byte that they write compared.
 
-use independent::listing;
+use independent::listing::{self, ANSWERS};
 use independent::random::{histories, Random};
 use std::collections::BTreeMap;
 use std::io::Write;
@@ -12,25 +12,6 @@ use std::thread;
 const SEED: u64 = 301_234;
 const HISTORIES: u64 = 400;
 const LINES: usize = 80;
-
-/// Every answer that a listing can show.
-const ANSWERS: [&str; 15] = [
-    "STORED",
-    "COMPLETE",
-    "REPEAT",
-    "DROPPED",
-    "LENGTH",
-    "NOCHECK",
-    "BADCHECK",
-    "KIND",
-    "NOSEGMENT",
-    "ADDRESS",
-    "SIZE",
-    "CONFLICT",
-    "FULL",
-    "NOTHELD",
-    "LINE",
-];
 
 /// What the proved program writes for this input.
 fn proved(input: &[u8]) -> Result<Vec<u8>, String> {

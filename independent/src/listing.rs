@@ -10,6 +10,25 @@ pub const LONGEST_LINE: usize = 16_432;
 pub const SLOTS: usize = 2;
 pub const LIMIT: usize = 12_288;
 
+/// Every answer that a listing can show.
+pub const ANSWERS: [&str; 15] = [
+    "STORED",
+    "COMPLETE",
+    "REPEAT",
+    "DROPPED",
+    "LENGTH",
+    "NOCHECK",
+    "BADCHECK",
+    "KIND",
+    "NOSEGMENT",
+    "ADDRESS",
+    "SIZE",
+    "CONFLICT",
+    "FULL",
+    "NOTHELD",
+    "LINE",
+];
+
 /// What a line asks for.
 #[derive(Clone, Debug, PartialEq, Eq)]
 pub enum Record {

@@ -305,23 +305,7 @@ mod tests {
                 *tally.entry(answer.to_string()).or_default() += 1;
             }
         }
-        for answer in [
-            "STORED",
-            "COMPLETE",
-            "REPEAT",
-            "DROPPED",
-            "LENGTH",
-            "NOCHECK",
-            "BADCHECK",
-            "KIND",
-            "NOSEGMENT",
-            "ADDRESS",
-            "SIZE",
-            "CONFLICT",
-            "FULL",
-            "NOTHELD",
-            "LINE",
-        ] {
+        for answer in crate::listing::ANSWERS {
             assert!(tally.get(answer) > Some(&5), "{answer}: {tally:?}");
         }
     }
