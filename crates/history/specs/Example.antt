@@ -38,7 +38,8 @@ use Rattle.slots.specs.Take.{takeAt, takeNew, dropAt}
 use Rattle.collector.specs.Calls.{soundState, segmentIn, takeGroup, dropNumber, openedBy, locate, show}
 use Rattle.history.specs.Call.{taking, dropping, opening}
 use Rattle.history.specs.Shown.{showing}
-use Rattle.history.specs.History.{Call, hand, drop, ask, CallBytes, handed, dropped, asked, Start, Allowed, ours, told, under}
+use Rattle.history.specs.History.{Call, hand, drop, ask, CallBytes, handed, dropped, asked, Start, Allowed, told, under}
+use Rattle.history.specs.Ours.{ours}
 use Rattle.history.specs.Held.{stageFor}
 use Rattle.history.specs.Promise.{Run, reachedBy, From, cameUnder}
 use Rattle.history.specs.Promises.{promised}

@@ -24,7 +24,7 @@ use Rattle.slots.specs.StateTests.{Limits}
 use Rattle.collector.specs.Calls.{segmentIn}
 use Rattle.history.specs.Call.{State, groupAnswer, groupLeaves, dropAnswer, dropLeaves, opening}
 use Rattle.history.specs.Ready.{OfBytes}
-use Rattle.history.specs.Shown.{showing}
+use Rattle.history.specs.Shown.{showing, questionLeaves}
 
 -- a group is handed in, a number is dropped, a header or a body is asked for
 pub data Call : Type 0 where
@@ -72,11 +72,12 @@ pub record Collecting : Type 0 where
   pub answersDrop : ℕ → State → Answer
   pub leavesDrop : ℕ → State → State
   pub shows : ℕ → Part → State → List ℕ
+  pub leavesQuestion : ℕ → Part → State → State
 
 abbrev pub leaves : Collecting → Call → State → State
 leaves k (hand bytes) s = k .leavesGroup bytes s
 leaves k (drop number) s = k .leavesDrop number s
-leaves k (ask number part) s = s
+leaves k (ask number part) s = k .leavesQuestion number part s
 
 abbrev pub event : Collecting → Call → State → Event
 event k (hand bytes) s = handed bytes (k .answersGroup bytes s)
@@ -130,17 +131,18 @@ under test part number (asked other p shown ∷ events) = under test part number
 abbrev pub storedUnder : Part → ℕ → List Event → List Segment
 storedUnder = under isStored
 
--- ---- our collector: its own definitions
+-- ---- the collector's own definitions: the laws speak of them, and the promises of our collector, which is made of them
 
 abbrev pub opened : Start → State
 opened start = opening (start .limit) (start .count) (start .counts) (start .stores)
 
-abbrev pub ours : Collecting
-ours = record {
+abbrev pub defined : Collecting
+defined = record {
   opens = opened;
   answersGroup = groupAnswer;
   leavesGroup = groupLeaves;
   answersDrop = dropAnswer;
   leavesDrop = dropLeaves;
   shows = showing;
+  leavesQuestion = questionLeaves;
 }

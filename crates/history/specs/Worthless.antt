@@ -23,7 +23,7 @@ use Rattle.cut.specs.LawsSegment.{sends-sits, inside, Numbered}
 use Rattle.cut.specs.Finished.{whole-numbers, whole-empty}
 use Rattle.collector.specs.Calls.{heardAs, segmentIn}
 use Rattle.history.specs.Call.{groupAnswer, groupLeaves, dropAnswer, dropLeaves, answering}
-use Rattle.history.specs.Shown.{showing}
+use Rattle.history.specs.Shown.{showing, questionLeaves}
 use Rattle.history.specs.History.{hand, Collecting, under, opened}
 use Rattle.history.specs.Promise.{Run, reachedBy, toldBy, stored, Passing, answersFrom, Promised}
 use Rattle.history.specs.Example.{computing, small, allowed}
@@ -38,6 +38,7 @@ refusesAll = record {
   answersDrop = dropAnswer;
   leavesDrop = dropLeaves;
   shows = showing;
+  leavesQuestion = questionLeaves;
 }
 
 -- ---- one that answers STORED to every group that it can read
@@ -54,6 +55,7 @@ saysStored = record {
   answersDrop = dropAnswer;
   leavesDrop = dropLeaves;
   shows = showing;
+  leavesQuestion = questionLeaves;
 }
 
 -- ---- one that answers properly and keeps all records and marks, but writes no store byte
@@ -70,6 +72,7 @@ writesNothing = record {
   answersDrop = dropAnswer;
   leavesDrop = dropLeaves;
   shows = showing;
+  leavesQuestion = questionLeaves;
 }
 
 -- ---- one that stores the first group, and afterwards only says so
@@ -82,6 +85,7 @@ storesFirst = record {
   answersDrop = dropAnswer;
   leavesDrop = dropLeaves;
   shows = showing;
+  leavesQuestion = questionLeaves;
 }
 
 -- ---- one with invented counts
@@ -94,6 +98,7 @@ inventsCounts = record {
   answersDrop = dropAnswer;
   leavesDrop = dropLeaves;
   shows = showing;
+  leavesQuestion = questionLeaves;
 }
 
 -- ---- an object of one segment: a header of 7 bytes and no body
