@@ -47,7 +47,7 @@ use Rattle.history.specs.Promises.{promised}
 -- ---- the groups
 
 -- body segment 1 of number 5, the last one: 4 bytes
-abbrev bodyLast : List ℕ
+abbrev pub bodyLast : List ℕ
 bodyLast = 0x74 ∷ 0x00 ∷ 0x80 ∷ 0x01 ∷ 0x12 ∷ 0x00 ∷ 0x05 ∷ 0x00 ∷ 0x04 ∷ 0x74 ∷ 0x75 ∷ 0x76 ∷ 0x77 ∷ 0x27 ∷ 0x76 ∷ []
 
 -- body segment 0 of it: 16 bytes
@@ -143,7 +143,7 @@ abbrev pub oneCut : List Call
 oneCut = hand bodyFirst ∷ hand bodyLast ∷ hand otherNumber ∷ hand header ∷ hand bodyLast ∷ []
 
 -- what is read off a group
-abbrev readAs : ℕ → Part → ℕ → Bool → ℕ → Carried
+abbrev pub readAs : ℕ → Part → ℕ → Bool → ℕ → Carried
 readAs number part segment last size = record { number = number; part = part; segment = segment; last = last; start = 9; length = size }
 
 reads : (readingOf bodyLast ≡ Read (readAs 5 Body 1 true 4)) × (readingOf bodyFirst ≡ Read (readAs 5 Body 0 false 16)) × (readingOf header ≡ Read (readAs 5 Header 0 true 7)) × (readingOf otherNumber ≡ Read (readAs 6 Header 0 true 7))
@@ -176,28 +176,30 @@ bodyHalf = segmentIn bodyFirst (readAs 5 Body 0 false 16)
 abbrev bodyRest : Segment
 bodyRest = segmentIn bodyLast (readAs 5 Body 1 true 4)
 
--- all of them came with a slot there, the last body segment twice
-came-header : cameUnder Header 5 (told ours small oneCut) ≡ headerWhole ∷ []
-unfolding computing small
-came-header = refl
+-- all of them, the last body segment twice
+abbrev pub allSent : Part → List Segment
+allSent Header = headerWhole ∷ []
+allSent Body = bodyHalf ∷ bodyRest ∷ bodyRest ∷ []
 
-came-body : cameUnder Body 5 (told ours small oneCut) ≡ bodyHalf ∷ bodyRest ∷ bodyRest ∷ []
-unfolding computing small
-came-body = refl
-
-pub all-come : (part : Part) (s : Segment) → SentBy object part s → Among s (cameUnder part 5 (told ours small oneCut))
+pub all-sent : (part : Part) (s : Segment) → SentBy object part s → Among s (allSent part)
 unfolding object segmentIn
-all-come Header = rw came-header (whole-numbers (object .header) 16 (headerWhole ∷ []) (record { starts = omega arith; holds = refl; ends = refl }, tt) .1 number)
+all-sent Header = whole-numbers (object .header) 16 (headerWhole ∷ []) (record { starts = omega arith; holds = refl; ends = refl }, tt) .1 number
   where
     number : (n : ℕ) → n * 16 < 7 → Numbered n (headerWhole ∷ [])
     number zero h = inl refl
     number (suc n) h = absurd (omega arith)
-all-come Body = rw came-body (whole-numbers (object .body) 16 (bodyHalf ∷ bodyRest ∷ bodyRest ∷ []) (record { starts = omega arith; holds = refl; ends = refl }, (record { starts = omega arith; holds = refl; ends = refl }, (record { starts = omega arith; holds = refl; ends = refl }, tt))) .1 number)
+all-sent Body = whole-numbers (object .body) 16 (bodyHalf ∷ bodyRest ∷ bodyRest ∷ []) (record { starts = omega arith; holds = refl; ends = refl }, (record { starts = omega arith; holds = refl; ends = refl }, (record { starts = omega arith; holds = refl; ends = refl }, tt))) .1 number
   where
     number : (n : ℕ) → n * 16 < 20 → Numbered n (bodyHalf ∷ bodyRest ∷ bodyRest ∷ [])
     number zero h = inl refl
     number (suc zero) h = inr (inl refl)
     number (suc (suc n)) h = absurd (omega arith)
+
+-- they came with a slot there
+pub all-come : (part : Part) (s : Segment) → SentBy object part s → Among s (cameUnder part 5 (told ours small oneCut))
+unfolding computing small
+all-come Header = all-sent Header
+all-come Body = all-sent Body
 
 -- so it is finished and shown
 pub run : Run

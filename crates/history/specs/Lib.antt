@@ -19,6 +19,7 @@ pub mod Room
 pub mod Tally
 pub mod Demands
 pub mod OneCut
+pub mod Wrong
 pub mod Ours
 pub mod Promises
 pub mod Example

@@ -70,7 +70,7 @@ heardOf g = heardAs (g .carried)
 
 -- what it is answered
 abbrev pub answerTo : Collecting → Run → Passing → Answer
-answerTo k r g = k .answersGroup (g .bytes) (reachedBy k r)
+answerTo k r g = k .takes (g .bytes) (reachedBy k r) .answer
 
 -- some object and cut send all that is stored under a number
 abbrev pub FitsStored : Collecting → Run → ℕ → Type 0
@@ -130,34 +130,34 @@ module _ (k : Collecting) where
   -- Demand 1. A refused group, 10 to 18, in any state: one more is refused, and every other count, every store byte, every
   -- mark and every slot's record stay.
   abbrev pub RefusedLeaves : Type 0
-  RefusedLeaves = (bytes : List ℕ) (s : State) → 10 ≤ numberOf (k .answersGroup bytes s) → numberOf (k .answersGroup bytes s) ≤ 18
-      → k .leavesGroup bytes s ≡ record { collector = s .collector; counts = oneRefused (s .counts); stores = s .stores }
+  RefusedLeaves = (bytes : List ℕ) (s : State) → 10 ≤ numberOf (k .takes bytes s .answer) → numberOf (k .takes bytes s .answer) ≤ 18
+      → k .takes bytes s .left ≡ record { collector = s .collector; counts = oneRefused (s .counts); stores = s .stores }
 
   -- A group that is answered 19 to 26 changes nothing, the counts neither.
   abbrev pub UnansweredLeaves : Type 0
-  UnansweredLeaves = (bytes : List ℕ) (s : State) → 19 ≤ numberOf (k .answersGroup bytes s) → k .leavesGroup bytes s ≡ s
+  UnansweredLeaves = (bytes : List ℕ) (s : State) → 19 ≤ numberOf (k .takes bytes s .answer) → k .takes bytes s .left ≡ s
 
   -- A drop that is not carried out changes nothing either.
   abbrev pub UndroppedLeaves : Type 0
-  UndroppedLeaves = (number : ℕ) (s : State) → 10 ≤ numberOf (k .answersDrop number s) → k .leavesDrop number s ≡ s
+  UndroppedLeaves = (number : ℕ) (s : State) → 10 ≤ numberOf (k .drops number s .answer) → k .drops number s .left ≡ s
 
   -- A repeat: one more is repeated, and nothing else changes.
   abbrev pub RepeatLeaves : Type 0
-  RepeatLeaves = (bytes : List ℕ) (s : State) (heard : Heard) → k .answersGroup bytes s ≡ Answer.Repeat heard
-      → k .leavesGroup bytes s ≡ record { collector = s .collector; counts = oneRepeated (s .counts); stores = s .stores }
+  RepeatLeaves = (bytes : List ℕ) (s : State) (heard : Heard) → k .takes bytes s .answer ≡ Answer.Repeat heard
+      → k .takes bytes s .left ≡ record { collector = s .collector; counts = oneRepeated (s .counts); stores = s .stores }
 
   -- STATE exactly when the state is damaged: document 01's list.
   abbrev pub StateExactly : Type 0
-  StateExactly = (bytes : List ℕ) (s : State) → OfBytes (s .stores) → (k .answersGroup bytes s ≡ Answer.State) ↔ (¬ (InOrder s))
+  StateExactly = (bytes : List ℕ) (s : State) → OfBytes (s .stores) → (k .takes bytes s .answer ≡ Answer.State) ↔ (¬ (InOrder s))
 
   -- The same of a drop.
   abbrev pub StateDropExactly : Type 0
-  StateDropExactly = (number : ℕ) (s : State) → OfBytes (s .stores) → (k .answersDrop number s ≡ Answer.State) ↔ (¬ (InOrder s))
+  StateDropExactly = (number : ℕ) (s : State) → OfBytes (s .stores) → (k .drops number s .answer ≡ Answer.State) ↔ (¬ (InOrder s))
 
   -- Any other state is answered as if its marked segments had been stored.
   abbrev pub MarkedExactly : Type 0
   MarkedExactly = (s : State) → OfBytes (s .stores) → InOrder s → (g : Passing) (o : Outcome)
-      → (k .answersGroup (g .bytes) s ≡ answerAs o (heardOf g)) ↔ (Meets o (g .carried .part) (limitOf s) (segmentOf g) (markedUnder Header (g .carried .number) s) (markedUnder Body (g .carried .number) s) × Room o (g .carried .number) s)
+      → (k .takes (g .bytes) s .answer ≡ answerAs o (heardOf g)) ↔ (Meets o (g .carried .part) (limitOf s) (segmentOf g) (markedUnder Header (g .carried .number) s) (markedUnder Body (g .carried .number) s) × Room o (g .carried .number) s)
 
   -- An opening outside the limits leaves the counts and all that is lent, and hands back a state that every call answers
   -- with STATE.
@@ -211,11 +211,11 @@ module _ (k : Collecting) where
 
   -- A group that does not pass the reading checks is answered with the first that it fails.
   abbrev pub UnreadRefused : Type 0
-  UnreadRefused = (r : Run) (bytes : List ℕ) (why : Refusal) → readingOf bytes ≡ Refused why → k .answersGroup bytes (reachedBy k r) ≡ Answer.Refused why
+  UnreadRefused = (r : Run) (bytes : List ℕ) (why : Refusal) → readingOf bytes ≡ Refused why → k .takes bytes (reachedBy k r) .answer ≡ Answer.Refused why
 
   -- A drop: DROPPED exactly when the number holds a slot, NOTHELD exactly when not.
   abbrev pub DropExactly : Type 0
-  DropExactly = (r : Run) (number : ℕ) → ((k .answersDrop number (reachedBy k r) ≡ Answer.Dropped number) ↔ (find number (reachedBy k r) ≢ Nothing)) × ((k .answersDrop number (reachedBy k r) ≡ Answer.NotHeld) ↔ (find number (reachedBy k r) ≡ Nothing))
+  DropExactly = (r : Run) (number : ℕ) → ((k .drops number (reachedBy k r) .answer ≡ Answer.Dropped number) ↔ (find number (reachedBy k r) ≢ Nothing)) × ((k .drops number (reachedBy k r) .answer ≡ Answer.NotHeld) ↔ (find number (reachedBy k r) ≡ Nothing))
 
   -- A number holds no slot exactly when nothing is stored under it.
   abbrev pub UnheldExactly : Type 0
