@@ -137,10 +137,6 @@ module _ (k : Collecting) where
   abbrev pub UnansweredLeaves : Type 0
   UnansweredLeaves = (bytes : List ℕ) (s : State) → 19 ≤ numberOf (k .takes bytes s .answer) → k .takes bytes s .left ≡ s
 
-  -- A drop that is not carried out changes nothing either.
-  abbrev pub UndroppedLeaves : Type 0
-  UndroppedLeaves = (number : ℕ) (s : State) → 10 ≤ numberOf (k .drops number s .answer) → k .drops number s .left ≡ s
-
   -- A repeat: one more is repeated, and nothing else changes.
   abbrev pub RepeatLeaves : Type 0
   RepeatLeaves = (bytes : List ℕ) (s : State) (heard : Heard) → k .takes bytes s .answer ≡ Answer.Repeat heard
@@ -149,10 +145,6 @@ module _ (k : Collecting) where
   -- STATE exactly when the state is damaged: document 01's list.
   abbrev pub StateExactly : Type 0
   StateExactly = (bytes : List ℕ) (s : State) → OfBytes (s .stores) → (k .takes bytes s .answer ≡ Answer.State) ↔ (¬ (InOrder s))
-
-  -- The same of a drop.
-  abbrev pub StateDropExactly : Type 0
-  StateDropExactly = (number : ℕ) (s : State) → OfBytes (s .stores) → (k .drops number s .answer ≡ Answer.State) ↔ (¬ (InOrder s))
 
   -- Any other state is answered as if its marked segments had been stored.
   abbrev pub MarkedExactly : Type 0
@@ -168,6 +160,14 @@ module _ (k : Collecting) where
   -- No state so reached meets STATE.
   abbrev pub NeverState : Type 0
   NeverState = (r : Run) → Each NotState (toldBy k r)
+
+  -- A drop that is not carried out changes nothing, in any state.
+  abbrev pub UndroppedLeaves : Type 0
+  UndroppedLeaves = (number : ℕ) (s : State) → 10 ≤ numberOf (k .drops number s .answer) → k .drops number s .left ≡ s
+
+  -- A drop is answered STATE exactly when the state is damaged.
+  abbrev pub StateDropExactly : Type 0
+  StateDropExactly = (number : ℕ) (s : State) → OfBytes (s .stores) → (k .drops number s .answer ≡ Answer.State) ↔ (¬ (InOrder s))
 
   -- Calls under other numbers change nothing that is held for a number, nor what is shown of it.
   abbrev pub OthersLeave : Type 0
@@ -250,13 +250,13 @@ module _ (k : Collecting) where
 pub record Promised (k : Collecting) : Type 0 where
   pub refused : RefusedLeaves k
   pub unanswered : UnansweredLeaves k
-  pub undropped : UndroppedLeaves k
   pub repeating : RepeatLeaves k
   pub state : StateExactly k
-  pub stateDrop : StateDropExactly k
   pub marked : MarkedExactly k
   pub unopened : UnopenedLeaves k
   pub neverState : NeverState k
+  pub undropped : UndroppedLeaves k
+  pub stateDrop : StateDropExactly k
   pub others : OthersLeave k
   pub shown : ShownJoined k
   pub unshown : UnfinishedUnshown k

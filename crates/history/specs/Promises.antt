@@ -2,7 +2,7 @@
 use Rattle.history.specs.Refused.{refused-group, unanswered-group, refused-drop, repeated-group, refused-opening}
 use Rattle.history.specs.State.{in-order-exactly, group-state, drop-state}
 use Rattle.history.specs.Ours.{ours}
-use Rattle.history.specs.Promise.{RefusedLeaves, UnansweredLeaves, UndroppedLeaves, RepeatLeaves, StateExactly, StateDropExactly, MarkedExactly, UnopenedLeaves, NeverState, OthersLeave, ShownJoined, UnfinishedUnshown, CountsTold, ConflictExactly, FullExactly, RepeatExactly, CompleteExactly, StoredExactly, UnreadRefused, DropExactly, UnheldExactly, NoneFreeExactly, FinishedExactly, FinishedLengths, OneCutAgrees, OneCutFinishes, Promised}
+use Rattle.history.specs.Promise.{RefusedLeaves, UnansweredLeaves, RepeatLeaves, StateExactly, MarkedExactly, UnopenedLeaves, NeverState, UndroppedLeaves, StateDropExactly, OthersLeave, ShownJoined, UnfinishedUnshown, CountsTold, ConflictExactly, FullExactly, RepeatExactly, CompleteExactly, StoredExactly, UnreadRefused, DropExactly, UnheldExactly, NoneFreeExactly, FinishedExactly, FinishedLengths, OneCutAgrees, OneCutFinishes, Promised}
 use Rattle.history.specs.Answers.{marked-exactly}
 use Rattle.history.specs.Demands.{never-state, others-held, conflict-exactly, full-exactly, repeat-exactly, complete-exactly, stored-exactly, refused-unread, drop-exactly, unheld-stored, finished-exactly, finished-lengths, shown-joined, unfinished-nothing}
 use Rattle.history.specs.Room.{none-free-exactly}
@@ -17,17 +17,11 @@ refused-promised = refused-group
 pub unanswered-promised : UnansweredLeaves ours
 unanswered-promised = unanswered-group
 
-pub undropped-promised : UndroppedLeaves ours
-undropped-promised = refused-drop
-
 pub repeating-promised : RepeatLeaves ours
 repeating-promised = repeated-group
 
 pub state-promised : StateExactly ours
 state-promised = group-state
-
-pub state-drop-promised : StateDropExactly ours
-state-drop-promised = drop-state
 
 pub marked-promised : MarkedExactly ours
 marked-promised s y w g o = marked-exactly s (record { undamaged = in-order-exactly s y .1 w; bytes = y }) (g .bytes) (g .areBytes) (g .carried) (g .read) o
@@ -37,6 +31,12 @@ unopened-promised start = refused-opening (start .limit) (start .count) (start .
 
 pub never-state-promised : NeverState ours
 never-state-promised r = never-state (r .start) (r .allowed) (r .calls) (r .bytes)
+
+pub undropped-promised : UndroppedLeaves ours
+undropped-promised = refused-drop
+
+pub state-drop-promised : StateDropExactly ours
+state-drop-promised = drop-state
 
 pub others-promised : OthersLeave ours
 others-promised = others-held
@@ -99,13 +99,13 @@ pub promised : Promised ours
 promised = record {
   refused = refused-promised;
   unanswered = unanswered-promised;
-  undropped = undropped-promised;
   repeating = repeating-promised;
   state = state-promised;
-  stateDrop = state-drop-promised;
   marked = marked-promised;
   unopened = unopened-promised;
   neverState = never-state-promised;
+  undropped = undropped-promised;
+  stateDrop = state-drop-promised;
   others = others-promised;
   shown = shown-promised;
   unshown = unshown-promised;
