@@ -107,6 +107,9 @@ none = record { start = small; allowed = allowed; calls = []; bytes = tt }
 abbrev one : Run
 one = record { start = small; allowed = allowed; calls = hand five ∷ []; bytes = (omega arith, tt) }
 
+abbrev two : Run
+two = record { start = small; allowed = allowed; calls = hand six ∷ hand five ∷ []; bytes = (omega arith, (omega arith, tt)) }
+
 -- a drop between two groups
 abbrev again : Run
 again = record { start = small; allowed = allowed; calls = hand six ∷ drop 5 ∷ hand five ∷ []; bytes = (omega arith, (tt, (omega arith, tt))) }
@@ -215,11 +218,10 @@ unfolding fits
 finished-core limit hs bs l h b = rw (l, h, b) (fits, done, refl)
 
 -- by the joined bytes: what was answered STORED or COMPLETE is shown
-shown-breaks : (k : Collecting) → (stored k one Header 5 ≡ whole ∷ []) × (stored k one Body 5 ≡ []) × (k .shows 5 Header (reachedBy k one) ≡ []) → ¬ (ShownJoined k)
-unfolding small
-shown-breaks k c p =
-    let object = finished-core 1024 (stored k one Header 5) (stored k one Body 5) refl (c .0) (c .1) in
-    let e : _≡_ {A = List ℕ} [] core = sym (c .2) ∙ p one 5 (object .0) (object .1) .0 ∙ object .2 in
+shown-breaks : (k : Collecting) (r : Run) (number : ℕ) → r .start .limit ≡ 1024 → (stored k r Header number ≡ whole ∷ []) × (stored k r Body number ≡ []) × (k .shows number Header (reachedBy k r) ≡ []) → ¬ (ShownJoined k)
+shown-breaks k r number l c p =
+    let object = finished-core (r .start .limit) (stored k r Header number) (stored k r Body number) l (c .0) (c .1) in
+    let e : _≡_ {A = List ℕ} [] core = sym (c .2) ∙ p r number (object .0) (object .1) .0 ∙ object .2 in
     let z : _≡_ {A = ℕ} 0 1 = cc in
     absurd (omega arith)
 
@@ -236,7 +238,7 @@ writesNothing bytes s = record {
 
 pub writes-nothing-breaks : ¬ (ShownJoined (takingBy writesNothing))
 unfolding computing small writesNothing
-writes-nothing-breaks = shown-breaks (takingBy writesNothing) (refl, refl, refl)
+writes-nothing-breaks = shown-breaks (takingBy writesNothing) one 5 refl (refl, refl, refl)
 
 -- the header store is shown of every number, whatever is in it
 pub showsStore : ℕ → Part → State → List ℕ
@@ -335,7 +337,7 @@ stores-every-breaks p =
 -- and what was stored is shown
 pub stores-every-unshown : ¬ (ShownJoined (takingBy storesEvery))
 unfolding computing small storesEvery
-stores-every-unshown = shown-breaks (takingBy storesEvery) (refl, refl, refl)
+stores-every-unshown = shown-breaks (takingBy storesEvery) one 5 refl (refl, refl, refl)
 
 -- COMPLETE as soon as a last segment is stored
 abbrev completeAs : Reading → Answer → Answer
@@ -399,9 +401,9 @@ repeat-conflicts-breaks p = p one single 5 (from, tt) groupFive refl (record { s
     from : From single 5 (hand five)
     from carried r n = let same : readAs 5 Header 0 true 7 ≡ carried = cc (reads .0) in subst (λ (c : Carried). SentBy single (c .part) (segmentIn five c)) same (record { starts = omega arith; holds = refl; ends = refl })
 
--- the first group is stored, and afterwards it is only said
+-- it stores the first group, and afterwards only says so
 pub storesFirst : List ℕ → State → Reply
-storesFirst bytes s = pick (eqb (s .counts .taken) 0) (taking bytes s) (answering (taking bytes s .answer) s)
+storesFirst bytes s = pick (eqb (s .counts .taken) 0) (taking bytes s) (answering (storedAs (readingOf bytes)) s)
 
 -- once all groups of a cut have come, the object is finished
 pub stores-first-breaks : ¬ (OneCutFinishes (takingBy storesFirst))
@@ -411,3 +413,8 @@ stores-first-breaks p = gathering-unfinished (length (object .header)) (length (
     all-come : (part : Part) (s : Segment) → SentBy object part s → Among s (cameUnder part 5 (told (takingBy storesFirst) small oneCut))
     all-come Header = all-sent Header
     all-come Body = all-sent Body
+
+-- and what was stored is shown
+pub stores-first-unshown : ¬ (ShownJoined (takingBy storesFirst))
+unfolding computing small storesFirst
+stores-first-unshown = shown-breaks (takingBy storesFirst) two 6 refl (refl, refl, refl)
