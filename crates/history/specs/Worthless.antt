@@ -156,7 +156,7 @@ gathering-unfinished header body e = let z : _≡_ {A = ℕ} 0 1 = cc in absurd 
 -- ---- demand 1
 
 -- a drop that leaves the marks of its slot
-pub keepsMarks : ℕ → State → Reply
+abbrev pub keepsMarks : ℕ → State → Reply
 keepsMarks number s = record {
   answer = dropping number s .answer;
   left = record { collector = dropping number s .left .collector; counts = dropping number s .left .counts; stores = s .stores };
@@ -164,11 +164,11 @@ keepsMarks number s = record {
 
 -- a free slot with a mark is damaged, so the next group meets STATE
 pub keeps-marks-breaks : ¬ (NeverState (droppingBy keepsMarks))
-unfolding computing small keepsMarks
+unfolding computing small
 keeps-marks-breaks p = p again .0 refl
 
 -- a group that is FULL drops the object in the first slot, to make room
-pub makesRoom : List ℕ → State → Reply
+abbrev pub makesRoom : List ℕ → State → Reply
 makesRoom bytes s = record {
   answer = taking bytes s .answer;
   left = pick (eqb (numberOf (taking bytes s .answer)) 18) (dropping (slotOf 0 s .number) (taking bytes s .left) .left) (taking bytes s .left);
@@ -176,13 +176,13 @@ makesRoom bytes s = record {
 
 -- a refusal leaves every slot's record
 pub makes-room-breaks : ¬ (RefusedLeaves (takingBy makesRoom))
-unfolding computing small makesRoom
+unfolding computing small
 makes-room-breaks p =
     let s : State = reachedBy (takingBy makesRoom) one in
     different (find 5 (makesRoom six s .left)) (find 5 s) (ap (λ (t : State). find 5 t) (p six s (omega arith) (omega arith))) refl refl
 
 -- a drop that frees every slot
-pub dropsAll : ℕ → State → Reply
+abbrev pub dropsAll : ℕ → State → Reply
 dropsAll number s = record {
   answer = dropping number s .answer;
   left = record {
@@ -194,18 +194,18 @@ dropsAll number s = record {
 
 -- the drop of another number changes nothing that is held for a number
 pub drops-all-breaks : ¬ (OthersLeave (droppingBy dropsAll))
-unfolding computing small dropsAll
+unfolding computing small
 drops-all-breaks p =
     let s : State = reachedBy (droppingBy dropsAll) one in
     different (find 5 (dropsAll 6 s .left)) (find 5 s) (p one 5 (drop 6 ∷ []) (tt, tt) ((λ e. absurd (omega arith)), tt) .0 .found) refl refl
 
 -- a question that drops what it asks for
-pub dropsAsked : ℕ → Part → State → State
+abbrev pub dropsAsked : ℕ → Part → State → State
 dropsAsked number part s = dropping number s .left
 
 -- nor does a question change anything
 pub drops-asked-breaks : ¬ (OthersLeave (askingBy dropsAsked))
-unfolding computing small dropsAsked
+unfolding computing small
 drops-asked-breaks p =
     let s : State = reachedBy (askingBy dropsAsked) one in
     different (find 5 (dropsAsked 5 Header s)) (find 5 s) (p one 5 (ask 5 Header ∷ []) (tt, tt) (tt, tt) .0 .found) refl refl
@@ -226,7 +226,7 @@ shown-breaks k r number l c p =
     absurd (omega arith)
 
 -- answers, records, marks and counts as they should be, and no store byte is written
-pub writesNothing : List ℕ → State → Reply
+abbrev pub writesNothing : List ℕ → State → Reply
 writesNothing bytes s = record {
   answer = taking bytes s .answer;
   left = record {
@@ -237,16 +237,16 @@ writesNothing bytes s = record {
 }
 
 pub writes-nothing-breaks : ¬ (ShownJoined (takingBy writesNothing))
-unfolding computing small writesNothing
+unfolding computing small
 writes-nothing-breaks = shown-breaks (takingBy writesNothing) one 5 refl (refl, refl, refl)
 
 -- the header store is shown of every number, whatever is in it
-pub showsStore : ℕ → Part → State → List ℕ
+abbrev pub showsStore : ℕ → Part → State → List ℕ
 showsStore number part s = s .stores .header
 
 -- of a number that is not finished nothing is shown
 pub shows-store-breaks : ¬ (UnfinishedUnshown (showingBy showsStore))
-unfolding computing small showsStore
+unfolding computing small
 shows-store-breaks p =
     let e = p none 5 (λ f w. none-finished 1024 [] [] f w refl) Header in
     let z : _≡_ {A = ℕ} 0 1 = cc in
@@ -257,23 +257,23 @@ taken-breaks : (k : Collecting) (r : Run) (counted told : ℕ) → reachedBy k r
 taken-breaks k r counted told c t n p = n (rw (c, t) at (ap (λ (x : Counts). x .taken) (p r)))
 
 -- counts that are made up
-pub inventsCounts : List ℕ → State → Reply
+abbrev pub inventsCounts : List ℕ → State → Reply
 inventsCounts bytes s = record {
   answer = taking bytes s .answer;
   left = record { collector = taking bytes s .left .collector; counts = noneYet; stores = taking bytes s .left .stores };
 }
 
 pub invents-counts-breaks : ¬ (CountsTold (takingBy inventsCounts))
-unfolding computing small answersFrom inventsCounts
+unfolding computing small answersFrom
 invents-counts-breaks = taken-breaks (takingBy inventsCounts) one 0 1 refl refl (λ e. absurd (omega arith))
 
 -- an opening that leaves the counts as they were
-pub keepsCounts : Start → State
+abbrev pub keepsCounts : Start → State
 keepsCounts start = record { collector = opened start .collector; counts = start .counts; stores = opened start .stores }
 
 -- an opening sets them to 0
 pub keeps-counts-breaks : ¬ (CountsTold (openingBy keepsCounts))
-unfolding computing small answersFrom keepsCounts
+unfolding computing small answersFrom
 keeps-counts-breaks = taken-breaks (openingBy keepsCounts) later 3 0 refl refl (λ e. absurd (omega arith))
 
 -- ---- demand 3
@@ -291,12 +291,12 @@ too-short f =
     omega (arith, f .object .headerLow)
 
 -- LENGTH for every group
-pub refusesEvery : List ℕ → State → Reply
+abbrev pub refusesEvery : List ℕ → State → Reply
 refusesEvery bytes s = answering (Answer.Refused Refusal.Length) s
 
 -- a group that no object and cut send is CONFLICT, whatever else is refused
 pub refuses-every-breaks : ¬ (ConflictExactly (takingBy refusesEvery))
-unfolding under segmentIn small groupShort refusesEvery
+unfolding under segmentIn small groupShort
 refuses-every-breaks p =
     let e : Answer.Refused Refusal.Length ≡ Answer.Conflict (heardOf groupShort) = p none groupShort .1 too-short in
     let z : _≡_ {A = ℕ} 0 1 = cc in
@@ -308,12 +308,12 @@ fullAs Nothing (Read carried) bytes s = answering (Answer.Full (heardAs carried)
 fullAs Nothing (Refused why) bytes s = taking bytes s
 fullAs (At i) reading bytes s = taking bytes s
 
-pub fullUnlessFree : List ℕ → State → Reply
+abbrev pub fullUnlessFree : List ℕ → State → Reply
 fullUnlessFree bytes s = fullAs (free s) (readingOf bytes) bytes s
 
 -- a number that holds a slot is never FULL
 pub full-unless-free-breaks : ¬ (FullExactly (takingBy fullUnlessFree))
-unfolding computing small groupFive fullUnlessFree
+unfolding computing small groupFive
 full-unless-free-breaks p =
     let s : State = reachedBy (takingBy fullUnlessFree) one in
     different (find 5 s) (find 5 s) refl (p one groupFive .0 refl .1) refl
@@ -323,12 +323,12 @@ abbrev storedAs : Reading → Answer
 storedAs (Read carried) = Answer.Stored (heardAs carried)
 storedAs (Refused why) = Answer.Refused why
 
-pub storesEvery : List ℕ → State → Reply
+abbrev pub storesEvery : List ℕ → State → Reply
 storesEvery bytes s = answering (storedAs (readingOf bytes)) s
 
 -- a segment that was stored comes again as REPEAT
 pub stores-every-breaks : ¬ (RepeatExactly (takingBy storesEvery))
-unfolding computing small groupFive storesEvery
+unfolding computing small groupFive
 stores-every-breaks p =
     let e : Answer.Stored (heardOf groupFive) ≡ Answer.Repeat (heardOf groupFive) = p one groupFive .1 (inl refl) in
     let z : _≡_ {A = ℕ} 0 1 = cc in
@@ -336,7 +336,7 @@ stores-every-breaks p =
 
 -- and what was stored is shown
 pub stores-every-unshown : ¬ (ShownJoined (takingBy storesEvery))
-unfolding computing small storesEvery
+unfolding computing small
 stores-every-unshown = shown-breaks (takingBy storesEvery) one 5 refl (refl, refl, refl)
 
 -- COMPLETE as soon as a last segment is stored
@@ -344,7 +344,7 @@ abbrev completeAs : Reading → Answer → Answer
 completeAs (Read carried) answer = pick (both (carried .last) (eqb (numberOf answer) 0)) (Answer.Complete (heardAs carried)) answer
 completeAs (Refused why) answer = answer
 
-pub completesByLast : List ℕ → State → Reply
+abbrev pub completesByLast : List ℕ → State → Reply
 completesByLast bytes s = record {
   answer = completeAs (readingOf bytes) (taking bytes s .answer);
   left = record {
@@ -356,13 +356,13 @@ completesByLast bytes s = record {
 
 -- nothing is COMPLETE without a header
 pub completes-by-last-breaks : ¬ (CompleteExactly (takingBy completesByLast))
-unfolding computing small groupLast completesByLast
+unfolding computing small groupLast
 completes-by-last-breaks p =
     let m = p none groupLast .0 refl in
     none-finished 1024 [] (segmentIn bodyLast (readAs 5 Body 1 true 4) ∷ []) (m .0 .0) (m .0 .1) refl
 
 -- DROPPED for every number
-pub dropsUnheld : ℕ → State → Reply
+abbrev pub dropsUnheld : ℕ → State → Reply
 dropsUnheld number s = record {
   answer = Answer.Dropped number;
   left = record { collector = dropping number s .left .collector; counts = counted (Answer.Dropped number) (s .counts); stores = dropping number s .left .stores };
@@ -370,16 +370,16 @@ dropsUnheld number s = record {
 
 -- a drop is DROPPED only where the number holds a slot
 pub drops-unheld-breaks : ¬ (DropExactly (droppingBy dropsUnheld))
-unfolding computing small dropsUnheld
+unfolding computing small
 drops-unheld-breaks p = p none 5 .0 .0 refl refl
 
 -- a segment that completes its object is answered and counted, and not taken in
-pub neverFinishes : List ℕ → State → Reply
+abbrev pub neverFinishes : List ℕ → State → Reply
 neverFinishes bytes s = pick (eqb (numberOf (taking bytes s .answer)) 1) (answering (taking bytes s .answer) s) (taking bytes s)
 
 -- an object is finished once every segment is stored
 pub never-finishes-breaks : ¬ (FinishedExactly (takingBy neverFinishes))
-unfolding computing small neverFinishes
+unfolding computing small
 never-finishes-breaks p =
     let object = finished-core 1024 (stored (takingBy neverFinishes) one Header 5) (stored (takingBy neverFinishes) one Body 5) refl refl refl in
     let stage = p one 5 .1 (object .0, object .1) in
@@ -390,24 +390,24 @@ abbrev conflictAs : Reading → List ℕ → State → Reply
 conflictAs (Read carried) bytes s = pick (eqb (numberOf (taking bytes s .answer)) 2) (answering (Answer.Conflict (heardAs carried)) s) (taking bytes s)
 conflictAs (Refused why) bytes s = taking bytes s
 
-pub repeatConflicts : List ℕ → State → Reply
+abbrev pub repeatConflicts : List ℕ → State → Reply
 repeatConflicts bytes s = conflictAs (readingOf bytes) bytes s
 
 -- a group that comes again from the same cut does not conflict
 pub repeat-conflicts-breaks : ¬ (OneCutAgrees (takingBy repeatConflicts))
-unfolding computing small groupFive single repeatConflicts
+unfolding computing small groupFive single
 repeat-conflicts-breaks p = p one single 5 (from, tt) groupFive refl (record { starts = omega arith; holds = refl; ends = refl }) refl
   where
     from : From single 5 (hand five)
     from carried r n = let same : readAs 5 Header 0 true 7 ≡ carried = cc (reads .0) in subst (λ (c : Carried). SentBy single (c .part) (segmentIn five c)) same (record { starts = omega arith; holds = refl; ends = refl })
 
 -- it stores the first group, and afterwards only says so
-pub storesFirst : List ℕ → State → Reply
+abbrev pub storesFirst : List ℕ → State → Reply
 storesFirst bytes s = pick (eqb (s .counts .taken) 0) (taking bytes s) (answering (storedAs (readingOf bytes)) s)
 
 -- once all groups of a cut have come, the object is finished
 pub stores-first-breaks : ¬ (OneCutFinishes (takingBy storesFirst))
-unfolding computing small storesFirst
+unfolding computing small
 stores-first-breaks p = gathering-unfinished (length (object .header)) (length (object .body)) (p many object 5 from-one all-come .0)
   where
     all-come : (part : Part) (s : Segment) → SentBy object part s → Among s (cameUnder part 5 (told (takingBy storesFirst) small oneCut))
@@ -416,5 +416,5 @@ stores-first-breaks p = gathering-unfinished (length (object .header)) (length (
 
 -- and what was stored is shown
 pub stores-first-unshown : ¬ (ShownJoined (takingBy storesFirst))
-unfolding computing small storesFirst
+unfolding computing small
 stores-first-unshown = shown-breaks (takingBy storesFirst) two 6 refl (refl, refl, refl)
