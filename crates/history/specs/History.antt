@@ -22,9 +22,9 @@ use Rattle.cut.specs.LawsObject.{headersWith, bodiesWith}
 use Rattle.slots.specs.Stores.{Stores}
 use Rattle.slots.specs.StateTests.{Limits}
 use Rattle.collector.specs.Calls.{segmentIn}
-use Rattle.history.specs.Call.{State, groupAnswer, groupLeaves, dropAnswer, dropLeaves, opening}
+use Rattle.history.specs.Call.{State, Reply, taking, dropping, opening}
 use Rattle.history.specs.Ready.{OfBytes}
-use Rattle.history.specs.Shown.{showing}
+use Rattle.history.specs.Shown.{showing, asking}
 
 -- a group is handed in, a number is dropped, a header or a body is asked for
 pub data Call : Type 0 where
@@ -64,23 +64,23 @@ pub record Allowed (start : Start) : Type 0 where
   pub limits : Limits (start .limit) (start .count) (length (start .stores .header)) (length (start .stores .body)) (length (start .stores .marks))
   pub bytes : OfBytes (start .stores)
 
--- a collector, as a history of calls meets it: what each call answers and leaves
+-- a collector, as a history of calls meets it: what an opening leaves, what a group and a drop are answered and leave, what a
+-- question shows, and what it leaves
 pub record Collecting : Type 0 where
   pub opens : Start → State
-  pub answersGroup : List ℕ → State → Answer
-  pub leavesGroup : List ℕ → State → State
-  pub answersDrop : ℕ → State → Answer
-  pub leavesDrop : ℕ → State → State
+  pub takes : List ℕ → State → Reply
+  pub drops : ℕ → State → Reply
   pub shows : ℕ → Part → State → List ℕ
+  pub asks : ℕ → Part → State → State
 
 abbrev pub leaves : Collecting → Call → State → State
-leaves k (hand bytes) s = k .leavesGroup bytes s
-leaves k (drop number) s = k .leavesDrop number s
-leaves k (ask number part) s = s
+leaves k (hand bytes) s = k .takes bytes s .left
+leaves k (drop number) s = k .drops number s .left
+leaves k (ask number part) s = k .asks number part s
 
 abbrev pub event : Collecting → Call → State → Event
-event k (hand bytes) s = handed bytes (k .answersGroup bytes s)
-event k (drop number) s = dropped number (k .answersDrop number s)
+event k (hand bytes) s = handed bytes (k .takes bytes s .answer)
+event k (drop number) s = dropped number (k .drops number s .answer)
 event k (ask number part) s = asked number part (k .shows number part s)
 
 -- the state after the calls
@@ -130,17 +130,16 @@ under test part number (asked other p shown ∷ events) = under test part number
 abbrev pub storedUnder : Part → ℕ → List Event → List Segment
 storedUnder = under isStored
 
--- ---- our collector: its own definitions
+-- ---- the collector's own definitions: the laws speak of them, and the promises of our collector, which is made of them
 
 abbrev pub opened : Start → State
 opened start = opening (start .limit) (start .count) (start .counts) (start .stores)
 
-abbrev pub ours : Collecting
-ours = record {
+abbrev pub defined : Collecting
+defined = record {
   opens = opened;
-  answersGroup = groupAnswer;
-  leavesGroup = groupLeaves;
-  answersDrop = dropAnswer;
-  leavesDrop = dropLeaves;
+  takes = taking;
+  drops = dropping;
   shows = showing;
+  asks = asking;
 }

@@ -19,6 +19,8 @@ pub mod Room
 pub mod Tally
 pub mod Demands
 pub mod OneCut
+pub mod Samples
+pub mod Worthless
+pub mod Ours
 pub mod Promises
 pub mod Example
-pub mod Worthless

@@ -27,7 +27,7 @@ use Rattle.gathering.specs.OffersKept.{source-fits}
 use Rattle.collector.specs.Calls.{heardAs, segmentIn, answerAs}
 use Rattle.history.specs.Call.{taking, groupAnswer, dropAnswer, came}
 use Rattle.history.specs.Shown.{showing}
-use Rattle.history.specs.History.{Call, hand, drop, ask, CallBytes, Start, Allowed, reached, told, isStored, isDropped, with, afterGroup, under, storedUnder, ours}
+use Rattle.history.specs.History.{Call, hand, drop, ask, CallBytes, Start, Allowed, reached, told, isStored, isDropped, with, afterGroup, under, storedUnder, defined}
 use Rattle.history.specs.Reached.{reached-intact}
 use Rattle.history.specs.Answers.{came-named}
 use Rattle.history.specs.Held.{stageFor}
@@ -36,7 +36,7 @@ use Rattle.history.specs.Demands.{conflict-exactly, repeat-exactly, fini
 
 -- what was stored of a part under a number
 abbrev kept : Start → List Call → Part → ℕ → List Segment
-kept start calls part number = storedUnder part number (told ours start calls)
+kept start calls part number = storedUnder part number (told defined start calls)
 
 -- ---- all that is stored was sent by it
 
@@ -66,8 +66,8 @@ drop-sent object part segments false d e = e
 stored-sent : (start : Start) (object : Source (start .limit)) (part : Part) (number : ℕ) (calls : List Call) → Each (From object number) calls → Each (SentBy object part) (kept start calls part number)
 unfolding under
 stored-sent start object part number [] f = tt
-stored-sent start object part number (hand bytes ∷ calls) f = group-sent object part number bytes (groupAnswer bytes (reached ours start calls)) (kept start calls part number) (f .0) (stored-sent start object part number calls (f .1))
-stored-sent start object part number (drop other ∷ calls) f = drop-sent object part (kept start calls part number) (eqb other number) (isDropped (dropAnswer other (reached ours start calls))) (stored-sent start object part number calls (f .1))
+stored-sent start object part number (hand bytes ∷ calls) f = group-sent object part number bytes (groupAnswer bytes (reached defined start calls)) (kept start calls part number) (f .0) (stored-sent start object part number calls (f .1))
+stored-sent start object part number (drop other ∷ calls) f = drop-sent object part (kept start calls part number) (eqb other number) (isDropped (dropAnswer other (reached defined start calls))) (stored-sent start object part number calls (f .1))
 stored-sent start object part number (ask other p ∷ calls) f = stored-sent start object part number calls (f .1)
 
 -- so they fit it, with one more that it sends
@@ -77,10 +77,10 @@ more-fits limit object Body segment hs bs u h b = source-fits limit object hs (s
 
 -- the next group under the number, if it comes from the same cut as all before it, does not conflict
 pub one-cut-agrees : (r : Run) (object : Source (r .start .limit)) (number : ℕ) → Each (From object number) (r .calls)
-    → (g : Passing) → g .carried .number ≡ number → SentBy object (g .carried .part) (segmentOf g) → answerTo ours r g ≢ Answer.Conflict (heardOf g)
+    → (g : Passing) → g .carried .number ≡ number → SentBy object (g .carried .part) (segmentOf g) → answerTo defined r g ≢ Answer.Conflict (heardOf g)
 one-cut-agrees r object number f g n u e =
     conflict-exactly r g .0 e
-    (more-fits (r .start .limit) object (g .carried .part) (segmentOf g) (stored ours r Header (g .carried .number)) (stored ours r Body (g .carried .number)) u (rw n (stored-sent (r .start) object Header number (r .calls) f)) (rw n (stored-sent (r .start) object Body number (r .calls) f)))
+    (more-fits (r .start .limit) object (g .carried .part) (segmentOf g) (stored defined r Header (g .carried .number)) (stored defined r Body (g .carried .number)) u (rw n (stored-sent (r .start) object Header number (r .calls) f)) (rw n (stored-sent (r .start) object Body number (r .calls) f)))
 
 -- ---- all that came is stored
 
@@ -124,8 +124,8 @@ answered-into part p segment came kept answer carried into (inr (Repeat, e)) n r
 answered-into part p segment came kept answer carried into (inr (Conflict, e)) n r = absurd (n e)
 
 module _ (start : Start) (allowed : Allowed start) (object : Source (start .limit)) (number : ℕ) (part : Part) where
-  group-into : (bytes : List ℕ) (calls : List Call) → Bytes bytes → Each CallBytes calls → From object number (hand bytes) → Each (From object number) calls → Into (cameUnder part number (told ours start calls)) (kept start calls part number)
-      → Into (cameUnder part number (told ours start (hand bytes ∷ calls))) (kept start (hand bytes ∷ calls) part number)
+  group-into : (bytes : List ℕ) (calls : List Call) → Bytes bytes → Each CallBytes calls → From object number (hand bytes) → Each (From object number) calls → Into (cameUnder part number (told defined start calls)) (kept start calls part number)
+      → Into (cameUnder part number (told defined start (hand bytes ∷ calls))) (kept start (hand bytes ∷ calls) part number)
   unfolding under
   group-into bytes calls b y from f into = go (readingOf bytes) refl
     where
@@ -133,19 +133,19 @@ module _ (start : Start) (allowed : Allowed start) (object : Source (start .limi
       run = record { start = start; allowed = allowed; calls = calls; bytes = y }
 
       arrived : List Segment
-      arrived = cameUnder part number (told ours start calls)
+      arrived = cameUnder part number (told defined start calls)
 
       held : List Segment
       held = kept start calls part number
 
       answer : Answer
-      answer = groupAnswer bytes (reached ours start calls)
+      answer = groupAnswer bytes (reached defined start calls)
 
       mine : (carried : Carried) → readingOf bytes ≡ Read carried → carried .number ≡ number → Into (pick (hadSlot answer) (with part (carried .part) (segmentIn bytes carried) arrived) arrived) (pick (isStored answer) (with part (carried .part) (segmentIn bytes carried) held) held)
       mine carried r n =
           let g : Passing = record { bytes = bytes; areBytes = b; carried = carried; read = r } in
           answered-into part (carried .part) (segmentIn bytes carried) arrived held answer carried into
-          (came-named carried (segmentIn bytes carried) (reached ours start calls) (taking bytes (reached ours start calls)) (came bytes (reached ours start calls) (reached-intact start allowed calls y .undamaged) carried r))
+          (came-named carried (segmentIn bytes carried) (reached defined start calls) (taking bytes (reached defined start calls)) (came bytes (reached defined start calls) (reached-intact start allowed calls y .undamaged) carried r))
           (one-cut-agrees run object number f g n (from carried r n))
           (λ e q. rw (q, ← n) (repeat-exactly run g .0 e))
 
@@ -158,25 +158,25 @@ module _ (start : Start) (allowed : Allowed start) (object : Source (start .limi
       go (Refused why) r = rw r into
       go (Read carried) r = rw r (under-it carried r (eqb (carried .number) number) refl)
 
-  came-stored : (calls : List Call) → Each CallBytes calls → Each (From object number) calls → Into (cameUnder part number (told ours start calls)) (kept start calls part number)
+  came-stored : (calls : List Call) → Each CallBytes calls → Each (From object number) calls → Into (cameUnder part number (told defined start calls)) (kept start calls part number)
   unfolding under Into
   came-stored [] y f s i = i
   came-stored (hand bytes ∷ calls) y f s i = group-into bytes calls (y .0) (y .1) (f .0) (f .1) (came-stored calls (y .1) (f .1)) s i
-  came-stored (drop other ∷ calls) y f s i = drop-into (cameUnder part number (told ours start calls)) (kept start calls part number) (eqb other number) (isDropped (dropAnswer other (reached ours start calls))) (came-stored calls (y .1) (f .1)) s i
+  came-stored (drop other ∷ calls) y f s i = drop-into (cameUnder part number (told defined start calls)) (kept start calls part number) (eqb other number) (isDropped (dropAnswer other (reached defined start calls))) (came-stored calls (y .1) (f .1)) s i
   came-stored (ask other p ∷ calls) y f s i = came-stored calls (y .1) (f .1) s i
 
 -- once every segment that it sends has come under the number, each with a slot there, it is finished and shown
 pub one-cut-finishes : (r : Run) (object : Source (r .start .limit)) (number : ℕ) → Each (From object number) (r .calls)
-    → ((part : Part) (s : Segment) → SentBy object part s → Among s (cameUnder part number (toldBy ours r)))
-    → (stageFor number (reachedBy ours r) ≡ Stage.Finished (length (object .header)) (length (object .body)))
-    × (showing number Header (reachedBy ours r) ≡ object .header) × (showing number Body (reachedBy ours r) ≡ object .body)
+    → ((part : Part) (s : Segment) → SentBy object part s → Among s (cameUnder part number (toldBy defined r)))
+    → (stageFor number (reachedBy defined r) ≡ Stage.Finished (length (object .header)) (length (object .body)))
+    × (showing number Header (reachedBy defined r) ≡ object .header) × (showing number Body (reachedBy defined r) ≡ object .body)
 unfolding Into
 one-cut-finishes r object number f all =
     let shown = shown-joined r number fit done in
     (finished-lengths r number fit done, shown .0, shown .1)
   where
-    fit : FitsStored ours r number
-    fit = source-fits (r .start .limit) object (stored ours r Header number) (stored ours r Body number) (stored-sent (r .start) object Header number (r .calls) f) (stored-sent (r .start) object Body number (r .calls) f)
+    fit : FitsStored defined r number
+    fit = source-fits (r .start .limit) object (stored defined r Header number) (stored defined r Body number) (stored-sent (r .start) object Header number (r .calls) f) (stored-sent (r .start) object Body number (r .calls) f)
 
     done : Finished fit
     done = record {

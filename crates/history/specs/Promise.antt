@@ -1,5 +1,5 @@
--- What is promised of a collector: document 01's demands, over any run of it, an opening within the limits and any calls
--- after it. What was stored under a number is read off the answers.
+-- What is promised of a collector: document 01's demands, each with a name of its own, over any run of it, an opening within
+-- the limits and any calls after it. What was stored under a number is read off the answers.
 use mathlib.Core.Path.{_≡_}
 use mathlib.Core.Logic.{_≢_, _↔_}
 use mathlib.Core.Bool.{Bool, true, false}
@@ -70,7 +70,7 @@ heardOf g = heardAs (g .carried)
 
 -- what it is answered
 abbrev pub answerTo : Collecting → Run → Passing → Answer
-answerTo k r g = k .answersGroup (g .bytes) (reachedBy k r)
+answerTo k r g = k .takes (g .bytes) (reachedBy k r) .answer
 
 -- some object and cut send all that is stored under a number
 abbrev pub FitsStored : Collecting → Run → ℕ → Type 0
@@ -124,68 +124,153 @@ hadSlot answer = pick (eqb (numberOf answer) 18) false true
 abbrev pub cameUnder : Part → ℕ → List Event → List Segment
 cameUnder = under hadSlot
 
--- ---- the promises
+-- ---- the promises, of any collector
 
-pub record Promised (k : Collecting) : Type 0 where
+module _ (k : Collecting) where
   -- Demand 1. A refused group, 10 to 18, in any state: one more is refused, and every other count, every store byte, every
   -- mark and every slot's record stay.
-  pub refused : (bytes : List ℕ) (s : State) → 10 ≤ numberOf (k .answersGroup bytes s) → numberOf (k .answersGroup bytes s) ≤ 18
-      → k .leavesGroup bytes s ≡ record { collector = s .collector; counts = oneRefused (s .counts); stores = s .stores }
-  -- 19 to 26 change nothing, the counts neither.
-  pub unanswered : (bytes : List ℕ) (s : State) → 19 ≤ numberOf (k .answersGroup bytes s) → k .leavesGroup bytes s ≡ s
-  pub undropped : (number : ℕ) (s : State) → 10 ≤ numberOf (k .answersDrop number s) → k .leavesDrop number s ≡ s
+  abbrev pub RefusedLeaves : Type 0
+  RefusedLeaves = (bytes : List ℕ) (s : State) → 10 ≤ numberOf (k .takes bytes s .answer) → numberOf (k .takes bytes s .answer) ≤ 18
+      → k .takes bytes s .left ≡ record { collector = s .collector; counts = oneRefused (s .counts); stores = s .stores }
+
+  -- A group that is answered 19 to 26 changes nothing, the counts neither.
+  abbrev pub UnansweredLeaves : Type 0
+  UnansweredLeaves = (bytes : List ℕ) (s : State) → 19 ≤ numberOf (k .takes bytes s .answer) → k .takes bytes s .left ≡ s
+
   -- A repeat: one more is repeated, and nothing else changes.
-  pub repeating : (bytes : List ℕ) (s : State) (heard : Heard) → k .answersGroup bytes s ≡ Answer.Repeat heard
-      → k .leavesGroup bytes s ≡ record { collector = s .collector; counts = oneRepeated (s .counts); stores = s .stores }
+  abbrev pub RepeatLeaves : Type 0
+  RepeatLeaves = (bytes : List ℕ) (s : State) (heard : Heard) → k .takes bytes s .answer ≡ Answer.Repeat heard
+      → k .takes bytes s .left ≡ record { collector = s .collector; counts = oneRepeated (s .counts); stores = s .stores }
+
   -- STATE exactly when the state is damaged: document 01's list.
-  pub state : (bytes : List ℕ) (s : State) → OfBytes (s .stores) → (k .answersGroup bytes s ≡ Answer.State) ↔ (¬ (InOrder s))
-  pub stateDrop : (number : ℕ) (s : State) → OfBytes (s .stores) → (k .answersDrop number s ≡ Answer.State) ↔ (¬ (InOrder s))
+  abbrev pub StateExactly : Type 0
+  StateExactly = (bytes : List ℕ) (s : State) → OfBytes (s .stores) → (k .takes bytes s .answer ≡ Answer.State) ↔ (¬ (InOrder s))
+
   -- Any other state is answered as if its marked segments had been stored.
-  pub marked : (s : State) → OfBytes (s .stores) → InOrder s → (g : Passing) (o : Outcome)
-      → (k .answersGroup (g .bytes) s ≡ answerAs o (heardOf g)) ↔ (Meets o (g .carried .part) (limitOf s) (segmentOf g) (markedUnder Header (g .carried .number) s) (markedUnder Body (g .carried .number) s) × Room o (g .carried .number) s)
+  abbrev pub MarkedExactly : Type 0
+  MarkedExactly = (s : State) → OfBytes (s .stores) → InOrder s → (g : Passing) (o : Outcome)
+      → (k .takes (g .bytes) s .answer ≡ answerAs o (heardOf g)) ↔ (Meets o (g .carried .part) (limitOf s) (segmentOf g) (markedUnder Header (g .carried .number) s) (markedUnder Body (g .carried .number) s) × Room o (g .carried .number) s)
+
   -- An opening outside the limits leaves the counts and all that is lent, and hands back a state that every call answers
   -- with STATE.
-  pub unopened : (start : Start) → inLimits (start .limit) (start .count) (start .stores) ≡ false
+  abbrev pub UnopenedLeaves : Type 0
+  UnopenedLeaves = (start : Start) → inLimits (start .limit) (start .count) (start .stores) ≡ false
       → (k .opens start .counts ≡ start .counts) × (k .opens start .stores ≡ start .stores) × (sound (k .opens start) ≡ false)
+
   -- No state so reached meets STATE.
-  pub neverState : (r : Run) → Each NotState (toldBy k r)
+  abbrev pub NeverState : Type 0
+  NeverState = (r : Run) → Each NotState (toldBy k r)
+
+  -- A drop that is not carried out changes nothing, in any state.
+  abbrev pub UndroppedLeaves : Type 0
+  UndroppedLeaves = (number : ℕ) (s : State) → 10 ≤ numberOf (k .drops number s .answer) → k .drops number s .left ≡ s
+
+  -- A drop is answered STATE exactly when the state is damaged.
+  abbrev pub StateDropExactly : Type 0
+  StateDropExactly = (number : ℕ) (s : State) → OfBytes (s .stores) → (k .drops number s .answer ≡ Answer.State) ↔ (¬ (InOrder s))
+
   -- Calls under other numbers change nothing that is held for a number, nor what is shown of it.
-  pub others : (r : Run) (number : ℕ) (more : List Call) → Each CallBytes more → Each (Elsewhere number) more
+  abbrev pub OthersLeave : Type 0
+  OthersLeave = (r : Run) (number : ℕ) (more : List Call) → Each CallBytes more → Each (Elsewhere number) more
       → Same number (reachedBy k r) (after k more (reachedBy k r)) × ((part : Part) → k .shows number part (after k more (reachedBy k r)) ≡ k .shows number part (reachedBy k r))
+
   -- Demand 2. What is shown of a finished object: the header and the body of every object and cut that fits, which are the
   -- stored segments joined by number.
-  pub shown : (r : Run) (number : ℕ) (f : FitsStored k r number) → Finished f
+  abbrev pub ShownJoined : Type 0
+  ShownJoined = (r : Run) (number : ℕ) (f : FitsStored k r number) → Finished f
       → (k .shows number Header (reachedBy k r) ≡ f .header) × (k .shows number Body (reachedBy k r) ≡ f .body)
       × (k .shows number Header (reachedBy k r) ≡ joined headerNumbers (stored k r Header number)) × (k .shows number Body (reachedBy k r) ≡ joined bodyNumbers (stored k r Body number))
+
   -- Of any other number, nothing.
-  pub unshown : (r : Run) (number : ℕ) → ((f : FitsStored k r number) → ¬ (Finished f)) → (part : Part) → k .shows number part (reachedBy k r) ≡ []
+  abbrev pub UnfinishedUnshown : Type 0
+  UnfinishedUnshown = (r : Run) (number : ℕ) → ((f : FitsStored k r number) → ¬ (Finished f)) → (part : Part) → k .shows number part (reachedBy k r) ≡ []
+
   -- Each count is the number of such answers, or 2147483647 where there were more.
-  pub counts : (r : Run) → reachedBy k r .counts ≡ tallied (toldBy k r)
+  abbrev pub CountsTold : Type 0
+  CountsTold = (r : Run) → reachedBy k r .counts ≡ tallied (toldBy k r)
+
   -- Demand 3. CONFLICT exactly when no object and cut send the group's segment and all that is stored under its number.
-  pub conflict : (r : Run) (g : Passing) → (answerTo k r g ≡ Answer.Conflict (heardOf g)) ↔ (¬ (FitsWith k r g))
+  abbrev pub ConflictExactly : Type 0
+  ConflictExactly = (r : Run) (g : Passing) → (answerTo k r g ≡ Answer.Conflict (heardOf g)) ↔ (¬ (FitsWith k r g))
+
   -- FULL exactly when it is no conflict, its number holds no slot and none is free.
-  pub full : (r : Run) (g : Passing) → (answerTo k r g ≡ Answer.Full (heardOf g)) ↔ (FitsWith k r g × (find (g .carried .number) (reachedBy k r) ≡ Nothing) × (free (reachedBy k r) ≡ Nothing))
+  abbrev pub FullExactly : Type 0
+  FullExactly = (r : Run) (g : Passing) → (answerTo k r g ≡ Answer.Full (heardOf g)) ↔ (FitsWith k r g × (find (g .carried .number) (reachedBy k r) ≡ Nothing) × (free (reachedBy k r) ≡ Nothing))
+
   -- REPEAT exactly when the same segment is stored.
-  pub repeated : (r : Run) (g : Passing) → (answerTo k r g ≡ Answer.Repeat (heardOf g)) ↔ Among (segmentOf g) (stored k r (g .carried .part) (g .carried .number))
+  abbrev pub RepeatExactly : Type 0
+  RepeatExactly = (r : Run) (g : Passing) → (answerTo k r g ≡ Answer.Repeat (heardOf g)) ↔ Among (segmentOf g) (stored k r (g .carried .part) (g .carried .number))
+
   -- COMPLETE exactly when with it every segment is in, before it not, and a slot is there.
-  pub complete : (r : Run) (g : Passing) → (answerTo k r g ≡ Answer.Complete (heardOf g)) ↔ (((f : FitsWith k r g) × Finished f) × ((f : FitsStored k r (g .carried .number)) → ¬ (Finished f)) × SlotFor (g .carried .number) (reachedBy k r))
+  abbrev pub CompleteExactly : Type 0
+  CompleteExactly = (r : Run) (g : Passing) → (answerTo k r g ≡ Answer.Complete (heardOf g)) ↔ (((f : FitsWith k r g) × Finished f) × ((f : FitsStored k r (g .carried .number)) → ¬ (Finished f)) × SlotFor (g .carried .number) (reachedBy k r))
+
   -- STORED exactly when it is new and fits, with it some segment is still missing, and a slot is there.
-  pub storing : (r : Run) (g : Passing) → (answerTo k r g ≡ Answer.Stored (heardOf g)) ↔ (((f : FitsWith k r g) × (¬ (Finished f))) × (¬ (Among (segmentOf g) (stored k r (g .carried .part) (g .carried .number)))) × SlotFor (g .carried .number) (reachedBy k r))
+  abbrev pub StoredExactly : Type 0
+  StoredExactly = (r : Run) (g : Passing) → (answerTo k r g ≡ Answer.Stored (heardOf g)) ↔ (((f : FitsWith k r g) × (¬ (Finished f))) × (¬ (Among (segmentOf g) (stored k r (g .carried .part) (g .carried .number)))) × SlotFor (g .carried .number) (reachedBy k r))
+
   -- A group that does not pass the reading checks is answered with the first that it fails.
-  pub unread : (r : Run) (bytes : List ℕ) (why : Refusal) → readingOf bytes ≡ Refused why → k .answersGroup bytes (reachedBy k r) ≡ Answer.Refused why
+  abbrev pub UnreadRefused : Type 0
+  UnreadRefused = (r : Run) (bytes : List ℕ) (why : Refusal) → readingOf bytes ≡ Refused why → k .takes bytes (reachedBy k r) .answer ≡ Answer.Refused why
+
   -- A drop: DROPPED exactly when the number holds a slot, NOTHELD exactly when not.
-  pub dropping : (r : Run) (number : ℕ) → ((k .answersDrop number (reachedBy k r) ≡ Answer.Dropped number) ↔ (find number (reachedBy k r) ≢ Nothing)) × ((k .answersDrop number (reachedBy k r) ≡ Answer.NotHeld) ↔ (find number (reachedBy k r) ≡ Nothing))
-  -- A number holds no slot exactly when nothing is stored under it; none is free exactly when each slot holds a number.
-  pub unheld : (r : Run) (number : ℕ) → (find number (reachedBy k r) ≡ Nothing) ↔ ((stored k r Header number ≡ []) × (stored k r Body number ≡ []))
-  pub noneFree : (r : Run) → (free (reachedBy k r) ≡ Nothing) ↔ ((i : ℕ) → i < r .start .count → (number : ℕ) × (find number (reachedBy k r) ≡ At i))
-  -- The stage is finished exactly when every segment is in, with the two lengths of the object.
-  pub finished : (r : Run) (number : ℕ) → ((header : ℕ) × (body : ℕ) × (stageFor number (reachedBy k r) ≡ Stage.Finished header body)) ↔ ((f : FitsStored k r number) × Finished f)
-  pub lengths : (r : Run) (number : ℕ) (f : FitsStored k r number) → Finished f → stageFor number (reachedBy k r) ≡ Stage.Finished (length (f .header)) (length (f .body))
+  abbrev pub DropExactly : Type 0
+  DropExactly = (r : Run) (number : ℕ) → ((k .drops number (reachedBy k r) .answer ≡ Answer.Dropped number) ↔ (find number (reachedBy k r) ≢ Nothing)) × ((k .drops number (reachedBy k r) .answer ≡ Answer.NotHeld) ↔ (find number (reachedBy k r) ≡ Nothing))
+
+  -- A number holds no slot exactly when nothing is stored under it.
+  abbrev pub UnheldExactly : Type 0
+  UnheldExactly = (r : Run) (number : ℕ) → (find number (reachedBy k r) ≡ Nothing) ↔ ((stored k r Header number ≡ []) × (stored k r Body number ≡ []))
+
+  -- None is free exactly when each slot holds a number.
+  abbrev pub NoneFreeExactly : Type 0
+  NoneFreeExactly = (r : Run) → (free (reachedBy k r) ≡ Nothing) ↔ ((i : ℕ) → i < r .start .count → (number : ℕ) × (find number (reachedBy k r) ≡ At i))
+
+  -- The stage is finished exactly when every segment is in.
+  abbrev pub FinishedExactly : Type 0
+  FinishedExactly = (r : Run) (number : ℕ) → ((header : ℕ) × (body : ℕ) × (stageFor number (reachedBy k r) ≡ Stage.Finished header body)) ↔ ((f : FitsStored k r number) × Finished f)
+
+  -- And with the two lengths of the object.
+  abbrev pub FinishedLengths : Type 0
+  FinishedLengths = (r : Run) (number : ℕ) (f : FitsStored k r number) → Finished f → stageFor number (reachedBy k r) ≡ Stage.Finished (length (f .header)) (length (f .body))
+
   -- Groups that all come from one cut of one object never conflict, in any order, repeated, mixed with any other calls.
-  pub agrees : (r : Run) (object : Source (r .start .limit)) (number : ℕ) → Each (From object number) (r .calls)
+  abbrev pub OneCutAgrees : Type 0
+  OneCutAgrees = (r : Run) (object : Source (r .start .limit)) (number : ℕ) → Each (From object number) (r .calls)
       → (g : Passing) → g .carried .number ≡ number → SentBy object (g .carried .part) (segmentOf g) → answerTo k r g ≢ Answer.Conflict (heardOf g)
+
   -- Once all its segments have come, each with a slot there, it is finished and shown with that header and that body.
-  pub finishes : (r : Run) (object : Source (r .start .limit)) (number : ℕ) → Each (From object number) (r .calls)
+  abbrev pub OneCutFinishes : Type 0
+  OneCutFinishes = (r : Run) (object : Source (r .start .limit)) (number : ℕ) → Each (From object number) (r .calls)
       → ((part : Part) (s : Segment) → SentBy object part s → Among s (cameUnder part number (toldBy k r)))
       → (stageFor number (reachedBy k r) ≡ Stage.Finished (length (object .header)) (length (object .body)))
       × (k .shows number Header (reachedBy k r) ≡ object .header) × (k .shows number Body (reachedBy k r) ≡ object .body)
+
+-- ---- all of them
+
+pub record Promised (k : Collecting) : Type 0 where
+  pub refused : RefusedLeaves k
+  pub unanswered : UnansweredLeaves k
+  pub repeating : RepeatLeaves k
+  pub state : StateExactly k
+  pub marked : MarkedExactly k
+  pub unopened : UnopenedLeaves k
+  pub neverState : NeverState k
+  pub undropped : UndroppedLeaves k
+  pub stateDrop : StateDropExactly k
+  pub others : OthersLeave k
+  pub shown : ShownJoined k
+  pub unshown : UnfinishedUnshown k
+  pub counts : CountsTold k
+  pub conflict : ConflictExactly k
+  pub full : FullExactly k
+  pub repeated : RepeatExactly k
+  pub complete : CompleteExactly k
+  pub storing : StoredExactly k
+  pub unread : UnreadRefused k
+  pub dropping : DropExactly k
+  pub unheld : UnheldExactly k
+  pub noneFree : NoneFreeExactly k
+  pub finished : FinishedExactly k
+  pub lengths : FinishedLengths k
+  pub agrees : OneCutAgrees k
+  pub finishes : OneCutFinishes k

@@ -24,7 +24,7 @@ use Rattle.history.specs.Held.{Same}
 use Rattle.history.specs.Ready.{used-inside, found-used}
 use Rattle.history.specs.Sound.{Intact, group-intact, drop-intact, opening-intact}
 use Rattle.history.specs.Others.{same-then, same-self, group-others, drop-others}
-use Rattle.history.specs.History.{Call, hand, drop, ask, CallBytes, Elsewhere, Event, leaves, event, after, Start, Allowed, ours, opened, reached, told, under}
+use Rattle.history.specs.History.{Call, hand, drop, ask, CallBytes, Elsewhere, Event, leaves, event, after, Start, Allowed, defined, opened, reached, told, under}
 use Rattle.history.specs.Stands.{Stands, group-stands, drop-stands}
 
 -- ---- the opening
@@ -55,7 +55,7 @@ came-bounds carried segment s t (full n a f e) = rw e (record { limit = refl; co
 came-bounds carried segment s t (first i n a f e) = rw e (record { limit = refl; count = refl })
 came-bounds carried segment s t (more i n e) = rw e (record { limit = refl; count = refl })
 
-leaves-bounds : (call : Call) (s : State) → Intact s → SameBounds s (leaves ours call s)
+leaves-bounds : (call : Call) (s : State) → Intact s → SameBounds s (leaves defined call s)
 leaves-bounds (hand bytes) s whole = go (readingOf bytes) refl
   where
     go : (reading : Reading) → readingOf bytes ≡ reading → SameBounds s (taking bytes s .left)
@@ -70,12 +70,12 @@ leaves-bounds (ask number part) s whole = record { limit = refl; count = refl }
 
 -- ---- one call
 
-leaves-intact : (call : Call) (s : State) → CallBytes call → Intact s → Intact (leaves ours call s)
+leaves-intact : (call : Call) (s : State) → CallBytes call → Intact s → Intact (leaves defined call s)
 leaves-intact (hand bytes) s y whole = group-intact bytes s y whole
 leaves-intact (drop number) s y whole = drop-intact number s whole
 leaves-intact (ask number part) s y whole = whole
 
-leaves-stands : (call : Call) (s : State) (events : List Event) → CallBytes call → Intact s → Stands s events → Stands (leaves ours call s) (event ours call s ∷ events)
+leaves-stands : (call : Call) (s : State) (events : List Event) → CallBytes call → Intact s → Stands s events → Stands (leaves defined call s) (event defined call s ∷ events)
 unfolding under
 leaves-stands (hand bytes) s events y whole w = group-stands bytes s events y whole w
 leaves-stands (drop number) s events y whole w = drop-stands number s events whole w
@@ -84,31 +84,31 @@ leaves-stands (ask number part) s events y whole w = w
 -- ---- any calls
 
 -- NO STATE SO REACHED IS DAMAGED
-pub reached-intact : (start : Start) → Allowed start → (calls : List Call) → Each CallBytes calls → Intact (reached ours start calls)
+pub reached-intact : (start : Start) → Allowed start → (calls : List Call) → Each CallBytes calls → Intact (reached defined start calls)
 reached-intact start a [] y = start-intact start a
-reached-intact start a (call ∷ calls) y = leaves-intact call (reached ours start calls) (y .0) (reached-intact start a calls (y .1))
+reached-intact start a (call ∷ calls) y = leaves-intact call (reached defined start calls) (y .0) (reached-intact start a calls (y .1))
 
 -- EACH SLOT HOLDS JUST WHAT WAS STORED UNDER ITS NUMBER
-pub reached-stands : (start : Start) → Allowed start → (calls : List Call) → Each CallBytes calls → Stands (reached ours start calls) (told ours start calls)
+pub reached-stands : (start : Start) → Allowed start → (calls : List Call) → Each CallBytes calls → Stands (reached defined start calls) (told defined start calls)
 reached-stands start a [] y = start-stands start a
-reached-stands start a (call ∷ calls) y = leaves-stands call (reached ours start calls) (told ours start calls) (y .0) (reached-intact start a calls (y .1)) (reached-stands start a calls (y .1))
+reached-stands start a (call ∷ calls) y = leaves-stands call (reached defined start calls) (told defined start calls) (y .0) (reached-intact start a calls (y .1)) (reached-stands start a calls (y .1))
 
-pub reached-limit : (start : Start) → Allowed start → (calls : List Call) → Each CallBytes calls → limitOf (reached ours start calls) ≡ start .limit
+pub reached-limit : (start : Start) → Allowed start → (calls : List Call) → Each CallBytes calls → limitOf (reached defined start calls) ≡ start .limit
 reached-limit start a [] y = rw (start-is start a) refl
-reached-limit start a (call ∷ calls) y = leaves-bounds call (reached ours start calls) (reached-intact start a calls (y .1)) .limit ∙ reached-limit start a calls (y .1)
+reached-limit start a (call ∷ calls) y = leaves-bounds call (reached defined start calls) (reached-intact start a calls (y .1)) .limit ∙ reached-limit start a calls (y .1)
 
-pub reached-count : (start : Start) → Allowed start → (calls : List Call) → Each CallBytes calls → reached ours start calls .collector .count ≡ start .count
+pub reached-count : (start : Start) → Allowed start → (calls : List Call) → Each CallBytes calls → reached defined start calls .collector .count ≡ start .count
 reached-count start a [] y = rw (start-is start a) refl
-reached-count start a (call ∷ calls) y = leaves-bounds call (reached ours start calls) (reached-intact start a calls (y .1)) .count ∙ reached-count start a calls (y .1)
+reached-count start a (call ∷ calls) y = leaves-bounds call (reached defined start calls) (reached-intact start a calls (y .1)) .count ∙ reached-count start a calls (y .1)
 
 -- CALLS UNDER OTHER NUMBERS change nothing that is held for a number
-leaves-others : (number : ℕ) (call : Call) (s : State) → CallBytes call → Elsewhere number call → Intact s → Same number s (leaves ours call s)
+leaves-others : (number : ℕ) (call : Call) (s : State) → CallBytes call → Elsewhere number call → Intact s → Same number s (leaves defined call s)
 leaves-others number (hand bytes) s y d whole = group-others number bytes s d y whole
 leaves-others number (drop other) s y d whole = drop-others number other s d whole
 leaves-others number (ask other part) s y d whole = same-self number s
 
-pub others-same : (number : ℕ) (calls : List Call) (s : State) → Each CallBytes calls → Each (Elsewhere number) calls → Intact s → Same number s (after ours calls s) × Intact (after ours calls s)
+pub others-same : (number : ℕ) (calls : List Call) (s : State) → Each CallBytes calls → Each (Elsewhere number) calls → Intact s → Same number s (after defined calls s) × Intact (after defined calls s)
 others-same number [] s y d whole = (same-self number s, whole)
 others-same number (call ∷ calls) s y d whole =
     let before = others-same number calls s (y .1) (d .1) whole in
-    (same-then number s (after ours calls s) (leaves ours call (after ours calls s)) (before .0) (leaves-others number call (after ours calls s) (y .0) (d .0) (before .1)), leaves-intact call (after ours calls s) (y .0) (before .1))
+    (same-then number s (after defined calls s) (leaves defined call (after defined calls s)) (before .0) (leaves-others number call (after defined calls s) (y .0) (d .0) (before .1)), leaves-intact call (after defined calls s) (y .0) (before .1))

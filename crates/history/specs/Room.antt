@@ -27,7 +27,7 @@ use Rattle.history.specs.Slots.{held-is, is-held, found-none, none-found
 use Rattle.history.specs.Call.{State, Reply, taking, dropping, sound, limitOf, InUse, slotOf, lentOf, find, free, Came, alone, full, first, more, unread, came, none-dropped, found-dropped}
 use Rattle.history.specs.Ready.{slots-right, used-inside, found-used, found-holds, found-sound}
 use Rattle.history.specs.Sound.{Intact}
-use Rattle.history.specs.History.{Call, hand, ask, CallBytes, leaves, Start, Allowed, ours, reached}
+use Rattle.history.specs.History.{Call, hand, ask, CallBytes, leaves, Start, Allowed, defined, reached}
 use Rattle.history.specs.Stands.{StandsFor}
 use Rattle.history.specs.Reached.{start-is, reached-intact, reached-count}
 
@@ -69,7 +69,7 @@ came-slots carried segment s t (full n a f e) = rw e refl
 came-slots carried segment s t (first i n a f e) = rw e (simp length-set)
 came-slots carried segment s t (more i n e) = rw e (simp length-set)
 
-leaves-slots : (call : Call) (s : State) → Intact s → slots-of (leaves ours call s) ≡ slots-of s
+leaves-slots : (call : Call) (s : State) → Intact s → slots-of (leaves defined call s) ≡ slots-of s
 unfolding slots-of
 leaves-slots (hand bytes) s whole = go (readingOf bytes) refl
   where
@@ -83,14 +83,14 @@ leaves-slots (Call.drop number) s whole = go (find number s) refl
     go (At i) e = rw (found-dropped number s (whole .undamaged) i (used-inside s (whole .undamaged) i (found-used s (whole .undamaged) number i e)) e) (length-set (s .collector .slots) i freeSlot)
 leaves-slots (ask number part) s whole = refl
 
-reached-slots : (start : Start) → Allowed start → (calls : List Call) → Each CallBytes calls → slots-of (reached ours start calls) ≡ slotsMost
+reached-slots : (start : Start) → Allowed start → (calls : List Call) → Each CallBytes calls → slots-of (reached defined start calls) ≡ slotsMost
 unfolding slots-of
 reached-slots start a [] y = rw (start-is start a) (length-replicate slotsMost freeSlot)
-reached-slots start a (call ∷ calls) y = leaves-slots call (reached ours start calls) (reached-intact start a calls (y .1)) ∙ reached-slots start a calls (y .1)
+reached-slots start a (call ∷ calls) y = leaves-slots call (reached defined start calls) (reached-intact start a calls (y .1)) ∙ reached-slots start a calls (y .1)
 
 module _ (start : Start) (allowed : Allowed start) (calls : List Call) (y : Each CallBytes calls) where
   now : State
-  now = reached ours start calls
+  now = reached defined start calls
 
   good : sound now ≡ true
   unfolding now
@@ -111,7 +111,7 @@ module _ (start : Start) (allowed : Allowed start) (calls : List Call) (y : Each
       let own : holds n (slotOf i now) ≡ true = is-held n (slotOf i now) f refl in
       only-found (holds n) (now .collector .count) (now .collector .slots) i u own (λ j v h. slots-right now good .once n j i v u h own)
 
-  pub none-free-exactly : (free (reached ours start calls) ≡ Nothing) ↔ ((i : ℕ) → i < start .count → (number : ℕ) × (find number (reached ours start calls) ≡ At i))
+  pub none-free-exactly : (free (reached defined start calls) ≡ Nothing) ↔ ((i : ℕ) → i < start .count → (number : ℕ) × (find number (reached defined start calls) ≡ At i))
   unfolding now freeIn
   none-free-exactly = (
     (λ e i h. let u = in-use i h in (slotOf i now .number, held-number i u (found-none isFree (now .collector .count) (now .collector .slots) e i u))),

@@ -30,6 +30,10 @@ use Rattle.history.specs.Ready.{slots-sound, used-inside, found-used, fo
 abbrev pub showing : ℕ → Part → State → List ℕ
 showing number part s = show number part (s .collector) (s .stores)
 
+-- it is lent nothing that it could change
+abbrev pub asking : ℕ → Part → State → State
+asking number part s = s
+
 -- the first bytes of a share, as many as the stage says
 abbrev pub frontOf : Part → Stage → Lent → List ℕ
 frontOf part Free lent = []

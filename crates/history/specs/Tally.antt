@@ -24,7 +24,7 @@ use Rattle.collector.specs.Calls.{segmentIn}
 use Rattle.history.specs.Call.{State, Reply, taking, dropping, sound, find, Came, alone, full, first, more, group-damaged, unread, came, drop-damaged, none-dropped, found-dropped}
 use Rattle.history.specs.Ready.{used-inside, found-used}
 use Rattle.history.specs.Promise.{between, answersFrom, tallied}
-use Rattle.history.specs.History.{Call, hand, drop, ask, Event, dropped, leaves, event, Start, Allowed, ours, reached, told}
+use Rattle.history.specs.History.{Call, hand, drop, ask, Event, dropped, leaves, event, Start, Allowed, defined, reached, told}
 use Rattle.history.specs.Reached.{start-is}
 
 risen-min : (n : ℕ) → risen (min n ceiling) ≡ min (suc n) ceiling
@@ -96,14 +96,14 @@ drop-counted number s = go (sound s) refl (find number s) refl
 tallied-more : (answer : Answer) (events : List Event) → counted answer (tallied events) ≡ capped (onMore answer 0 1 (answersFrom 0 1 events)) (onMore answer 2 2 (answersFrom 2 2 events)) (onMore answer 10 18 (answersFrom 10 18 events)) (onMore answer 1 1 (answersFrom 1 1 events)) (onMore answer 3 3 (answersFrom 3 3 events))
 tallied-more answer events = counted-more answer (answersFrom 0 1 events) (answersFrom 2 2 events) (answersFrom 10 18 events) (answersFrom 1 1 events) (answersFrom 3 3 events)
 
-leaves-tallied : (call : Call) (s : State) (events : List Event) → s .counts ≡ tallied events → leaves ours call s .counts ≡ tallied (event ours call s ∷ events)
+leaves-tallied : (call : Call) (s : State) (events : List Event) → s .counts ≡ tallied events → leaves defined call s .counts ≡ tallied (event defined call s ∷ events)
 unfolding answersFrom
 leaves-tallied (hand bytes) s events e = group-counted bytes s ∙ ap (counted (taking bytes s .answer)) e ∙ tallied-more (taking bytes s .answer) events
 leaves-tallied (drop number) s events e = drop-counted number s ∙ ap (counted (dropping number s .answer)) e ∙ tallied-more (dropping number s .answer) events
 leaves-tallied (ask number part) s events e = e
 
 -- THE COUNTS over any history
-pub reached-counts : (start : Start) → Allowed start → (calls : List Call) → reached ours start calls .counts ≡ tallied (told ours start calls)
+pub reached-counts : (start : Start) → Allowed start → (calls : List Call) → reached defined start calls .counts ≡ tallied (told defined start calls)
 unfolding answersFrom
 reached-counts start a [] = rw (start-is start a) refl
-reached-counts start a (call ∷ calls) = leaves-tallied call (reached ours start calls) (told ours start calls) (reached-counts start a calls)
+reached-counts start a (call ∷ calls) = leaves-tallied call (reached defined start calls) (told defined start calls) (reached-counts start a calls)

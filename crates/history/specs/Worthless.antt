@@ -1,100 +1,44 @@
--- Five worthless collectors: each breaks a promise.
-use mathlib.Core.Path.{_≡_, refl, sym, ap, _∙_}
-use mathlib.Core.Logic.{inl}
+-- WRONG COLLECTORS, document 01's five worthless ones among them: each is the collector's own definitions with one piece that
+-- is wrong, and is proved to break the promise that shuts it out, by a run that is computed. The edits of must-fail put that
+-- piece into our collector, which is then refused at that promise.
+use mathlib.Core.Path.{_≡_, refl, sym, ap, _∙_, subst}
+use mathlib.Core.Logic.{_≢_, inl}
 use mathlib.Core.Bool.{true}
 use mathlib.Core.List.{List, [], _∷_}
 use Prim.Native.Nat.{ℕ, zero, suc, _-_, _*_, _≤_, _<_, min}
 use native.Mathlib.Omega.{arith}
-use lib.Dec.{eqb}
 use lib.ListN.{length}
+use lib.Dec.{eqb}
 use borrow.Author.Tests.{leb-true}
+use Rattle.octets.specs.Octets.{zeros}
 use Rattle.answer.specs.declared.Answer.{Answer}
-use Rattle.answer.specs.declared.Answer.the-variants as Answer
+use Rattle.answer.specs.declared.Part.{Part}
 use Rattle.answer.specs.declared.Part.the-variants.{Header, Body}
+use Rattle.answer.specs.Table.{numberOf}
+use Rattle.answer.specs.declared.Answer.the-variants as Answer
 use Rattle.answer.specs.declared.Refusal.the-variants as Refusal
 use Rattle.counts.specs.declared.Counts.{Counts}
-use Rattle.counts.specs.Counted.{ceiling, noneYet}
-use Rattle.group.specs.declared.Reading.{Reading}
+use Rattle.counts.specs.Counted.{ceiling, noneYet, counted}
+use Rattle.group.specs.declared.Segment.{Segment as Carried}
 use Rattle.group.specs.declared.Reading.the-variants.{Read, Refused}
 use Rattle.group.specs.Reading.{readingOf}
-use Rattle.cut.specs.Lists.{pick}
+use Rattle.group.specs.declared.Reading.{Reading}
+use Rattle.cut.specs.Lists.{Among, pick}
 use Rattle.cut.specs.Requirement.{bodySize, headerSize, Segment, Fits, Finished}
 use Rattle.cut.specs.LawsSegment.{sends-sits, inside, Numbered}
 use Rattle.cut.specs.Finished.{whole-numbers, whole-empty}
-use Rattle.collector.specs.Calls.{heardAs, segmentIn}
-use Rattle.history.specs.Call.{groupAnswer, groupLeaves, dropAnswer, dropLeaves, answering}
-use Rattle.history.specs.Shown.{showing}
-use Rattle.history.specs.History.{hand, Collecting, under, opened}
-use Rattle.history.specs.Promise.{Run, reachedBy, toldBy, stored, Passing, answersFrom, Promised}
-use Rattle.history.specs.Example.{computing, small, allowed}
-
--- ---- one that refuses every group
-
-abbrev pub refusesAll : Collecting
-refusesAll = record {
-  opens = opened;
-  answersGroup = λ bytes s. Answer.Refused Refusal.Length;
-  leavesGroup = λ bytes s. answering (Answer.Refused Refusal.Length) s .left;
-  answersDrop = dropAnswer;
-  leavesDrop = dropLeaves;
-  shows = showing;
-}
-
--- ---- one that answers STORED to every group that it can read
-
-abbrev pub alwaysStored : Reading → Answer
-alwaysStored (Read carried) = Answer.Stored (heardAs carried)
-alwaysStored (Refused why) = Answer.Refused why
-
-abbrev pub saysStored : Collecting
-saysStored = record {
-  opens = opened;
-  answersGroup = λ bytes s. alwaysStored (readingOf bytes);
-  leavesGroup = λ bytes s. answering (alwaysStored (readingOf bytes)) s .left;
-  answersDrop = dropAnswer;
-  leavesDrop = dropLeaves;
-  shows = showing;
-}
-
--- ---- one that answers properly and keeps all records and marks, but writes no store byte
-
-abbrev pub writesNothing : Collecting
-writesNothing = record {
-  opens = opened;
-  answersGroup = groupAnswer;
-  leavesGroup = λ bytes s. record {
-    collector = groupLeaves bytes s .collector;
-    counts = groupLeaves bytes s .counts;
-    stores = record { header = s .stores .header; body = s .stores .body; marks = groupLeaves bytes s .stores .marks };
-  };
-  answersDrop = dropAnswer;
-  leavesDrop = dropLeaves;
-  shows = showing;
-}
-
--- ---- one that stores the first group, and afterwards only says so
-
-abbrev pub storesFirst : Collecting
-storesFirst = record {
-  opens = opened;
-  answersGroup = λ bytes s. pick (eqb (s .counts .taken) 0) (groupAnswer bytes s) (saysStored .answersGroup bytes s);
-  leavesGroup = λ bytes s. pick (eqb (s .counts .taken) 0) (groupLeaves bytes s) (saysStored .leavesGroup bytes s);
-  answersDrop = dropAnswer;
-  leavesDrop = dropLeaves;
-  shows = showing;
-}
-
--- ---- one with invented counts
-
-abbrev pub inventsCounts : Collecting
-inventsCounts = record {
-  opens = opened;
-  answersGroup = groupAnswer;
-  leavesGroup = λ bytes s. record { collector = groupLeaves bytes s .collector; counts = noneYet; stores = groupLeaves bytes s .stores };
-  answersDrop = dropAnswer;
-  leavesDrop = dropLeaves;
-  shows = showing;
-}
+use Rattle.cut.specs.Decision.{both}
+use Rattle.gathering.specs.Offers.{Source, SentBy}
+use Rattle.gathering.specs.declared.Stage.the-variants as Stage
+use Rattle.slots.specs.declared.Found.{Found}
+use Rattle.slots.specs.declared.Found.the-variants.{Nothing, At}
+use Rattle.collector.specs.Calls.{segmentIn, heardAs, allFree}
+use Rattle.history.specs.Call.{State, find, Reply, taking, dropping, limitOf, slotOf, free, answering}
+use Rattle.history.specs.Shown.{showing, asking}
+use Rattle.history.specs.History.{hand, drop, ask, Collecting, Start, told, under, opened}
+use Rattle.history.specs.Stage.{none-finished}
+use Rattle.history.specs.Promise.{Run, reachedBy, toldBy, stored, Passing, heardOf, From, cameUnder, answersFrom, RefusedLeaves, NeverState, OthersLeave, ShownJoined, UnfinishedUnshown, CountsTold, ConflictExactly, FullExactly, RepeatExactly, CompleteExactly, DropExactly, FinishedExactly, OneCutAgrees, OneCutFinishes}
+use Rattle.history.specs.Samples.{computing, small, allowed, bodyLast, readAs, object, oneCut, from-one, of-bytes-one, all-sent}
 
 -- ---- an object of one segment: a header of 7 bytes and no body
 
@@ -126,6 +70,11 @@ done = record { header = whole-numbers core 16 (whole ∷ []) (record { starts =
     number zero h = inl refl
     number (suc n) h = absurd (omega arith)
 
+-- the object and its cut
+single : Source 1024
+unfolding fits
+single = record { header = core; body = []; object = fits .object; headerCut = 16; bodyCut = 16; headerCuts = fits .headerCuts; bodyCuts = fits .bodyCuts; headerSent = tt; bodySent = tt }
+
 -- its one group, under number 5 and under number 6
 abbrev five : List ℕ
 five = 0x73 ∷ 0x00 ∷ 0x80 ∷ 0x00 ∷ 0x12 ∷ 0x00 ∷ 0x05 ∷ 0x00 ∷ 0x07 ∷ 0x00 ∷ 0x00 ∷ 0x00 ∷ 0x00 ∷ 0x03 ∷ 0x84 ∷ 0x01 ∷ 0x69 ∷ 0x0F ∷ []
@@ -137,8 +86,23 @@ six = 0x73 ∷ 0x00 ∷ 0x80 ∷ 0x00 ∷ 0x12 ∷ 0x00 ∷ 0x06 ∷ 0x00 ∷ 0x
 abbrev short : List ℕ
 short = 0x73 ∷ 0x00 ∷ 0x80 ∷ 0x00 ∷ 0x12 ∷ 0x00 ∷ 0x05 ∷ 0x00 ∷ 0x06 ∷ 0x00 ∷ 0x00 ∷ 0x00 ∷ 0x00 ∷ 0x03 ∷ 0x84 ∷ 0xB9 ∷ 0x16 ∷ []
 
-abbrev first : Run
-first = record { start = small; allowed = allowed; calls = []; bytes = tt }
+reads : (readingOf five ≡ Read (readAs 5 Header 0 true 7)) × (readingOf short ≡ Read (readAs 5 Header 0 true 6)) × (readingOf bodyLast ≡ Read (readAs 5 Body 1 true 4))
+unfolding computing
+reads = (refl, refl, refl)
+
+groupFive : Passing
+groupFive = record { bytes = five; areBytes = omega arith; carried = readAs 5 Header 0 true 7; read = reads .0 }
+
+groupShort : Passing
+groupShort = record { bytes = short; areBytes = omega arith; carried = readAs 5 Header 0 true 6; read = reads .1 }
+
+groupLast : Passing
+groupLast = record { bytes = bodyLast; areBytes = omega arith; carried = readAs 5 Body 1 true 4; read = reads .2 }
+
+-- ---- the runs
+
+abbrev none : Run
+none = record { start = small; allowed = allowed; calls = []; bytes = tt }
 
 abbrev one : Run
 one = record { start = small; allowed = allowed; calls = hand five ∷ []; bytes = (omega arith, tt) }
@@ -146,18 +110,173 @@ one = record { start = small; allowed = allowed; calls = hand five ∷ []; bytes
 abbrev two : Run
 two = record { start = small; allowed = allowed; calls = hand six ∷ hand five ∷ []; bytes = (omega arith, (omega arith, tt)) }
 
-record Computed : Type 0 where
-  short : readingOf short ≡ Read (record { number = 5; part = Header; segment = 0; last = true; start = 9; length = 6 })
-  says : (stored saysStored one Header 5 ≡ whole ∷ []) × (stored saysStored one Body 5 ≡ []) × (showing 5 Header (reachedBy saysStored one) ≡ [])
-  writes : (stored writesNothing one Header 5 ≡ whole ∷ []) × (stored writesNothing one Body 5 ≡ []) × (showing 5 Header (reachedBy writesNothing one) ≡ [])
-  stores : (stored storesFirst two Header 6 ≡ whole ∷ []) × (stored storesFirst two Body 6 ≡ []) × (showing 6 Header (reachedBy storesFirst two) ≡ [])
-  counts : (reachedBy inventsCounts one .counts .taken ≡ 0) × (answersFrom 0 1 (toldBy inventsCounts one) ≡ 1)
+-- a drop between two groups
+abbrev again : Run
+again = record { start = small; allowed = allowed; calls = hand six ∷ drop 5 ∷ hand five ∷ []; bytes = (omega arith, (tt, (omega arith, tt))) }
 
-computed : Computed
+-- document 01's example
+abbrev many : Run
+many = record { start = small; allowed = allowed; calls = oneCut; bytes = of-bytes-one }
+
+-- an opening with counts from before
+abbrev used : Start
+used = record { limit = small .limit; count = small .count; counts = record { taken = 3; repeated = 0; refused = 0; completed = 0; dropped = 0 }; stores = small .stores }
+
+abbrev later : Run
+later = record { start = used; allowed = record { limits = allowed .limits; bytes = allowed .bytes }; calls = []; bytes = tt }
+
+-- ---- the collector's own definitions with one piece replaced
+
+abbrev openingBy : (Start → State) → Collecting
+openingBy opens = record { opens = opens; takes = taking; drops = dropping; shows = showing; asks = asking }
+
+abbrev takingBy : (List ℕ → State → Reply) → Collecting
+takingBy takes = record { opens = opened; takes = takes; drops = dropping; shows = showing; asks = asking }
+
+abbrev droppingBy : (ℕ → State → Reply) → Collecting
+droppingBy drops = record { opens = opened; takes = taking; drops = drops; shows = showing; asks = asking }
+
+abbrev showingBy : (ℕ → Part → State → List ℕ) → Collecting
+showingBy shows = record { opens = opened; takes = taking; drops = dropping; shows = shows; asks = asking }
+
+abbrev askingBy : (ℕ → Part → State → State) → Collecting
+askingBy asks = record { opens = opened; takes = taking; drops = dropping; shows = showing; asks = asks }
+
+-- ---- what cannot be the same
+
+different : (a b : Found) → a ≡ b → a ≡ Nothing → b ≡ At 0 → ⊥
+different a b e n f = let z : _≡_ {A = ℕ} 0 1 = cc in absurd (omega arith)
+
+free-unfinished : (header body : ℕ) → Stage.Free ≢ Stage.Finished header body
+free-unfinished header body e = let z : _≡_ {A = ℕ} 0 1 = cc in absurd (omega arith)
+
+gathering-unfinished : (header body : ℕ) → Stage.Gathering ≢ Stage.Finished header body
+gathering-unfinished header body e = let z : _≡_ {A = ℕ} 0 1 = cc in absurd (omega arith)
+
+-- ---- demand 1
+
+-- a drop that leaves the marks of its slot
+abbrev pub keepsMarks : ℕ → State → Reply
+keepsMarks number s = record {
+  answer = dropping number s .answer;
+  left = record { collector = dropping number s .left .collector; counts = dropping number s .left .counts; stores = s .stores };
+}
+
+-- a free slot with a mark is damaged, so the next group meets STATE
+pub keeps-marks-breaks : ¬ (NeverState (droppingBy keepsMarks))
+unfolding computing small
+keeps-marks-breaks p = p again .0 refl
+
+-- a group that is FULL drops the object in the first slot, to make room
+abbrev pub makesRoom : List ℕ → State → Reply
+makesRoom bytes s = record {
+  answer = taking bytes s .answer;
+  left = pick (eqb (numberOf (taking bytes s .answer)) 18) (dropping (slotOf 0 s .number) (taking bytes s .left) .left) (taking bytes s .left);
+}
+
+-- a refusal leaves every slot's record
+pub makes-room-breaks : ¬ (RefusedLeaves (takingBy makesRoom))
+unfolding computing small
+makes-room-breaks p =
+    let s : State = reachedBy (takingBy makesRoom) one in
+    different (find 5 (makesRoom six s .left)) (find 5 s) (ap (λ (t : State). find 5 t) (p six s (omega arith) (omega arith))) refl refl
+
+-- a drop that frees every slot
+abbrev pub dropsAll : ℕ → State → Reply
+dropsAll number s = record {
+  answer = dropping number s .answer;
+  left = record {
+    collector = allFree (limitOf s) (s .collector .count);
+    counts = dropping number s .left .counts;
+    stores = record { header = s .stores .header; body = s .stores .body; marks = zeros (length (s .stores .marks)) };
+  };
+}
+
+-- the drop of another number changes nothing that is held for a number
+pub drops-all-breaks : ¬ (OthersLeave (droppingBy dropsAll))
+unfolding computing small
+drops-all-breaks p =
+    let s : State = reachedBy (droppingBy dropsAll) one in
+    different (find 5 (dropsAll 6 s .left)) (find 5 s) (p one 5 (drop 6 ∷ []) (tt, tt) ((λ e. absurd (omega arith)), tt) .0 .found) refl refl
+
+-- a question that drops what it asks for
+abbrev pub dropsAsked : ℕ → Part → State → State
+dropsAsked number part s = dropping number s .left
+
+-- nor does a question change anything
+pub drops-asked-breaks : ¬ (OthersLeave (askingBy dropsAsked))
+unfolding computing small
+drops-asked-breaks p =
+    let s : State = reachedBy (askingBy dropsAsked) one in
+    different (find 5 (dropsAsked 5 Header s)) (find 5 s) (p one 5 (ask 5 Header ∷ []) (tt, tt) (tt, tt) .0 .found) refl refl
+
+-- ---- demand 2
+
+-- where the one segment is stored, its object is finished
+finished-core : (limit : ℕ) (hs bs : List Segment) → limit ≡ 1024 → hs ≡ whole ∷ [] → bs ≡ [] → (f : Fits limit hs bs) × Finished f × (f .header ≡ core)
+unfolding fits
+finished-core limit hs bs l h b = rw (l, h, b) (fits, done, refl)
+
+-- by the joined bytes: what was answered STORED or COMPLETE is shown
+shown-breaks : (k : Collecting) (r : Run) (number : ℕ) → r .start .limit ≡ 1024 → (stored k r Header number ≡ whole ∷ []) × (stored k r Body number ≡ []) × (k .shows number Header (reachedBy k r) ≡ []) → ¬ (ShownJoined k)
+shown-breaks k r number l c p =
+    let object = finished-core (r .start .limit) (stored k r Header number) (stored k r Body number) l (c .0) (c .1) in
+    let e : _≡_ {A = List ℕ} [] core = sym (c .2) ∙ p r number (object .0) (object .1) .0 ∙ object .2 in
+    let z : _≡_ {A = ℕ} 0 1 = cc in
+    absurd (omega arith)
+
+-- answers, records, marks and counts as they should be, and no store byte is written
+abbrev pub writesNothing : List ℕ → State → Reply
+writesNothing bytes s = record {
+  answer = taking bytes s .answer;
+  left = record {
+    collector = taking bytes s .left .collector;
+    counts = taking bytes s .left .counts;
+    stores = record { header = s .stores .header; body = s .stores .body; marks = taking bytes s .left .stores .marks };
+  };
+}
+
+pub writes-nothing-breaks : ¬ (ShownJoined (takingBy writesNothing))
+unfolding computing small
+writes-nothing-breaks = shown-breaks (takingBy writesNothing) one 5 refl (refl, refl, refl)
+
+-- the header store is shown of every number, whatever is in it
+abbrev pub showsStore : ℕ → Part → State → List ℕ
+showsStore number part s = s .stores .header
+
+-- of a number that is not finished nothing is shown
+pub shows-store-breaks : ¬ (UnfinishedUnshown (showingBy showsStore))
+unfolding computing small
+shows-store-breaks p =
+    let e = p none 5 (λ f w. none-finished 1024 [] [] f w refl) Header in
+    let z : _≡_ {A = ℕ} 0 1 = cc in
+    absurd (omega arith)
+
+-- by the history: a count is the number of such answers
+taken-breaks : (k : Collecting) (r : Run) (counted told : ℕ) → reachedBy k r .counts .taken ≡ counted → answersFrom 0 1 (toldBy k r) ≡ told → counted ≢ min told ceiling → ¬ (CountsTold k)
+taken-breaks k r counted told c t n p = n (rw (c, t) at (ap (λ (x : Counts). x .taken) (p r)))
+
+-- counts that are made up
+abbrev pub inventsCounts : List ℕ → State → Reply
+inventsCounts bytes s = record {
+  answer = taking bytes s .answer;
+  left = record { collector = taking bytes s .left .collector; counts = noneYet; stores = taking bytes s .left .stores };
+}
+
+pub invents-counts-breaks : ¬ (CountsTold (takingBy inventsCounts))
 unfolding computing small answersFrom
-computed = record { short = refl; says = (refl, refl, refl); writes = (refl, refl, refl); stores = (refl, refl, refl); counts = (refl, refl) }
+invents-counts-breaks = taken-breaks (takingBy inventsCounts) one 0 1 refl refl (λ e. absurd (omega arith))
 
--- ---- each breaks a promise
+-- an opening that leaves the counts as they were
+abbrev pub keepsCounts : Start → State
+keepsCounts start = record { collector = opened start .collector; counts = start .counts; stores = opened start .stores }
+
+-- an opening sets them to 0
+pub keeps-counts-breaks : ¬ (CountsTold (openingBy keepsCounts))
+unfolding computing small answersFrom
+keeps-counts-breaks = taken-breaks (openingBy keepsCounts) later 3 0 refl refl (λ e. absurd (omega arith))
+
+-- ---- demand 3
 
 -- no object and cut send a whole header of 6 bytes
 abbrev sixBytes : Segment
@@ -171,42 +290,131 @@ too-short f =
     let ends : length (f .header) ≤ 1 * f .headerCut = leb-true (length (f .header)) (1 * f .headerCut) (sym (sent .ends)) in
     omega (arith, f .object .headerLow)
 
--- demand 3: a group that no object and cut send is CONFLICT, whatever else is refused
-pub refuses-all-breaks : ¬ (Promised refusesAll)
-unfolding under segmentIn small
-refuses-all-breaks p =
-    let g : Passing = record { bytes = short; areBytes = omega arith; carried = record { number = 5; part = Header; segment = 0; last = true; start = 9; length = 6 }; read = computed .short } in
-    let e : Answer.Refused Refusal.Length ≡ Answer.Conflict (heardAs (g .carried)) = p .conflict first g .1 too-short in
+-- LENGTH for every group
+abbrev pub refusesEvery : List ℕ → State → Reply
+refusesEvery bytes s = answering (Answer.Refused Refusal.Length) s
+
+-- a group that no object and cut send is CONFLICT, whatever else is refused
+pub refuses-every-breaks : ¬ (ConflictExactly (takingBy refusesEvery))
+unfolding under segmentIn small groupShort
+refuses-every-breaks p =
+    let e : Answer.Refused Refusal.Length ≡ Answer.Conflict (heardOf groupShort) = p none groupShort .1 too-short in
     let z : _≡_ {A = ℕ} 0 1 = cc in
     absurd (omega arith)
 
--- the object is the only one that fits
-only-core : (limit : ℕ) (hs bs : List Segment) (bytes : List ℕ) → limit ≡ 1024 → hs ≡ whole ∷ [] → bs ≡ [] → ((f : Fits limit hs bs) → Finished f → bytes ≡ f .header) → bytes ≡ core
-unfolding fits
-only-core limit hs bs bytes l h b all = let at : (f : Fits 1024 (whole ∷ []) []) → Finished f → bytes ≡ f .header = rw (l, h, b) at all in at fits done
+-- FULL where no slot is free, though the number holds one
+abbrev fullAs : Found → Reading → List ℕ → State → Reply
+fullAs Nothing (Read carried) bytes s = answering (Answer.Full (heardAs carried)) s
+fullAs Nothing (Refused why) bytes s = taking bytes s
+fullAs (At i) reading bytes s = taking bytes s
 
--- demand 2, by the joined bytes: what was answered STORED or COMPLETE is shown
-shown-breaks : (k : Collecting) (r : Run) (number : ℕ) → r .start .limit ≡ 1024 → (stored k r Header number ≡ whole ∷ []) × (stored k r Body number ≡ []) × (k .shows number Header (reachedBy k r) ≡ []) → ¬ (Promised k)
-shown-breaks k r number l c p =
-    let shown : k .shows number Header (reachedBy k r) ≡ core = only-core (r .start .limit) (stored k r Header number) (stored k r Body number) (k .shows number Header (reachedBy k r)) l (c .0) (c .1) (λ f d. p .shown r number f d .0) in
-    let none : _≡_ {A = List ℕ} [] core = sym (c .2) ∙ shown in
+abbrev pub fullUnlessFree : List ℕ → State → Reply
+fullUnlessFree bytes s = fullAs (free s) (readingOf bytes) bytes s
+
+-- a number that holds a slot is never FULL
+pub full-unless-free-breaks : ¬ (FullExactly (takingBy fullUnlessFree))
+unfolding computing small groupFive
+full-unless-free-breaks p =
+    let s : State = reachedBy (takingBy fullUnlessFree) one in
+    different (find 5 s) (find 5 s) refl (p one groupFive .0 refl .1) refl
+
+-- STORED for every group that can be read, and nothing is stored
+abbrev storedAs : Reading → Answer
+storedAs (Read carried) = Answer.Stored (heardAs carried)
+storedAs (Refused why) = Answer.Refused why
+
+abbrev pub storesEvery : List ℕ → State → Reply
+storesEvery bytes s = answering (storedAs (readingOf bytes)) s
+
+-- a segment that was stored comes again as REPEAT
+pub stores-every-breaks : ¬ (RepeatExactly (takingBy storesEvery))
+unfolding computing small groupFive
+stores-every-breaks p =
+    let e : Answer.Stored (heardOf groupFive) ≡ Answer.Repeat (heardOf groupFive) = p one groupFive .1 (inl refl) in
     let z : _≡_ {A = ℕ} 0 1 = cc in
     absurd (omega arith)
 
-pub says-stored-breaks : ¬ (Promised saysStored)
-unfolding small
-says-stored-breaks = shown-breaks saysStored one 5 refl (computed .says)
+-- and what was stored is shown
+pub stores-every-unshown : ¬ (ShownJoined (takingBy storesEvery))
+unfolding computing small
+stores-every-unshown = shown-breaks (takingBy storesEvery) one 5 refl (refl, refl, refl)
 
-pub writes-nothing-breaks : ¬ (Promised writesNothing)
-unfolding small
-writes-nothing-breaks = shown-breaks writesNothing one 5 refl (computed .writes)
+-- COMPLETE as soon as a last segment is stored
+abbrev completeAs : Reading → Answer → Answer
+completeAs (Read carried) answer = pick (both (carried .last) (eqb (numberOf answer) 0)) (Answer.Complete (heardAs carried)) answer
+completeAs (Refused why) answer = answer
 
-pub stores-first-breaks : ¬ (Promised storesFirst)
-unfolding small
-stores-first-breaks = shown-breaks storesFirst two 6 refl (computed .stores)
+abbrev pub completesByLast : List ℕ → State → Reply
+completesByLast bytes s = record {
+  answer = completeAs (readingOf bytes) (taking bytes s .answer);
+  left = record {
+    collector = taking bytes s .left .collector;
+    counts = counted (completeAs (readingOf bytes) (taking bytes s .answer)) (s .counts);
+    stores = taking bytes s .left .stores;
+  };
+}
 
--- demand 2, by the history: a count is the number of such answers
-pub invents-counts-breaks : ¬ (Promised inventsCounts)
-invents-counts-breaks p =
-    let e : reachedBy inventsCounts one .counts .taken ≡ min (answersFrom 0 1 (toldBy inventsCounts one)) ceiling = ap (λ (c : Counts). c .taken) (p .counts one) in
-    absurd (omega (arith, e, computed .counts .0, computed .counts .1))
+-- nothing is COMPLETE without a header
+pub completes-by-last-breaks : ¬ (CompleteExactly (takingBy completesByLast))
+unfolding computing small groupLast
+completes-by-last-breaks p =
+    let m = p none groupLast .0 refl in
+    none-finished 1024 [] (segmentIn bodyLast (readAs 5 Body 1 true 4) ∷ []) (m .0 .0) (m .0 .1) refl
+
+-- DROPPED for every number
+abbrev pub dropsUnheld : ℕ → State → Reply
+dropsUnheld number s = record {
+  answer = Answer.Dropped number;
+  left = record { collector = dropping number s .left .collector; counts = counted (Answer.Dropped number) (s .counts); stores = dropping number s .left .stores };
+}
+
+-- a drop is DROPPED only where the number holds a slot
+pub drops-unheld-breaks : ¬ (DropExactly (droppingBy dropsUnheld))
+unfolding computing small
+drops-unheld-breaks p = p none 5 .0 .0 refl refl
+
+-- a segment that completes its object is answered and counted, and not taken in
+abbrev pub neverFinishes : List ℕ → State → Reply
+neverFinishes bytes s = pick (eqb (numberOf (taking bytes s .answer)) 1) (answering (taking bytes s .answer) s) (taking bytes s)
+
+-- an object is finished once every segment is stored
+pub never-finishes-breaks : ¬ (FinishedExactly (takingBy neverFinishes))
+unfolding computing small
+never-finishes-breaks p =
+    let object = finished-core 1024 (stored (takingBy neverFinishes) one Header 5) (stored (takingBy neverFinishes) one Body 5) refl refl refl in
+    let stage = p one 5 .1 (object .0, object .1) in
+    free-unfinished (stage .0) (stage .1) (stage .2)
+
+-- CONFLICT for a segment that comes again
+abbrev conflictAs : Reading → List ℕ → State → Reply
+conflictAs (Read carried) bytes s = pick (eqb (numberOf (taking bytes s .answer)) 2) (answering (Answer.Conflict (heardAs carried)) s) (taking bytes s)
+conflictAs (Refused why) bytes s = taking bytes s
+
+abbrev pub repeatConflicts : List ℕ → State → Reply
+repeatConflicts bytes s = conflictAs (readingOf bytes) bytes s
+
+-- a group that comes again from the same cut does not conflict
+pub repeat-conflicts-breaks : ¬ (OneCutAgrees (takingBy repeatConflicts))
+unfolding computing small groupFive single
+repeat-conflicts-breaks p = p one single 5 (from, tt) groupFive refl (record { starts = omega arith; holds = refl; ends = refl }) refl
+  where
+    from : From single 5 (hand five)
+    from carried r n = let same : readAs 5 Header 0 true 7 ≡ carried = cc (reads .0) in subst (λ (c : Carried). SentBy single (c .part) (segmentIn five c)) same (record { starts = omega arith; holds = refl; ends = refl })
+
+-- it stores the first group, and afterwards only says so
+abbrev pub storesFirst : List ℕ → State → Reply
+storesFirst bytes s = pick (eqb (s .counts .taken) 0) (taking bytes s) (answering (storedAs (readingOf bytes)) s)
+
+-- once all groups of a cut have come, the object is finished
+pub stores-first-breaks : ¬ (OneCutFinishes (takingBy storesFirst))
+unfolding computing small
+stores-first-breaks p = gathering-unfinished (length (object .header)) (length (object .body)) (p many object 5 from-one all-come .0)
+  where
+    all-come : (part : Part) (s : Segment) → SentBy object part s → Among s (cameUnder part 5 (told (takingBy storesFirst) small oneCut))
+    all-come Header = all-sent Header
+    all-come Body = all-sent Body
+
+-- and what was stored is shown
+pub stores-first-unshown : ¬ (ShownJoined (takingBy storesFirst))
+unfolding computing small
+stores-first-unshown = shown-breaks (takingBy storesFirst) two 6 refl (refl, refl, refl)
