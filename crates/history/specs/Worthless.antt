@@ -1,5 +1,5 @@
 -- WRONG COLLECTORS, document 01's five worthless ones among them: each is the collector's own definitions with one piece that
--- is wrong, and is proved to break the promise that shuts it out, by a run that is computed. The edits of must-fail put that
+-- is wrong, and is proved to break the promise that shuts it out, by a run that is computed. The edits in refused/ put that
 -- piece into our collector, which is then refused at that promise.
 use mathlib.Core.Path.{_≡_, refl, sym, ap, _∙_, subst}
 use mathlib.Core.Logic.{_≢_, inl}
