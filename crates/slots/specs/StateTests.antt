@@ -10,16 +10,12 @@ use lib.ListN.{length, getD, take, drop, length-take, length-drop}
 use lib.Seq.{drop-cons, getD-take}
 use borrow.Author.Tests.{eqb-true, leb-true}
 use Rattle.cut.specs.Requirement.{headerMost, limitLeast, limitMost}
-use Rattle.cut.specs.Lists.{pick}
 use Rattle.cut.specs.Decision.{both, all}
 use Rattle.cut.specs.LawsDecision.{all-true}
 use Rattle.gathering.specs.declared.Slot.{Slot}
 use Rattle.slot.specs.Meets.{sound-meets}
-use Rattle.slots.specs.declared.Found.{Found}
-use Rattle.slots.specs.declared.Found.the-variants.{Nothing, At}
 use Rattle.slots.specs.Stores.{slotsMost, slotMarks, Stores, lentAt, freeSlot}
-use Rattle.slots.specs.Find.{holds, firstFrom}
-use Rattle.slots.specs.State.{withinLimits, heldAmong, unlike, distinct, rightSlot, rightBy, rightFrom}
+use Rattle.slots.specs.State.{withinLimits, rightSlot, rightBy, rightFrom}
 
 -- ---- the limits
 
@@ -64,21 +60,6 @@ module _ (limit count header body marks : ℕ) where
         slots = leb-true count slotsMost (t .1 .1 .1 .1 .1 .1 .0);
       }
 
--- ---- two slots that hold one number
-
-abbrev isFound : Found → Bool
-isFound Nothing = false
-isFound (At i) = true
-
-pub among-found : (number i : ℕ) (slots : List Slot) → heldAmong number slots ≡ isFound (firstFrom (holds number) i slots)
-unfolding heldAmong firstFrom
-among-found number i [] = refl
-among-found number i (slot ∷ slots) = picked (holds number slot) (among-found number (suc i) slots)
-  where
-    picked : (t : Bool) → heldAmong number slots ≡ isFound (firstFrom (holds number) (suc i) slots) → pick t true (heldAmong number slots) ≡ isFound (pick t (At i) (firstFrom (holds number) (suc i) slots))
-    picked true e = refl
-    picked false e = e
-
 -- ---- slot by slot
 
 -- nothing is left
@@ -90,27 +71,19 @@ spent l i h = empty (drop i l) (rw length-drop (omega arith))
     empty (x ∷ l) e = absurd (omega arith)
 
 -- one more is left
-pub one-more : (slots : List Slot) (count i : ℕ) → i < count → i < length slots → drop i (take count slots) ≡ getD slots i freeSlot ∷ drop (i + 1) (take count slots)
-one-more slots count i h g = drop-cons (take count slots) i freeSlot (rw length-take (omega arith)) ∙ rw (getD-take count slots i freeSlot h, add-one) refl
+pub one-more : {A : Type 0} (d : A) (l : List A) (count i : ℕ) → i < count → i < length l → drop i (take count l) ≡ getD l i d ∷ drop (i + 1) (take count l)
+one-more d l count i h g = drop-cons (take count l) i d (rw length-take (omega arith)) ∙ rw (getD-take count l i d h, add-one) refl
 
 pub right-meets : (limit i : ℕ) (slot : Slot) (stores : Stores) → rightSlot limit slot (lentAt limit i stores) ≡ rightBy limit i slot (stores .header) (stores .marks)
 unfolding rightSlot rightBy lentAt
 right-meets limit i slot stores = rw (sound-meets limit slot (lentAt limit i stores)) refl
 
 module _ (slots : List Slot) (count i : ℕ) where
-  pub distinct-none : length (take count slots) ≤ i → distinct (drop i (take count slots)) ≡ true
-  unfolding distinct
-  distinct-none h = rw (spent (take count slots) i h) refl
-
   pub right-none : (limit : ℕ) (stores : Stores) → length (take count slots) ≤ i → rightFrom limit i (drop i (take count slots)) stores ≡ true
   unfolding rightFrom
   right-none limit stores h = rw (spent (take count slots) i h) refl
 
   module _ (h : i < count) (g : i < length slots) where
-    pub distinct-on : distinct (drop i (take count slots)) ≡ both (unlike (getD slots i freeSlot) (drop (i + 1) (take count slots))) (distinct (drop (i + 1) (take count slots)))
-    unfolding distinct
-    distinct-on = rw (one-more slots count i h g) refl
-
     pub right-on : (limit : ℕ) (stores : Stores) → rightFrom limit i (drop i (take count slots)) stores ≡ both (rightBy limit i (getD slots i freeSlot) (stores .header) (stores .marks)) (rightFrom limit (i + 1) (drop (i + 1) (take count slots)) stores)
     unfolding rightFrom
-    right-on limit stores = rw (one-more slots count i h g, right-meets limit i (getD slots i freeSlot) stores, add-one) refl
+    right-on limit stores = rw (one-more freeSlot slots count i h g, right-meets limit i (getD slots i freeSlot) stores, add-one) refl
