@@ -106,16 +106,16 @@ fn holds(number: u16, slot: Slot) -> bool
 pub fn find(number: u16, count: usize, slots: [Slot; 16]) -> Found
     ensures { λ r. ⌜ r ≡ findIn number count slots ⌝ }
 {
-    let mut i = 0;
-    while i < count {
-        if SLOTS_MOST <= i {
+    let mut at = 0;
+    while at < count {
+        if SLOTS_MOST <= at {
             return Found::Nothing;
         }
-        let slot = slots[i];
+        let slot = slots[at];
         if holds(number, slot) {
-            return Found::At(i);
+            return Found::At(at);
         }
-        i += 1;
+        at += 1;
     }
     Found::Nothing
 }
