@@ -55,5 +55,5 @@ module _ (asked : List ℕ) (slots : List Slot) (store : List ℕ) (count i : �
   unfolding lowestFrom
   lowest-on h g held e =
       let rest : Holder = lowestFrom asked (i + 1) (drop (i + 1) (take count slots)) store in
-      let step : lowestFrom asked i (drop i (take count slots)) store ≡ lower (holderIn asked i (getD slots i freeSlot) store) rest = rw (one-more slots count i h g, add-one) refl in
+      let step : lowestFrom asked i (drop i (take count slots)) store ≡ lower (holderIn asked i (getD slots i freeSlot) store) rest = rw (one-more freeSlot slots count i h g, add-one) refl in
       e ∙ ap (lower held) step ∙ sym (lower-assoc held (holderIn asked i (getD slots i freeSlot) store) rest)

@@ -20,7 +20,7 @@ use Rattle.cut.specs.declared.Bounds.{Bounds}
 use Rattle.cut.specs.declared.Record.{Record}
 use Rattle.cut.specs.Lists.{pick}
 use Rattle.cut.specs.Decision.{both, all, boundsOf, room, roomAs, openTests, endedTests}
-use Rattle.cut.specs.Sums.{acceptsIn}
+use Rattle.cut.specs.Sums.{ended, acceptsIn}
 use Rattle.gathering.specs.Memory.{placeOf, movedAs}
 use Rattle.gathering.specs.Sound.{endRight}
 use Rattle.slot.specs.Inner.{marksOf}
@@ -108,6 +108,9 @@ through₂ g e f h = e ∙ ap₂ g f h
 
 pub through₃ : {A B C D : Type 0} (g : A → B → C → D) {r : D} {a a' : A} {b b' : B} {c c' : C} → r ≡ g a b c → a ≡ a' → b ≡ b' → c ≡ c' → r ≡ g a' b' c'
 through₃ g {c = c} {c' = c'} e f h i = e ∙ ap₂ (λ x y. g x y c) f h ∙ ap (g _ _) i
+
+pub full-by : {r : Bool} {p p' : Record} {t t' : ℕ} → r ≡ ltb (ended p) t → p ≡ p' → t ≡ t' → r ≡ ltb (ended p') t'
+full-by e f h = through₂ (λ (p : Record) (t : ℕ). ltb (ended p) t) e f h
 
 pub accepted-as : (last : Bool) (n : ℕ) {r : Bool} {b b' : Bounds} {p p' : Record} {marks marks' : List ℕ}
     → r ≡ acceptsIn last n b p marks → b ≡ b' → p ≡ p' → marks ≡ marks' → r ≡ acceptsIn last n b' p' marks'

@@ -10,13 +10,14 @@ use gathering::Slot;
 use gathering::Stage;
 ghost use mathlib.Core.Path.{_≡_};
 ghost use Prim.Native.Nat.{suc, _*_, _≤_, _<_};
-ghost use lib.Dec.{eqb};
+ghost use lib.Dec.{eqb, ltb};
 ghost use lib.ListN.{length, drop};
 ghost use Rattle.octets.specs.Octets.{sumOf};
 ghost use Rattle.cut.specs.Requirement.{bodySize, headerSize};
 ghost use Rattle.cut.specs.declared.Core.the-variants.{Seen};
 ghost use Rattle.cut.specs.Lists.{pick};
-ghost use Rattle.cut.specs.Sums.{ended, possibleIn, acceptsIn, fullIn, suitsIn};
+ghost use Rattle.cut.specs.Decision.{finished};
+ghost use Rattle.cut.specs.Sums.{ended, possibleIn, acceptsIn, suitsIn};
 ghost use Rattle.gathering.specs.Memory.{placeOf, lengthOf, movedAs};
 ghost use Rattle.gathering.specs.Take.{stageBy, sameFlag, outcomeBy, takeInto};
 ghost use Rattle.gathering.specs.Sound.{endRight, sameStage};
@@ -74,46 +75,64 @@ fn ended(kept: Record) -> u32
     if kept.end == 0 { 0 } else { 1 }
 }
 
-// The sum of a part's marks from a number on.
-fn sum_from(marks: &[u8], from: usize) -> u32
-    requires { ⌜ (from ≤ length (now marks)) × (length (now marks) ≤ 1024) ⌝ }
+// How many of a part's marks are set, where each is 0 or 1.
+fn sum_of(part: Part, marks: &[u8]) -> u32
+    requires { ⌜ length (now marks) ≡ 1088 ⌝ }
+    ensures { λ r. ⌜ r ≡ sumOf (marksOf part (now (marks .entry))) ⌝ }
+{
+    octets::sum(marks_of(part, marks))
+}
+
+// The sum of a part's marks from a number on, where total is that of all: the shorter side is summed.
+fn sum_past(total: u32, from: usize, marks: &[u8]) -> u32
+    requires { ⌜ (total ≡ sumOf (now marks)) × (from ≤ length (now marks)) × (length (now marks) ≤ 1024) ⌝ }
     ensures { λ r. ⌜ r ≡ sumOf (drop from (now (marks .entry))) ⌝ }
 {
+    if from < marks.len() - from {
+        return total - octets::sum(&marks[..from]);
+    }
     octets::sum(&marks[from..])
 }
 
-fn full_in(kept: Record, marks: &[u8]) -> bool
-    requires { ⌜ length (now marks) ≤ 1024 ⌝ }
-    ensures { λ r. ⌜ r ≡ fullIn kept (now (marks .entry)) ⌝ }
+// Whether a full segment is in, total being the sum of the part's marks.
+fn full_in(kept: Record, total: u32) -> bool
+    ensures { λ r. ⌜ r ≡ ltb (ended kept) total ⌝ }
 {
-    ended(kept) < sum_from(marks, 0)
+    ended(kept) < total
 }
 
-fn possible_in(bounds: Bounds, kept: Record, marks: &[u8]) -> bool
-    requires { ⌜ (length (now marks) ≡ bounds .numbers) × (bounds .numbers ≤ 1024) ⌝ }
+fn possible_in(bounds: Bounds, kept: Record, total: u32, marks: &[u8]) -> bool
+    requires { ⌜ (length (now marks) ≡ bounds .numbers) × (bounds .numbers ≤ 1024) × (total ≡ sumOf (now marks)) ⌝ }
     ensures { λ r. ⌜ r ≡ possibleIn bounds kept (now (marks .entry)) ⌝ }
 {
     let ends = ended(kept);
-    if sum_from(marks, 0) == ends {
+    if total == ends {
         return fitting::alone(bounds, kept);
     }
     let room = fitting::room(bounds, kept);
-    sum_from(marks, room) == ends
+    sum_past(total, room, marks) == ends
 }
 
-fn accepts_in(last: bool, number: usize, bounds: Bounds, kept: Record, marks: &[u8]) -> bool
-    requires { ⌜ (length (now marks) ≡ bounds .numbers) × (bounds .numbers ≤ 1024) ⌝ }
+fn accepts_in(
+    last: bool,
+    number: usize,
+    bounds: Bounds,
+    kept: Record,
+    total: u32,
+    marks: &[u8],
+) -> bool
+    requires { ⌜ (length (now marks) ≡ bounds .numbers) × (bounds .numbers ≤ 1024) × (total ≡ sumOf (now marks)) ⌝ }
     ensures { λ r. ⌜ r ≡ acceptsIn last number bounds kept (now (marks .entry)) ⌝ }
 {
     let room = fitting::room(bounds, kept);
     if last {
-        if sum_from(marks, 0) == 0 {
+        if total == 0 {
             return fitting::alone(bounds, kept);
         }
-        return sum_from(marks, room) == 0;
+        return sum_past(total, room, marks) == 0;
     }
     if number < room {
-        return sum_from(marks, room) == ended(kept);
+        return sum_past(total, room, marks) == ended(kept);
     }
     false
 }
@@ -133,8 +152,8 @@ fn takes(
     ensures { λ r. ⌜ r ≡ takesAs part limit core slot (now (marks .entry)) last number count ⌝ }
 {
     let kept = kept_of(part, slot);
-    let mine = marks_of(part, marks);
-    if !kept::joins(full_in(kept, mine), last, count, kept) {
+    let total = sum_of(part, marks);
+    if !kept::joins(full_in(kept, total), last, count, kept) {
         return false;
     }
     if !fitting::core_fits(limit, core) {
@@ -146,7 +165,8 @@ fn takes(
         number,
         fitting::bounds_of(part, limit, core),
         with,
-        mine,
+        total,
+        marks_of(part, marks),
     ) {
         return false;
     }
@@ -154,6 +174,7 @@ fn takes(
     possible_in(
         fitting::bounds_of(other, limit, core),
         kept_of(other, slot),
+        sum_of(other, marks),
         marks_of(other, marks),
     )
 }
@@ -176,7 +197,7 @@ fn record_as(
     let bounds = fitting::bounds_of(part, limit, core);
     let with = kept::add(last, number, count, kept);
     if last {
-        return kept::settle(bounds, full_in(kept, marks_of(part, marks)), with);
+        return kept::settle(bounds, full_in(kept, sum_of(part, marks)), with);
     }
     kept::settle(bounds, true, with)
 }
@@ -189,7 +210,7 @@ fn record_still(part: Part, limit: usize, core: Core, slot: Slot, marks: &[u8]) 
     let kept = kept_of(part, slot);
     kept::settle(
         fitting::bounds_of(part, limit, core),
-        full_in(kept, marks_of(part, marks)),
+        full_in(kept, sum_of(part, marks)),
         kept,
     )
 }
@@ -246,9 +267,9 @@ fn slot_from(number: u16, header: Record, body: Record, share: &[u8], marks: &[u
     ensures { λ r. ⌜ r ≡ slotFrom number header body (now (share .entry)) (now (marks .entry)) ⌝ }
 {
     let core = core_from(marks_of(Part::Header, marks), share);
-    let headers = sum_from(marks_of(Part::Header, marks), 0) as usize;
-    let bodies = sum_from(marks_of(Part::Body, marks), 0) as usize;
-    let stage = stage_by(kept::finished(core, headers, header, bodies, body), core);
+    let headers = sum_of(Part::Header, marks);
+    let bodies = sum_of(Part::Body, marks);
+    let stage = stage_of(core, headers, header, bodies, body);
     Slot {
         number,
         stage,
@@ -267,6 +288,14 @@ fn stage_by(whole: bool, core: Core) -> Stage
         Core::Unseen => Stage::Gathering,
         Core::Seen { body, header } => Stage::Finished(header, body),
     }
+}
+
+// The stage that follows from what header segment 0 says and from how many segments of each part are in.
+fn stage_of(core: Core, headers: u32, header: Record, bodies: u32, body: Record) -> Stage
+    ensures { λ r. ⌜ r ≡ stageBy (finished core headers header bodies body) core ⌝ }
+{
+    let whole = kept::finished(core, headers as usize, header, bodies as usize, body);
+    stage_by(whole, core)
 }
 
 fn length_of(last: bool, kept: Record) -> usize
@@ -549,16 +578,15 @@ fn end_right(end: usize, tail: usize, marks: &[u8]) -> bool
     0 < marks[end - 1]
 }
 
-fn record_right(part: Part, limit: usize, core: Core, slot: Slot, marks: &[u8]) -> bool
-    requires { ⌜ length (now marks) ≡ 1088 ⌝ }
+fn record_right(part: Part, limit: usize, core: Core, slot: Slot, total: u32, marks: &[u8]) -> bool
+    requires { ⌜ (length (now marks) ≡ 1088) × (total ≡ sumOf (marksOf part (now marks))) ⌝ }
     ensures { λ r. ⌜ r ≡ rightAs part limit core slot (now (marks .entry)) ⌝ }
 {
     let kept = kept_of(part, slot);
-    let mine = marks_of(part, marks);
-    if !end_right(kept.end, kept.tail, mine) {
+    if !end_right(kept.end, kept.tail, marks_of(part, marks)) {
         return false;
     }
-    if full_in(kept, mine) {
+    if full_in(kept, total) {
         return true;
     }
     let settled = kept::settle(fitting::bounds_of(part, limit, core), false, kept);
@@ -592,8 +620,8 @@ fn same_stage(a: Stage, b: Stage) -> bool
     }
 }
 
-fn suits_in(limit: usize, core: Core, slot: Slot, marks: &[u8]) -> bool
-    requires { ⌜ length (now marks) ≡ 1088 ⌝ }
+fn suits_in(limit: usize, core: Core, slot: Slot, headers: u32, bodies: u32, marks: &[u8]) -> bool
+    requires { ⌜ (length (now marks) ≡ 1088) × (headers ≡ sumOf (marksOf Part.Header (now marks))) × (bodies ≡ sumOf (marksOf Part.Body (now marks))) ⌝ }
     ensures { λ r. ⌜ r ≡ suitsIn limit core (slot .header) (marksOf Part.Header (now (marks .entry))) (slot .body) (marksOf Part.Body (now (marks .entry))) ⌝ }
 {
     let header = slot.header;
@@ -604,6 +632,7 @@ fn suits_in(limit: usize, core: Core, slot: Slot, marks: &[u8]) -> bool
     if !possible_in(
         fitting::bounds_of(Part::Header, limit, core),
         header,
+        headers,
         marks_of(Part::Header, marks),
     ) {
         return false;
@@ -611,6 +640,7 @@ fn suits_in(limit: usize, core: Core, slot: Slot, marks: &[u8]) -> bool
     possible_in(
         fitting::bounds_of(Part::Body, limit, core),
         body,
+        bodies,
         marks_of(Part::Body, marks),
     )
 }
@@ -625,19 +655,20 @@ pub fn is_sound(slot: Slot, limit: usize, header: &[u8], marks: &[u8]) -> bool
         return false;
     }
     let core = core_from(marks_of(Part::Header, marks), header);
-    if !record_right(Part::Header, limit, core, slot, marks) {
+    let headers = sum_of(Part::Header, marks);
+    let bodies = sum_of(Part::Body, marks);
+    if !record_right(Part::Header, limit, core, slot, headers, marks) {
         return false;
     }
-    if !record_right(Part::Body, limit, core, slot, marks) {
+    if !record_right(Part::Body, limit, core, slot, bodies, marks) {
         return false;
     }
-    if !suits_in(limit, core, slot, marks) {
+    if !suits_in(limit, core, slot, headers, bodies, marks) {
         return false;
     }
     let kept = slot.header;
     let other = slot.body;
-    let given = slot_from(slot.number, kept, other, header, marks);
-    let stage = given.stage;
+    let stage = stage_of(core, headers, kept, bodies, other);
     let claimed = slot.stage;
     same_stage(claimed, stage)
 }

@@ -9,7 +9,7 @@ use native.Mathlib.Nat.{le-div-iff-mul-le}
 use native.Mathlib.Decide.{decLe}
 use native.Mathlib.Numerals.{add-one}
 use native.Mathlib.Omega.{arith}
-use lib.ListN.{length, take, drop}
+use lib.ListN.{length, getD, take, drop}
 use lib.Dec.{ltb, leb}
 use borrow.Author.Tests.{le-leb, lt-leb}
 use types.Run.{OneOf}
@@ -26,7 +26,7 @@ use Rattle.gathering.specs.declared.Stage.{Stage}
 use Rattle.gathering.specs.declared.Stage.the-variants.{Free, Gathering, Finished}
 use Rattle.gathering.proofs.Stage.{the-type}
 use Rattle.slots.specs.declared.Found.the-variants.{Nothing, At}
-use Rattle.slots.specs.Stores.{noRecord, Stores, lentAt, slotAt}
+use Rattle.slots.specs.Stores.{noRecord, Stores, lentAt, freeSlot}
 use Rattle.slots.specs.Find.{firstFrom}
 use Rattle.slots.specs.StateTests.{spent, one-more}
 use Rattle.slots.specs.Take.{placedAt, among}
@@ -40,16 +40,16 @@ module _ (test : Slot → Bool) (slots : List Slot) (count i : ℕ) where
   unfolding firstFrom
   first-none h = rw (spent (take count slots) i h)
 
-  module _ (b : i < count) (h : i < length slots) (slot : Slot) (at : slot ≡ slotAt i slots) where
+  module _ (b : i < count) (h : i < length slots) where
     -- this one passes
-    pub first-here : test slot ≡ true → firstFrom test i (drop i (take count slots)) ≡ At i
-    unfolding firstFrom slotAt
-    first-here e = rw (one-more slots count i b h, sym at, e)
+    pub first-here : test (getD slots i freeSlot) ≡ true → firstFrom test i (drop i (take count slots)) ≡ At i
+    unfolding firstFrom
+    first-here e = rw (one-more freeSlot slots count i b h, e)
 
     -- this one does not
-    pub first-on : test slot ≡ false → firstFrom test i (drop i (take count slots)) ≡ firstFrom test (i + 1) (drop (i + 1) (take count slots))
-    unfolding firstFrom slotAt
-    first-on e = rw (one-more slots count i b h, sym at, e, add-one)
+    pub first-on : test (getD slots i freeSlot) ≡ false → firstFrom test i (drop i (take count slots)) ≡ firstFrom test (i + 1) (drop (i + 1) (take count slots))
+    unfolding firstFrom
+    first-on e = rw (one-more freeSlot slots count i b h, e, add-one)
 
 pub both-only : (a : Bool) → both a true ≡ a
 both-only true = refl

@@ -4,6 +4,7 @@ pub mod Alone
 pub mod AloneTests
 pub mod State
 pub mod StateTests
+pub mod Keys
 pub mod Take
 pub mod Shares
 pub mod Fresh

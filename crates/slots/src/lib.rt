@@ -20,10 +20,11 @@ ghost use Rattle.cut.specs.Decision.{addPart};
 ghost use Rattle.cut.specs.Sums.{acceptsIn};
 ghost use Rattle.gathering.specs.Take.{takeInto};
 ghost use Rattle.slot.specs.Inner.{otherPart, Offered};
-ghost use Rattle.slots.specs.Stores.{noRecord, freeSlot, freshSlot, lentAt, slotAt};
-ghost use Rattle.slots.specs.Find.{isFree, holds, findIn, freeIn, findFrom};
+ghost use Rattle.slots.specs.Stores.{noRecord, freeSlot, freshSlot, lentAt};
+ghost use Rattle.slots.specs.Find.{isFree, holds, findIn, freeIn};
 ghost use Rattle.slots.specs.Alone.{coreAlone, fitsAlone};
-ghost use Rattle.slots.specs.State.{withinLimits, unlike, distinct, rightBy, soundSlots};
+ghost use Rattle.slots.specs.State.{withinLimits, rightBy, soundSlots};
+ghost use Rattle.slots.specs.Keys.{keyOf, keysOf, unlikeKey, distinctKeys};
 ghost use Rattle.slots.specs.Show.{startOf, shownOf};
 ghost use Rattle.slots.specs.Take.{placedAt, among, takeAt, takeNew, dropAt, Inside, OfferedAt, OpenAt};
 
@@ -57,14 +58,6 @@ pub fn free_slot() -> Slot
         header: no_record(),
         body: no_record(),
     }
-}
-
-// Slot i.
-fn slot_at(i: usize, slots: [Slot; 16]) -> Slot
-    requires { ⌜ i < 16 ⌝ }
-    ensures { λ r. ⌜ r ≡ slotAt i slots ⌝ }
-{
-    slots[i]
 }
 
 // All the slots, with another one in the place of slot i.
@@ -109,29 +102,22 @@ fn holds(number: u16, slot: Slot) -> bool
     slot.number == number
 }
 
-// The lowest of the first count slots, from one on, that holds a number.
-fn find_from(number: u16, from: usize, count: usize, slots: [Slot; 16]) -> Found
-    ensures { λ r. ⌜ r ≡ findFrom number from count slots ⌝ }
-{
-    let mut i = from;
-    while i < count {
-        if SLOTS_MOST <= i {
-            return Found::Nothing;
-        }
-        let slot = slot_at(i, slots);
-        if holds(number, slot) {
-            return Found::At(i);
-        }
-        i += 1;
-    }
-    Found::Nothing
-}
-
 // The lowest of the first count slots that holds a number.
 pub fn find(number: u16, count: usize, slots: [Slot; 16]) -> Found
     ensures { λ r. ⌜ r ≡ findIn number count slots ⌝ }
 {
-    find_from(number, 0, count, slots)
+    let mut at = 0;
+    while at < count {
+        if SLOTS_MOST <= at {
+            return Found::Nothing;
+        }
+        let slot = slots[at];
+        if holds(number, slot) {
+            return Found::At(at);
+        }
+        at += 1;
+    }
+    Found::Nothing
 }
 
 // The lowest of the first count slots that is free.
@@ -143,7 +129,7 @@ pub fn free(count: usize, slots: [Slot; 16]) -> Found
         if SLOTS_MOST <= i {
             return Found::Nothing;
         }
-        let slot = slot_at(i, slots);
+        let slot = slots[i];
         if is_free(slot) {
             return Found::At(i);
         }
@@ -238,28 +224,56 @@ pub fn within_limits(limit: usize, count: usize, header: usize, body: usize, mar
     marks == count * SLOT_MARKS
 }
 
-// Whether a slot is free, or none of the slots from one on holds its number.
-fn is_unlike(slot: Slot, from: usize, count: usize, slots: [Slot; 16]) -> bool
-    ensures { λ r. ⌜ r ≡ unlike slot (drop from (take count slots)) ⌝ }
+// A slot's number and 1, or 0 where it is free: two slots hold one number just where their keys are one and not 0.
+fn key_of(slot: Slot) -> u32
+    ensures { λ r. ⌜ r ≡ keyOf slot ⌝ }
 {
     if is_free(slot) {
-        return true;
+        return 0;
     }
-    match find_from(slot.number, from, count, slots) {
-        Found::Nothing => true,
-        Found::At(_) => false,
-    }
+    slot.number as u32 + 1
 }
 
-// Whether no two of the first count slots hold one number.
-fn all_distinct(count: usize, slots: [Slot; 16]) -> bool
+// The keys of all slots: a search among these copies 64 bytes, and not the slots.
+fn keys_of(slots: [Slot; 16]) -> [u32; 16]
+    ensures { λ r. ⌜ r ≡ keysOf slots ⌝ }
+{
+    let mut keys: [u32; 16] = [0; 16];
+    let mut i = 0;
+    while i < 16 {
+        let slot = slots[i];
+        keys[i] = key_of(slot);
+        i += 1;
+    }
+    keys
+}
+
+// Whether a key is 0, or none of the first count keys, from one on, is this one.
+fn is_unlike(key: u32, from: usize, count: usize, keys: [u32; 16]) -> bool
     requires { ⌜ count ≤ 16 ⌝ }
-    ensures { λ r. ⌜ r ≡ distinct (take count slots) ⌝ }
+    ensures { λ r. ⌜ r ≡ unlikeKey key (drop from (take count keys)) ⌝ }
+{
+    if key == 0 {
+        return true;
+    }
+    let mut i = from;
+    while i < count {
+        if keys[i] == key {
+            return false;
+        }
+        i += 1;
+    }
+    true
+}
+
+// Whether no two of the first count keys are one, but for 0.
+fn all_distinct(count: usize, keys: [u32; 16]) -> bool
+    requires { ⌜ count ≤ 16 ⌝ }
+    ensures { λ r. ⌜ r ≡ distinctKeys (take count keys) ⌝ }
 {
     let mut i = 0;
     while i < count {
-        let slot = slot_at(i, slots);
-        if !is_unlike(slot, i + 1, count, slots) {
+        if !is_unlike(keys[i], i + 1, count, keys) {
             return false;
         }
         i += 1;
@@ -297,12 +311,12 @@ pub fn sound(
     if !within_limits(limit, count, header.len(), body.len(), marks.len()) {
         return false;
     }
-    if !all_distinct(count, slots) {
+    if !all_distinct(count, keys_of(slots)) {
         return false;
     }
     let mut i = 0;
     while i < count {
-        let slot = slot_at(i, slots);
+        let slot = slots[i];
         if !right_at(limit, i, slot, header, marks) {
             return false;
         }
@@ -384,7 +398,7 @@ pub fn take_at(
     requires { ⌜ OfferedAt limit i slots (record { header = now header; body = now body; marks = now marks }) ⌝ }
     ensures { λ r. ⌜ record { outcome = r .outcome; slots = r .slots; stores = record { header = now (header .exit); body = now (body .exit); marks = now (marks .exit) } } ≡ takeAt part limit i (record { number = number; last = last; bytes = now (bytes .entry) }) slots (record { header = now (header .entry); body = now (body .entry); marks = now (marks .entry) }) ⌝ }
 {
-    let old = slot_at(i, slots);
+    let old = slots[i];
     take_into(
         old,
         part,

@@ -14,27 +14,28 @@ use Rattle.slot.proofs.accepts_in.Tie as tie
 room-requires : tie.Need-room-requires
 room-requires c κs = search needs
 
-sum-from-requires : tie.Need-sum-from-requires
-sum-from-requires c κs = search needs
-
 alone-requires : tie.Need-alone-requires
 alone-requires c κs = search needs
 
 returns : tie.Need-returns
 returns c =
-    let none = sym (c .before .before .sum-from .ensures) ∙ c .before .if2 .taken in
-    rw (c .before .before .before .if1 .taken, eq-eqb _ _ none) (c .alone .ensures)
+    let none = sym (c .before .before .before .before .before .pre .2) ∙ c .before .if2 .taken in
+    rw (c .before .before .if1 .taken, eq-eqb _ _ none) (c .alone .ensures)
 
-sum-from-requires-2 : tie.Need-sum-from-requires-2
-sum-from-requires-2 c κs = (omega (arith, c .before .before .before .room .ensures, room-numbers (c .before .before .before .before .before .args .bounds) (c .before .before .before .before .before .args .kept)), omega arith)
+sum-past-requires : tie.Need-sum-past-requires
+sum-past-requires c κs =
+    let s = c .before .before .before .before in
+    (s .pre .2, omega (arith, s .pre .0, c .before .before .room .ensures, room-numbers (s .args .bounds) (s .args .kept)), omega (arith, s .pre .0, s .pre .1))
 
 returns-2 : tie.Need-returns-2
 returns-2 c =
-    let some = rw (c .before .before .sum-from .ensures) at (c .before .if2 .left) in
-    rw (c .before .before .before .if1 .taken, ne-eqb _ _ some) (ap (λ (n : ℕ). eqb n 0) (rw (c .before .before .before .before .room .ensures) at (c .sum-from2 .ensures)))
+    let some = rw (c .before .before .before .before .before .pre .2) at (c .before .if2 .left) in
+    rw (c .before .before .if1 .taken, ne-eqb _ _ some) (ap (λ (n : ℕ). eqb n 0) (rw (c .before .before .before .room .ensures) at (c .sum-past .ensures)))
 
-sum-from-requires-3 : tie.Need-sum-from-requires-3
-sum-from-requires-3 c κs = (omega (arith, c .before .before .room .ensures, room-numbers (c .before .before .before .before .args .bounds) (c .before .before .before .before .args .kept)), omega arith)
+sum-past-requires-2 : tie.Need-sum-past-requires-2
+sum-past-requires-2 c κs =
+    let s = c .before .before .before .before in
+    (s .pre .2, omega (arith, s .pre .0, c .before .before .room .ensures, room-numbers (s .args .bounds) (s .args .kept)), omega (arith, s .pre .0, s .pre .1))
 
 ended-requires : tie.Need-ended-requires
 ended-requires c κs = search needs
@@ -43,7 +44,7 @@ returns-3 : tie.Need-returns-3
 returns-3 c =
     let room = c .before .before .before .before .room .ensures in
     let below = rw room at (c .before .before .if3 .taken) in
-    rw (c .before .before .before .if1 .left, le-leb _ _ below) (ap₂ eqb (rw room at (c .before .sum-from3 .ensures)) (c .ended .ensures))
+    rw (c .before .before .before .if1 .left, le-leb _ _ below) (ap₂ eqb (rw room at (c .before .sum-past2 .ensures)) (c .ended .ensures))
 
 returns-4 : tie.Need-returns-4
 returns-4 c =
@@ -56,12 +57,11 @@ accepts-in-spec =
     tie.close
     (tie.spec
     room-requires
-    sum-from-requires
     alone-requires
     returns
-    sum-from-requires-2
+    sum-past-requires
     returns-2
-    sum-from-requires-3
+    sum-past-requires-2
     ended-requires
     returns-3
     returns-4)

@@ -1,9 +1,9 @@
+-- `slot::record_as` meets its contract: the new record, settled within the bounds.
+-- Assumes nothing.
 use borrow.Author.Needs.{needs}
-use Rattle.cut.specs.Sums.{fullIn}
 use Rattle.cut.specs.Decision.{addPart, settle}
-use Rattle.slot.proofs.Laws.{through₂, through₃}
+use Rattle.slot.proofs.Laws.{full-by, through₃}
 use mathlib.Core.Path.{refl, ap, _∙_}
-use Rattle.slot.proofs.Laws.{marks-short}
 use Rattle.slot.specs.Inner.{recordAs}
 use Rattle.slot.proofs.record_as.Statement.{statement}
 use Rattle.slot.proofs.record_as.Tie as tie
@@ -17,11 +17,11 @@ bounds-of-requires c κs = search needs
 add-requires : tie.Need-add-requires
 add-requires c κs = search needs
 
-marks-of-requires : tie.Need-marks-of-requires
-marks-of-requires c κs = search needs
+sum-of-requires : tie.Need-sum-of-requires
+sum-of-requires c κs = search needs
 
 full-in-requires : tie.Need-full-in-requires
-full-in-requires c κs = rw (c .marks-of .ensures) (marks-short (c .before .before .before .before .before .before .args .part) (c .before .before .before .before .before .before .args .marks .now) (c .before .before .before .before .before .before .pre .0))
+full-in-requires c κs = search needs
 
 settle-requires : tie.Need-settle-requires
 settle-requires c κs = search needs
@@ -31,7 +31,7 @@ unfolding recordAs
 returns c =
     let a = c .before .before .before .before .before .before .before .before .args in
     let kept = c .before .before .before .before .before .before .kept-of .ensures in
-    let full = through₂ fullIn (c .before .full-in .ensures) kept (c .before .before .marks-of .ensures) in
+    let full = full-by (c .before .full-in .ensures) kept (c .before .before .sum-of .ensures) in
     let with = c .before .before .before .before .add .ensures ∙ ap (addPart (a .last) (a .number) (a .count)) kept in
     rw (c .before .before .before .if1 .taken) (through₃ settle (c .settle .ensures) (c .before .before .before .before .before .bounds-of .ensures) full (rw (c .before .before .before .if1 .taken) at with))
 
@@ -52,7 +52,7 @@ record-as-spec =
     kept-of-requires
     bounds-of-requires
     add-requires
-    marks-of-requires
+    sum-of-requires
     full-in-requires
     settle-requires
     returns

@@ -1,9 +1,8 @@
 -- `slot::record_right` meets its contract, test by test.
 -- Assumes nothing.
-use Rattle.slot.proofs.Laws.{through₂, marks-short}
+use Rattle.slot.proofs.Laws.{through₂, full-by}
 use Rattle.slot.specs.Inner.{rightAs}
 use Rattle.gathering.specs.Sound.{endRight}
-use Rattle.cut.specs.Sums.{fullIn}
 use Rattle.cut.specs.Decision.{settle}
 use Rattle.cut.specs.declared.Record.{Record}
 use Rattle.cut.specs.declared.Bounds.{Bounds}
@@ -33,13 +32,13 @@ returns c =
     rw (sym ended ∙ not-true _ (c .if1 .taken))
 
 full-in-requires : tie.Need-full-in-requires
-full-in-requires c κs = rw (c .before .before .marks-of .ensures) (marks-short (c .before .before .before .before .before .args .part) (c .before .before .before .before .before .args .marks .now) (c .before .before .before .before .before .pre))
+full-in-requires c κs = search needs
 
 returns-2 : tie.Need-returns-2
 unfolding rightAs
 returns-2 c =
     let ended = (c .before .before .before .end-right .ensures ∙ ap₂ (λ (k : Record) (m : List ℕ). endRight (k .end) (k .tail) m) (c .before .before .before .before .before .kept-of .ensures) (c .before .before .before .before .marks-of .ensures)) in
-    let full = through₂ fullIn (c .before .full-in .ensures) (c .before .before .before .before .before .kept-of .ensures) (c .before .before .before .before .marks-of .ensures) in
+    let full = full-by (c .before .full-in .ensures) (c .before .before .before .before .before .kept-of .ensures) (c .before .before .before .before .before .before .before .pre .1) in
     rw (sym ended ∙ not-false _ (c .before .before .if1 .left), sym full ∙ c .if2 .taken)
 
 bounds-of-requires : tie.Need-bounds-of-requires
@@ -52,7 +51,7 @@ returns-3 : tie.Need-returns-3
 unfolding rightAs settle
 returns-3 c =
     let ended = (c .before .before .before .before .before .before .before .end-right .ensures ∙ ap₂ (λ (k : Record) (m : List ℕ). endRight (k .end) (k .tail) m) (c .before .before .before .before .before .before .before .before .before .kept-of .ensures) (c .before .before .before .before .before .before .before .before .marks-of .ensures)) in
-    let full = through₂ fullIn (c .before .before .before .before .before .full-in .ensures) (c .before .before .before .before .before .before .before .before .before .kept-of .ensures) (c .before .before .before .before .before .before .before .before .marks-of .ensures) in
+    let full = full-by (c .before .before .before .before .before .full-in .ensures) (c .before .before .before .before .before .before .before .before .before .kept-of .ensures) (c .before .before .before .before .before .before .before .before .before .before .before .pre .1) in
     let settled = through₂ (λ (b : Bounds) (k : Record). settle b false k) (c .before .before .settle .ensures) (c .before .before .before .bounds-of .ensures) (c .before .before .before .before .before .before .before .before .before .kept-of .ensures) in
     rw (sym ended ∙ not-false _ (c .before .before .before .before .before .before .if1 .left), sym full ∙ c .before .before .before .before .if2 .left)
     (ap₂ eqb (ap (λ (k : Record). k .size) (c .before .before .before .before .before .before .before .before .before .kept-of .ensures)) (ap (λ (k : Record). k .size) settled))

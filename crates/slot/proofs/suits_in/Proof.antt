@@ -25,7 +25,7 @@ marks-of-requires c κs = search needs
 possible-in-requires : tie.Need-possible-in-requires
 possible-in-requires c κs =
     let a = c .before .before .before .before .before .before .before .args in
-    rw (c .marks-of .ensures, c .before .bounds-of .ensures) (marks-numbers Header (a .limit) (a .core) (a .marks .now) (c .before .before .before .before .before .before .before .pre), numbers-most Header (a .limit) (a .core))
+    rw (c .marks-of .ensures, c .before .bounds-of .ensures) (marks-numbers Header (a .limit) (a .core) (a .marks .now) (c .before .before .before .before .before .before .before .pre .0), numbers-most Header (a .limit) (a .core), c .before .before .before .before .before .before .before .pre .1)
 
 returns-2 : tie.Need-returns-2
 unfolding suitsIn
@@ -42,7 +42,7 @@ marks-of-requires-2 c κs = search needs
 possible-in-requires-2 : tie.Need-possible-in-requires-2
 possible-in-requires-2 c κs =
     let a = c .before .before .before .before .before .before .before .before .before .before .before .args in
-    rw (c .marks-of2 .ensures, c .before .bounds-of2 .ensures) (marks-numbers Body (a .limit) (a .core) (a .marks .now) (c .before .before .before .before .before .before .before .before .before .before .before .pre), numbers-most Body (a .limit) (a .core))
+    rw (c .marks-of2 .ensures, c .before .bounds-of2 .ensures) (marks-numbers Body (a .limit) (a .core) (a .marks .now) (c .before .before .before .before .before .before .before .before .before .before .before .pre .0), numbers-most Body (a .limit) (a .core), c .before .before .before .before .before .before .before .before .before .before .before .pre .2)
 
 returns-3 : tie.Need-returns-3
 unfolding suitsIn

@@ -1,32 +1,40 @@
+-- `slot::takes` meets its contract, test by test.
+-- Assumes nothing.
 use borrow.Author.Needs.{needs}
-use Rattle.slot.proofs.Laws.{through₂, through₃, marks-short, marks-numbers, numbers-most, accepted-as}
+use Rattle.slot.proofs.Laws.{full-by, through₃, marks-numbers, numbers-most, accepted-as}
 use Rattle.slot.specs.Inner.{otherPart, keptOf, marksOf, takesAs}
-use Rattle.cut.specs.Sums.{fullIn, possibleIn}
+use Rattle.cut.specs.Sums.{fullIn, acceptsIn, possibleIn}
 use Rattle.cut.specs.Decision.{boundsOf, joins, addPart}
 use Rattle.answer.specs.declared.Part.{Part}
 use borrow.Author.Tests.{not-true, not-false}
 use native.Mathlib.Omega.{arith}
-use mathlib.Core.Path.{refl, sym, ap, _∙_}
+use mathlib.Core.Path.{_≡_, refl, sym, ap, _∙_}
 use Rattle.slot.proofs.takes.Statement.{statement}
 use Rattle.slot.proofs.takes.Tie as tie
+
+abbrev start : tie.After-joins → tie.Start
+start c = c .before .before .before .before .before
 
 kept-of-requires : tie.Need-kept-of-requires
 kept-of-requires c κs = search needs
 
-marks-of-requires : tie.Need-marks-of-requires
-marks-of-requires c κs = search needs
+sum-of-requires : tie.Need-sum-of-requires
+sum-of-requires c κs = search needs
 
 full-in-requires : tie.Need-full-in-requires
-full-in-requires c κs = rw (c .marks-of .ensures) (marks-short (c .before .before .before .args .part) (c .before .before .before .args .marks .now) (c .before .before .before .pre .0))
+full-in-requires c κs = search needs
 
 joins-requires : tie.Need-joins-requires
 joins-requires c κs = search needs
 
+joined : (c : tie.After-joins) → let a = start c .args in c .joins .result ≡ joins (fullIn (keptOf (a .part) (a .slot)) (marksOf (a .part) (a .marks .now))) (a .last) (a .count) (keptOf (a .part) (a .slot))
+joined c =
+    let kept = c .before .before .before .kept-of .ensures in
+    through₃ (λ f k p. joins f (start c .args .last) k p) (c .joins .ensures) (full-by (c .before .full-in .ensures) kept (c .before .before .sum-of .ensures)) refl kept
+
 returns : tie.Need-returns
 unfolding takesAs
-returns c =
-    let joined = through₃ (λ f k p. joins f (c .before .before .before .before .before .before .args .last) k p) (c .before .joins .ensures) (through₂ fullIn (c .before .before .full-in .ensures) (c .before .before .before .before .kept-of .ensures) (c .before .before .before .marks-of .ensures)) refl (c .before .before .before .before .kept-of .ensures) in
-    rw (sym joined ∙ not-true _ (c .if1 .taken))
+returns c = rw (sym (joined (c .before)) ∙ not-true _ (c .if1 .taken))
 
 core-fits-requires : tie.Need-core-fits-requires
 core-fits-requires c κs = search needs
@@ -34,9 +42,8 @@ core-fits-requires c κs = search needs
 returns-2 : tie.Need-returns-2
 unfolding takesAs
 returns-2 c =
-    let joined = through₃ (λ f k p. joins f (c .before .before .before .before .before .before .before .before .args .last) k p) (c .before .before .before .joins .ensures) (through₂ fullIn (c .before .before .before .before .full-in .ensures) (c .before .before .before .before .before .before .kept-of .ensures) (c .before .before .before .before .before .marks-of .ensures)) refl (c .before .before .before .before .before .before .kept-of .ensures) in
-    let core = c .before .core-fits .ensures in
-    rw (sym joined ∙ not-false _ (c .before .before .if1 .left), sym core ∙ not-true _ (c .if2 .taken))
+    let j = c .before .before in
+    rw (sym (joined (j .before)) ∙ not-false _ (j .if1 .left), sym (c .before .core-fits .ensures) ∙ not-true _ (c .if2 .taken))
 
 add-requires : tie.Need-add-requires
 add-requires c κs = search needs
@@ -44,19 +51,29 @@ add-requires c κs = search needs
 bounds-of-requires : tie.Need-bounds-of-requires
 bounds-of-requires c κs = search needs
 
+marks-of-requires : tie.Need-marks-of-requires
+marks-of-requires c κs = omega (arith, start (c .before .before .before .before .before) .pre .0)
+
 accepts-in-requires : tie.Need-accepts-in-requires
 accepts-in-requires c κs =
-    let a = c .before .before .before .before .before .before .before .before .before .before .args in
-    let all = marks-numbers (a .part) (a .limit) (a .core) (a .marks .now) (c .before .before .before .before .before .before .before .before .before .before .pre .0) in
-    rw (c .bounds-of .ensures, c .before .before .before .before .before .before .before .marks-of .ensures) (all, numbers-most (a .part) (a .limit) (a .core))
+    let j = c .before .before .before .before .before .before in
+    let s = start j in
+    let a = s .args in
+    let all = marks-numbers (a .part) (a .limit) (a .core) (a .marks .now) (s .pre .0) in
+    rw (c .before .bounds-of .ensures, c .marks-of .ensures) (all, numbers-most (a .part) (a .limit) (a .core), j .before .before .sum-of .ensures)
+
+accepted : (c : tie.After-accepts-in) → let a = start (c .before .before .before .before .before .before .before) .args in c .accepts-in .result ≡ acceptsIn (a .last) (a .number) (boundsOf (a .part) (a .limit) (a .core)) (addPart (a .last) (a .number) (a .count) (keptOf (a .part) (a .slot))) (marksOf (a .part) (a .marks .now))
+accepted c =
+    let j = c .before .before .before .before .before .before .before in
+    let a = start j .args in
+    accepted-as (a .last) (a .number) (c .accepts-in .ensures) (c .before .before .bounds-of .ensures) (c .before .before .before .add .ensures ∙ ap (addPart (a .last) (a .number) (a .count)) (j .before .before .before .kept-of .ensures)) (c .before .marks-of .ensures)
 
 returns-3 : tie.Need-returns-3
 unfolding takesAs
 returns-3 c =
-    let joined = through₃ (λ f k p. joins f (c .before .before .before .before .before .before .before .before .before .before .before .before .args .last) k p) (c .before .before .before .before .before .before .before .joins .ensures) (through₂ fullIn (c .before .before .before .before .before .before .before .before .full-in .ensures) (c .before .before .before .before .before .before .before .before .before .before .kept-of .ensures) (c .before .before .before .before .before .before .before .before .before .marks-of .ensures)) refl (c .before .before .before .before .before .before .before .before .before .before .kept-of .ensures) in
-    let core = c .before .before .before .before .before .core-fits .ensures in
-    let accepted = accepted-as (c .before .before .before .before .before .before .before .before .before .before .before .before .args .last) (c .before .before .before .before .before .before .before .before .before .before .before .before .args .number) (c .before .accepts-in .ensures) (c .before .before .bounds-of .ensures) ((c .before .before .before .add .ensures) ∙ ap (addPart (c .before .before .before .before .before .before .before .before .before .before .before .before .args .last) (c .before .before .before .before .before .before .before .before .before .before .before .before .args .number) (c .before .before .before .before .before .before .before .before .before .before .before .before .args .count)) (c .before .before .before .before .before .before .before .before .before .before .kept-of .ensures)) (c .before .before .before .before .before .before .before .before .before .marks-of .ensures) in
-    rw (sym joined ∙ not-false _ (c .before .before .before .before .before .before .if1 .left), sym core ∙ not-false _ (c .before .before .before .before .if2 .left), sym accepted ∙ not-true _ (c .if3 .taken))
+    let f = c .before .before .before .before .before in
+    let j = f .before .before in
+    rw (sym (joined (j .before)) ∙ not-false _ (j .if1 .left), sym (f .before .core-fits .ensures) ∙ not-false _ (f .if2 .left), sym (accepted (c .before)) ∙ not-true _ (c .if3 .taken))
 
 other-part-requires : tie.Need-other-part-requires
 other-part-requires c κs = search needs
@@ -67,28 +84,32 @@ bounds-of-requires-2 c κs = search needs
 kept-of-requires-2 : tie.Need-kept-of-requires-2
 kept-of-requires-2 c κs = search needs
 
+sum-of-requires-2 : tie.Need-sum-of-requires-2
+sum-of-requires-2 c κs = start (c .before .before .before .before .before .before .before .before .before .before .before) .pre .0
+
 marks-of-requires-2 : tie.Need-marks-of-requires-2
-marks-of-requires-2 c κs = omega (arith, c .before .before .before .before .before .before .before .before .before .before .before .before .before .before .before .pre .0)
+marks-of-requires-2 c κs = omega (arith, start (c .before .before .before .before .before .before .before .before .before .before .before .before) .pre .0)
 
 possible-in-requires : tie.Need-possible-in-requires
 possible-in-requires c κs =
-    let a = c .before .before .before .before .before .before .before .before .before .before .before .before .before .before .before .before .args in
+    let s = start (c .before .before .before .before .before .before .before .before .before .before .before .before .before) in
+    let a = s .args in
     let other = otherPart (a .part) in
-    let all = marks-numbers other (a .limit) (a .core) (a .marks .now) (c .before .before .before .before .before .before .before .before .before .before .before .before .before .before .before .before .pre .0) in
-    rw (c .marks-of2 .ensures, c .before .before .bounds-of2 .ensures, c .before .before .before .other-part .ensures) (all, numbers-most other (a .limit) (a .core))
+    let all = marks-numbers other (a .limit) (a .core) (a .marks .now) (s .pre .0) in
+    rw (c .marks-of2 .ensures, c .before .before .before .bounds-of2 .ensures, c .before .sum-of2 .ensures, c .before .before .before .before .other-part .ensures) (all, numbers-most other (a .limit) (a .core), refl)
 
 returns-4 : tie.Need-returns-4
 unfolding takesAs
 returns-4 c =
-    let a = c .before .before .before .before .before .before .before .before .before .before .before .before .before .before .before .before .before .args in
-    let joined = through₃ (λ f k p. joins f (c .before .before .before .before .before .before .before .before .before .before .before .before .before .before .before .before .before .args .last) k p) (c .before .before .before .before .before .before .before .before .before .before .before .before .joins .ensures) (through₂ fullIn (c .before .before .before .before .before .before .before .before .before .before .before .before .before .full-in .ensures) (c .before .before .before .before .before .before .before .before .before .before .before .before .before .before .before .kept-of .ensures) (c .before .before .before .before .before .before .before .before .before .before .before .before .before .before .marks-of .ensures)) refl (c .before .before .before .before .before .before .before .before .before .before .before .before .before .before .before .kept-of .ensures) in
-    let core = c .before .before .before .before .before .before .before .before .before .before .core-fits .ensures in
-    let accepted = accepted-as (c .before .before .before .before .before .before .before .before .before .before .before .before .before .before .before .before .before .args .last) (c .before .before .before .before .before .before .before .before .before .before .before .before .before .before .before .before .before .args .number) (c .before .before .before .before .before .before .accepts-in .ensures) (c .before .before .before .before .before .before .before .bounds-of .ensures) ((c .before .before .before .before .before .before .before .before .add .ensures) ∙ ap (addPart (c .before .before .before .before .before .before .before .before .before .before .before .before .before .before .before .before .before .args .last) (c .before .before .before .before .before .before .before .before .before .before .before .before .before .before .before .before .before .args .number) (c .before .before .before .before .before .before .before .before .before .before .before .before .before .before .before .before .before .args .count)) (c .before .before .before .before .before .before .before .before .before .before .before .before .before .before .before .kept-of .ensures)) (c .before .before .before .before .before .before .before .before .before .before .before .before .before .before .marks-of .ensures) in
-    let other = c .before .before .before .before .other-part .ensures in
-    let bounds = c .before .before .before .bounds-of2 .ensures ∙ ap (λ (p : Part). boundsOf p (a .limit) (a .core)) other in
-    let kept = c .before .before .kept-of2 .ensures ∙ ap (λ (p : Part). keptOf p (a .slot)) other in
+    let p = c .before .before .before .before .before .before in
+    let f = p .before .before .before .before .before in
+    let j = f .before .before in
+    let a = start (j .before) .args in
+    let other = c .before .before .before .before .before .other-part .ensures in
+    let bounds = c .before .before .before .before .bounds-of2 .ensures ∙ ap (λ (p : Part). boundsOf p (a .limit) (a .core)) other in
+    let kept = c .before .before .before .kept-of2 .ensures ∙ ap (λ (p : Part). keptOf p (a .slot)) other in
     let marks = c .before .marks-of2 .ensures ∙ ap (λ (p : Part). marksOf p (a .marks .now)) other in
-    rw (sym joined ∙ not-false _ (c .before .before .before .before .before .before .before .before .before .before .before .if1 .left), sym core ∙ not-false _ (c .before .before .before .before .before .before .before .before .before .if2 .left), sym accepted ∙ not-false _ (c .before .before .before .before .before .if3 .left))
+    rw (sym (joined (j .before)) ∙ not-false _ (j .if1 .left), sym (f .before .core-fits .ensures) ∙ not-false _ (f .if2 .left), sym (accepted (p .before)) ∙ not-false _ (p .if3 .left))
     (through₃ possibleIn (c .possible-in .ensures) bounds kept marks)
 
 pub takes-spec : {M : Type 1} → statement M
@@ -96,7 +117,7 @@ takes-spec =
     tie.close
     (tie.spec
     kept-of-requires
-    marks-of-requires
+    sum-of-requires
     full-in-requires
     joins-requires
     returns
@@ -104,11 +125,13 @@ takes-spec =
     returns-2
     add-requires
     bounds-of-requires
+    marks-of-requires
     accepts-in-requires
     returns-3
     other-part-requires
     bounds-of-requires-2
     kept-of-requires-2
+    sum-of-requires-2
     marks-of-requires-2
     possible-in-requires
     returns-4)
