@@ -10,11 +10,9 @@ use libc::STDIN_FILENO;
 use libc::STDOUT_FILENO;
 use lines::Line;
 ghost use mathlib.Core.Path.{_≡_};
-ghost use Prim.Native.Nat.{_+_};
-ghost use lib.Dec.{ltb};
 ghost use lib.ListN.{take};
-ghost use Rattle.cut.specs.Lists.{pick};
 ghost use Rattle.collector.specs.Calls.{openedBy, takeGroup, dropNumber};
+ghost use Rattle.listing.specs.Listed.{storesOf, served, nextOf, listedAs, lineListed, inputListed};
 
 // The collector, and the counts that are lent to it.
 struct Held {
@@ -49,7 +47,7 @@ struct Went {
 
 // The number of the next line, as far as numbers go.
 fn next(number: u64) -> u64
-    ensures { λ r. ⌜ r ≡ pick (ltb number 18446744073709551615) (number + 1) number ⌝ }
+    ensures { λ r. ⌜ r ≡ nextOf number ⌝ }
 {
     if number < 18446744073709551615 {
         return number + 1;
@@ -154,7 +152,9 @@ fn say_counts(held: Held) {
 }
 
 // The answer is written, and what is held from then on handed back.
-fn say_done(line: u64, done: Done) -> Held {
+fn say_done(line: u64, done: Done) -> Held
+    ensures { λ r. ⌜ r ≡ record { collector = done .answered .collector; counts = done .counts } ⌝ }
+{
     let counts = done.counts;
     let answered = done.answered;
     let answer = answered.answer;
@@ -172,7 +172,9 @@ fn list_line(
     marks: &mut [u8; 2176],
     number: u64,
     held: Held,
-) -> Held {
+) -> Held
+    ensures { λ r. ⌜ record { held = r; group = now (group .exit); stores = storesOf (now (header .exit)) (now (body .exit)) (now (marks .exit)) } ≡ served (now (line .entry)) held (now (group .entry)) (storesOf (now (header .entry)) (now (body .entry)) (now (marks .entry))) ⌝ }
+{
     let collector = held.collector;
     let counts = held.counts;
     match lines::read(line, group) {
@@ -191,17 +193,19 @@ fn list_line(
     }
 }
 
-// A line that a newline or the input's end has ended.
+// The line that is kept, which a newline or the input's end has ended.
 fn list_kept(
     line: &[u8; 16433],
-    kept: usize,
     group: &mut [u8; 8217],
     header: &mut [u8; 2048],
     body: &mut [u8; 24576],
     marks: &mut [u8; 2176],
     listing: Listing,
-) -> Listing {
+) -> Listing
+    ensures { λ r. ⌜ listedAs r (now (line .entry)) (now (group .exit)) (storesOf (now (header .exit)) (now (body .exit)) (now (marks .exit))) ≡ lineListed (listedAs listing (now (line .entry)) (now (group .entry)) (storesOf (now (header .entry)) (now (body .entry)) (now (marks .entry)))) ⌝ }
+{
     let number = next(listing.lines);
+    let kept = listing.kept;
     let before = listing.held;
     let held = list_line(
         front(line, kept),
@@ -228,16 +232,17 @@ fn list_chunk(
     body: &mut [u8; 24576],
     marks: &mut [u8; 2176],
     listing: Listing,
-) -> Listing {
+) -> Listing
+    ensures { λ r. ⌜ listedAs r (now (line .exit)) (now (group .exit)) (storesOf (now (header .exit)) (now (body .exit)) (now (marks .exit))) ≡ inputListed (now (chunk .entry)) (listedAs listing (now (line .entry)) (now (group .entry)) (storesOf (now (header .entry)) (now (body .entry)) (now (marks .entry)))) ⌝ }
+{
     let mut now = listing;
     let mut from = 0;
     while from < chunk.len() {
         let gathered = lines::gather(chunk, from, line, now.kept);
         from = gathered.next;
+        now.kept = gathered.kept;
         if gathered.whole {
-            now = list_kept(line, gathered.kept, group, header, body, marks, now);
-        } else {
-            now.kept = gathered.kept;
+            now = list_kept(line, group, header, body, marks, now);
         }
     }
     now
@@ -318,7 +323,6 @@ fn main() {
     if 0 < kept {
         let ended = list_kept(
             &line,
-            kept,
             &mut group,
             &mut header,
             &mut body,
