@@ -12,7 +12,7 @@ use lines::Line;
 ghost use mathlib.Core.Path.{_≡_};
 ghost use lib.ListN.{take};
 ghost use Rattle.collector.specs.Calls.{openedBy, takeGroup, dropNumber};
-ghost use Rattle.listing.specs.Listed.{storesOf, served, nextOf, listedAs, lineListed, inputListed};
+ghost use Rattle.listing.specs.Listed.{storesOf, served, nextOf, listedAs, lineListed, inputListed, Reads, ReadsOnce};
 
 // The collector, and the counts that are lent to it.
 struct Held {
@@ -256,16 +256,18 @@ fn list_some(
     body: &mut [u8; 24576],
     marks: &mut [u8; 2176],
     listing: Listing,
-) -> Went {
+) -> Went
+    ensures { λ r. ⌜ ReadsOnce (listedAs listing (now (line .entry)) (now (group .entry)) (storesOf (now (header .entry)) (now (body .entry)) (now (marks .entry)))) (listedAs (r .listing) (now (line .exit)) (now (group .exit)) (storesOf (now (header .exit)) (now (body .exit)) (now (marks .exit)))) (r .more) ⌝ }
+{
     let mut chunk = io::large_buffer();
     let got = libc::read(STDIN_FILENO, &mut chunk);
-    if got <= 0 {
+    let count = io::count(got, &chunk);
+    if count == 0 {
         return Went {
             listing,
             more: false,
         };
     }
-    let count = io::count(got, &chunk);
     Went {
         listing: list_chunk(&chunk[..count], line, group, header, body, marks, listing),
         more: true,
@@ -281,7 +283,9 @@ fn list_all(
     body: &mut [u8; 24576],
     marks: &mut [u8; 2176],
     listing: Listing,
-) -> Listing {
+) -> Listing
+    ensures { λ r. ⌜ Reads (listedAs listing (now (line .entry)) (now (group .entry)) (storesOf (now (header .entry)) (now (body .entry)) (now (marks .entry)))) (listedAs r (now (line .exit)) (now (group .exit)) (storesOf (now (header .exit)) (now (body .exit)) (now (marks .exit)))) ⌝ }
+{
     let mut now = listing;
     let mut turns = u64::MAX;
     while 0 < turns {
