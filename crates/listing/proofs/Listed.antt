@@ -19,7 +19,7 @@ use Rattle.lines.specs.Run.{over-nothing, over-on}
 use Rattle.lines.specs.Chunks.{before-newline, before-other, front-joined, ends-in, goes-past}
 use Rattle.listing.specs.declared.Held.{Held}
 use Rattle.listing.specs.declared.Listing.{Listing}
-use Rattle.listing.specs.Listed.{Served, served, Listed, listedAs, nextOf, numbered, lineListed, pieceListed, inputListed, came, Reads, ReadsOnce}
+use Rattle.listing.specs.Listed.{Served, served, Listed, listedAs, nextOf, numbered, lineListed, pieceListed, inputListed, Reads}
 
 -- ---- a line's end
 
@@ -153,15 +153,11 @@ module _ (chunk : List ℕ) (from : ℕ) (l : Listed) (got : Gathered) (line : L
 
 -- ---- reads, one after the other
 
-pub some-came : (input : List ℕ) → 0 < length input → true ≡ came input
-some-came [] h = absurd (omega arith)
-some-came (character ∷ input) h = refl
-
 pub reads-none : (l : Listed) → Reads l l
 reads-none l = record { input = []; left = sym (input-none l) }
 
-pub reads-on : {l m n : Listed} {more : Bool} → Reads l m → ReadsOnce m n more → Reads l n
-reads-on {l} first then = record {
-  input = first .input ++ then .input;
-  left = then .left ∙ ap (inputListed (then .input)) (first .left) ∙ sym (input-joined (first .input) (then .input) l);
+pub reads-on : {l m n : Listed} (input : List ℕ) → Reads l m → n ≡ inputListed input m → Reads l n
+reads-on {l} input reads lists = record {
+  input = reads .input ++ input;
+  left = lists ∙ ap (inputListed input) (reads .left) ∙ sym (input-joined (reads .input) input l);
 }

@@ -1,6 +1,6 @@
 -- Document 01, "The listing program": what the input's characters leave, one after the other, of what is held and of all
 -- the memory that is lent.
-use mathlib.Core.Bool.{Bool, true, false, cond}
+use mathlib.Core.Bool.{cond}
 use mathlib.Core.Path.{_≡_}
 use mathlib.Core.List.{List, [], _∷_}
 use Prim.Native.Nat.{ℕ, _+_}
@@ -81,17 +81,7 @@ inputListed (character ∷ input) l = cond (eqb character newline) (inputListed 
 
 -- ---- what is read
 
-abbrev pub came : List ℕ → Bool
-came [] = false
-came (character ∷ input) = true
-
--- some input makes the one of the other; nothing is known of its characters, or of how it is read
+-- some input makes the one of the other; which input a system call brings, no contract says
 pub record Reads (l m : Listed) : Type 0 where
   pub input : List ℕ
-  pub left : m ≡ inputListed input l
-
--- the same of one read, after which there may be more where something came
-pub record ReadsOnce (l m : Listed) (more : Bool) : Type 0 where
-  pub input : List ℕ
-  pub went : more ≡ came input
   pub left : m ≡ inputListed input l

@@ -10,9 +10,10 @@ use libc::STDIN_FILENO;
 use libc::STDOUT_FILENO;
 use lines::Line;
 ghost use mathlib.Core.Path.{_≡_};
-ghost use lib.ListN.{take};
+ghost use Prim.Native.Nat.{_≤_};
+ghost use lib.ListN.{length, take};
 ghost use Rattle.collector.specs.Calls.{openedBy, takeGroup, dropNumber};
-ghost use Rattle.listing.specs.Listed.{storesOf, served, nextOf, listedAs, lineListed, inputListed, Reads, ReadsOnce};
+ghost use Rattle.listing.specs.Listed.{storesOf, served, nextOf, listedAs, lineListed, inputListed, Reads};
 
 // The collector, and the counts that are lent to it.
 struct Held {
@@ -40,9 +41,10 @@ struct Listing {
     held: Held,
 }
 
+// What one read left, and how many bytes came.
 struct Went {
     listing: Listing,
-    more: bool,
+    count: usize,
 }
 
 // The number of the next line, as far as numbers go.
@@ -250,6 +252,7 @@ fn list_chunk(
 
 // Reads once, and lists what came.
 fn list_some(
+    chunk: &mut [u8; 65536],
     line: &mut [u8; 16433],
     group: &mut [u8; 8217],
     header: &mut [u8; 2048],
@@ -257,20 +260,22 @@ fn list_some(
     marks: &mut [u8; 2176],
     listing: Listing,
 ) -> Went
-    ensures { λ r. ⌜ ReadsOnce (listedAs listing (now (line .entry)) (now (group .entry)) (storesOf (now (header .entry)) (now (body .entry)) (now (marks .entry)))) (listedAs (r .listing) (now (line .exit)) (now (group .exit)) (storesOf (now (header .exit)) (now (body .exit)) (now (marks .exit)))) (r .more) ⌝ }
+    ensures { λ r. ⌜ r .count ≤ length (now (chunk .exit)) ⌝ }
+    ensures { λ r. ⌜ listedAs (r .listing) (now (line .exit)) (now (group .exit)) (storesOf (now (header .exit)) (now (body .exit)) (now (marks .exit))) ≡ inputListed (take (r .count) (now (chunk .exit))) (listedAs listing (now (line .entry)) (now (group .entry)) (storesOf (now (header .entry)) (now (body .entry)) (now (marks .entry)))) ⌝ }
 {
-    let mut chunk = io::large_buffer();
-    let got = libc::read(STDIN_FILENO, &mut chunk);
-    let count = io::count(got, &chunk);
-    if count == 0 {
-        return Went {
-            listing,
-            more: false,
-        };
-    }
+    let got = libc::read(STDIN_FILENO, chunk);
+    let count = io::count(got, chunk);
     Went {
-        listing: list_chunk(&chunk[..count], line, group, header, body, marks, listing),
-        more: true,
+        listing: list_chunk(
+            front(chunk, count),
+            line,
+            group,
+            header,
+            body,
+            marks,
+            listing,
+        ),
+        count,
     }
 }
 
@@ -286,12 +291,13 @@ fn list_all(
 ) -> Listing
     ensures { λ r. ⌜ Reads (listedAs listing (now (line .entry)) (now (group .entry)) (storesOf (now (header .entry)) (now (body .entry)) (now (marks .entry)))) (listedAs r (now (line .exit)) (now (group .exit)) (storesOf (now (header .exit)) (now (body .exit)) (now (marks .exit)))) ⌝ }
 {
+    let mut chunk = io::large_buffer();
     let mut now = listing;
     let mut turns = u64::MAX;
     while 0 < turns {
-        let went = list_some(line, group, header, body, marks, now);
+        let went = list_some(&mut chunk, line, group, header, body, marks, now);
         now = went.listing;
-        if !went.more {
+        if went.count == 0 {
             return now;
         }
         turns -= 1;

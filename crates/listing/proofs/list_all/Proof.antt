@@ -1,6 +1,5 @@
 -- `listing::list_all` meets its contract: what the reads so far brought, one behind the other, made what is carried. The turns count down.
 -- Assumes nothing.
-use mathlib.Core.List.{[]}
 use native.Mathlib.Omega.{arith}
 use borrow.Author.Needs.{needs}
 use Rattle.listing.specs.Listed.{storesOf, listedAs, Reads}
@@ -9,11 +8,14 @@ use Rattle.listing.proofs.list_all.Statement.{statement}
 use Rattle.listing.proofs.list_all.Tie as tie
 
 abbrev Inv-loop : tie.InvT-loop
-Inv-loop line₀ group₀ header₀ body₀ marks₀ now₀ turns₀ line group header body marks now turns =
+Inv-loop line₀ group₀ header₀ body₀ marks₀ chunk₀ now₀ turns₀ line group header body marks chunk now turns =
     Reads (listedAs now₀ line₀ group₀ (storesOf header₀ body₀ marks₀)) (listedAs now line group (storesOf header body marks))
 
 abbrev μ-loop : tie.MeasureT-loop
-μ-loop line₀ group₀ header₀ body₀ marks₀ now₀ turns₀ line group header body marks now turns = turns
+μ-loop line₀ group₀ header₀ body₀ marks₀ chunk₀ now₀ turns₀ line group header body marks chunk now turns = turns
+
+large-buffer-requires : tie.Need-large-buffer-requires Inv-loop μ-loop
+large-buffer-requires c κs = search needs
 
 loop-holds : tie.Need-loop-holds Inv-loop μ-loop
 loop-holds c = reads-none _
@@ -22,7 +24,7 @@ list-some-requires : tie.Need-list-some-requires Inv-loop μ-loop
 list-some-requires c κs = search needs
 
 returns : tie.Need-returns Inv-loop μ-loop
-returns c = reads-on (c .before .before .before .before .before .before .before .before .before .before .loop .inv) (c .before .before .before .list-some .ensures)
+returns c = reads-on _ (c .before .before .before .before .before .before .before .before .before .before .before .loop .inv) (c .before .before .before .list-some .ensures .1)
 
 sub-turns : tie.Need-sub-turns Inv-loop μ-loop
 sub-turns c = omega arith
@@ -31,7 +33,7 @@ loop-less : tie.Need-loop-less Inv-loop μ-loop
 loop-less c = omega arith
 
 loop-again : tie.Need-loop-again Inv-loop μ-loop
-loop-again c = reads-on (c .before .before .before .before .before .before .before .before .before .before .loop .inv) (c .before .before .before .list-some .ensures)
+loop-again c = reads-on _ (c .before .before .before .before .before .before .before .before .before .before .before .loop .inv) (c .before .before .before .list-some .ensures .1)
 
 returns-2 : tie.Need-returns-2 Inv-loop μ-loop
 returns-2 c = c .before .loop .inv
@@ -42,6 +44,7 @@ list-all-spec =
     (tie.spec
     Inv-loop
     μ-loop
+    large-buffer-requires
     loop-holds
     list-some-requires
     returns
