@@ -39,19 +39,19 @@ pub data Hands : List (List ℕ) → ℕ → List ℕ → ℕ → List (List ℕ
 -- ---- one character more
 
 module _ (character : ℕ) (begun input : List ℕ) where
-  ended-newline : character ≡ newline → ended begun (character ∷ input) ≡ begun ∷ ended [] input
+  pub ended-newline : character ≡ newline → ended begun (character ∷ input) ≡ begun ∷ ended [] input
   unfolding ended
   ended-newline e = rw e
 
-  ended-other : (character ≡ newline → ⊥) → ended begun (character ∷ input) ≡ ended (begun ++ (character ∷ [])) input
+  pub ended-other : (character ≡ newline → ⊥) → ended begun (character ∷ input) ≡ ended (begun ++ (character ∷ [])) input
   unfolding ended
   ended-other n = rw (ne-eqb character newline n)
 
-  behind-newline : character ≡ newline → behind begun (character ∷ input) ≡ behind [] input
+  pub behind-newline : character ≡ newline → behind begun (character ∷ input) ≡ behind [] input
   unfolding behind
   behind-newline e = rw e
 
-  behind-other : (character ≡ newline → ⊥) → behind begun (character ∷ input) ≡ behind (begun ++ (character ∷ [])) input
+  pub behind-other : (character ≡ newline → ⊥) → behind begun (character ∷ input) ≡ behind (begun ++ (character ∷ [])) input
   unfolding behind
   behind-other n = rw (ne-eqb character newline n)
 
@@ -168,7 +168,7 @@ module _ {line begun : List ℕ} {kept : ℕ} (holds : Holds line kept begun) (p
   unfolding roomFor
   piece-fits = omega (arith, holds .long, holds .counted, length-take most begun, length-take (most - kept) piece)
 
-  holds-more : Holds (over line kept (roomFor most kept piece)) (kept + length (roomFor most kept piece)) (begun ++ piece)
+  pub holds-more : Holds (over line kept (roomFor most kept piece)) (kept + length (roomFor most kept piece)) (begun ++ piece)
   holds-more = record {
     long = over-length line kept (roomFor most kept piece) piece-fits ∙ holds .long;
     counted = rw (front-held, length-append) (ap (λ (count : ℕ). count + length (roomFor most kept piece)) (holds .counted));

@@ -16,19 +16,19 @@ use Rattle.octets.specs.Over.{over-none}
 pub over-nothing : (l : List ℕ) (at : ℕ) → l ≡ over l at []
 over-nothing l at = over-none l at []
 
--- a memory that holds a run, and beyond it what was there
-record Holds (l m : List ℕ) (at : ℕ) (run : List ℕ) : Type 0 where
+-- a memory that laid a run, and beyond it what was there
+record Laid (l m : List ℕ) (at : ℕ) (run : List ℕ) : Type 0 where
   front : take (at + length run) m ≡ take at l ++ run
   back : (count : ℕ) → drop (at + length run + count) m ≡ drop (at + length run + count) l
 
 -- it takes the next one
-continued : (l m : List ℕ) (at : ℕ) (run next : List ℕ) → Holds l m at run → over m (at + length run) next ≡ over l at (run ++ next)
+continued : (l m : List ℕ) (at : ℕ) (run next : List ℕ) → Laid l m at run → over m (at + length run) next ≡ over l at (run ++ next)
 unfolding over
-continued l m at run next holds = rw (holds .front, holds .back (length next), length-append, ← add-assoc at (length run) (length next), append-assoc (take at l) run next)
+continued l m at run next laid = rw (laid .front, laid .back (length next), length-append, ← add-assoc at (length run) (length next), append-assoc (take at l) run next)
 
 module _ (l : List ℕ) (at : ℕ) (run : List ℕ) where
   -- the run starts in the memory, or at its end
-  starts-within : at ≤ length l → Holds l (over l at run) at run
+  starts-within : at ≤ length l → Laid l (over l at run) at run
   unfolding over
   starts-within h =
       let long : length (take at l ++ run) ≡ at + length run = simp (length-append, length-take) (omega arith) in
@@ -40,7 +40,7 @@ module _ (l : List ℕ) (at : ℕ) (run : List ℕ) where
       }
 
   -- it starts beyond, and there is nothing behind it
-  starts-beyond : length l < at → Holds l (over l at run) at run
+  starts-beyond : length l < at → Laid l (over l at run) at run
   unfolding over
   starts-beyond h =
       let all : take at l ≡ l = take-all at l (omega arith) in
@@ -55,11 +55,11 @@ module _ (l : List ℕ) (at : ℕ) (run : List ℕ) where
 
   -- wherever the run starts
   pub over-on : (next : List ℕ) → over (over l at run) (at + length run) next ≡ over l at (run ++ next)
-  over-on next = continued l (over l at run) at run next (holds (leb at (length l)) refl)
+  over-on next = continued l (over l at run) at run next (laid (leb at (length l)) refl)
     where
-      holds : (within : Bool) → within ≡ leb at (length l) → Holds l (over l at run) at run
-      holds true e = starts-within (leb-true at (length l) (sym e))
-      holds false e = starts-beyond (leb-false at (length l) (sym e))
+      laid : (within : Bool) → within ≡ leb at (length l) → Laid l (over l at run) at run
+      laid true e = starts-within (leb-true at (length l) (sym e))
+      laid false e = starts-beyond (leb-false at (length l) (sym e))
 
   module _ (fits : at + length run ≤ length l) where
     -- everything up to the run's end

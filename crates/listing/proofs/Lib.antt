@@ -1,2 +1,1 @@
 mod Served
-mod Listed

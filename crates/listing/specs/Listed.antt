@@ -79,6 +79,10 @@ unfoldable pub inputListed : List ℕ → Listed → Listed
 inputListed [] l = l
 inputListed (character ∷ input) l = cond (eqb character newline) (inputListed input (lineListed l)) (inputListed input (pieceListed (character ∷ []) l))
 
+-- the input's end ends a line of which there are characters
+unfoldable pub endListed : Listed → Listed
+endListed l = cond (ltb 0 (l .listing .kept)) (lineListed l) l
+
 -- ---- what is read
 
 -- some input makes the one of the other; which input a system call brings, no contract says

@@ -1,6 +1,8 @@
 // The listing program (document 01, "The listing program"): groups and drops from standard input,
 // one a line, and what is answered to each on standard output. A line's answer is written before
-// more of the input is read. All memory is lent here, once, so none grows with the input.
+// more of the input is read. All memory is lent here, once, so none grows with the input. What an
+// input leaves is what its lines leave, each done once, in order (`lines-done` in
+// specs/Theorems.antt).
 use answer::Answer;
 use collector::Answered;
 use collector::Collector;
@@ -13,7 +15,7 @@ ghost use mathlib.Core.Path.{_≡_};
 ghost use Prim.Native.Nat.{_≤_};
 ghost use lib.ListN.{length, take};
 ghost use Rattle.collector.specs.Calls.{openedBy, takeGroup, dropNumber};
-ghost use Rattle.listing.specs.Listed.{storesOf, served, nextOf, listedAs, lineListed, inputListed, Reads};
+ghost use Rattle.listing.specs.Listed.{storesOf, served, nextOf, listedAs, lineListed, inputListed, endListed, Reads};
 
 // The collector, and the counts that are lent to it.
 struct Held {
@@ -305,6 +307,23 @@ fn list_all(
     now
 }
 
+// The input's end ends a line of which there are characters.
+fn list_end(
+    line: &[u8; 16433],
+    group: &mut [u8; 8217],
+    header: &mut [u8; 2048],
+    body: &mut [u8; 24576],
+    marks: &mut [u8; 2176],
+    listing: Listing,
+) -> Listing
+    ensures { λ r. ⌜ listedAs r (now (line .entry)) (now (group .exit)) (storesOf (now (header .exit)) (now (body .exit)) (now (marks .exit))) ≡ endListed (listedAs listing (now (line .entry)) (now (group .entry)) (storesOf (now (header .entry)) (now (body .entry)) (now (marks .entry)))) ⌝ }
+{
+    if 0 < listing.kept {
+        return list_kept(line, group, header, body, marks, listing);
+    }
+    listing
+}
+
 fn main() {
     let mut line = [0u8; 16433];
     let mut group = [0u8; 8217];
@@ -329,20 +348,14 @@ fn main() {
         &mut marks,
         start,
     );
-    let kept = listed.kept;
-    if 0 < kept {
-        let ended = list_kept(
-            &line,
-            &mut group,
-            &mut header,
-            &mut body,
-            &mut marks,
-            listed,
-        );
-        let held = ended.held;
-        say_counts(held);
-    } else {
-        let held = listed.held;
-        say_counts(held);
-    }
+    let ended = list_end(
+        &line,
+        &mut group,
+        &mut header,
+        &mut body,
+        &mut marks,
+        listed,
+    );
+    let held = ended.held;
+    say_counts(held);
 }

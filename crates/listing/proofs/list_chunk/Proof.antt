@@ -10,7 +10,7 @@ use borrow.Author.Needs.{needs}
 use Rattle.lines.specs.declared.Gathered.{Gathered}
 use Rattle.lines.specs.Chunks.{further}
 use Rattle.listing.specs.Listed.{Listed, storesOf, listedAs, inputListed}
-use Rattle.listing.proofs.Listed.{input-none, turn-ended, turn-kept}
+use Rattle.listing.specs.Laws.{input-none, turn-ended, turn-kept}
 use Rattle.listing.proofs.list_chunk.Statement.{statement}
 use Rattle.listing.proofs.list_chunk.Tie as tie
 

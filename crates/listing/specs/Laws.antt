@@ -1,5 +1,4 @@
 -- The input's characters listed, a piece at a time as `gather` takes them, and a chunk after the other.
--- Assumes nothing.
 use mathlib.Core.Path.{_≡_, refl, sym, ap, _∙_}
 use mathlib.Core.Bool.{Bool, true, false, cond}
 use mathlib.Core.List.{List, [], _∷_, _++_}
@@ -9,7 +8,7 @@ use native.Mathlib.Omega.{arith}
 use lib.Dec.{eqb}
 use lib.ListN.{length, take, drop, drop-of-length-le, length-append, length-drop}
 use lib.Seq.{drop-drop, take-nil}
-use borrow.Author.Tests.{ne-eqb}
+use borrow.Author.Tests.{ne-eqb, lt-ltb, le-ltb}
 use Rattle.octets.specs.Octets.{over}
 use Rattle.slots.specs.Stores.{Stores}
 use Rattle.lines.specs.declared.Gathered.{Gathered}
@@ -19,7 +18,7 @@ use Rattle.lines.specs.Run.{over-nothing, over-on}
 use Rattle.lines.specs.Chunks.{before-newline, before-other, front-joined, ends-in, goes-past}
 use Rattle.listing.specs.declared.Held.{Held}
 use Rattle.listing.specs.declared.Listing.{Listing}
-use Rattle.listing.specs.Listed.{Served, served, Listed, listedAs, nextOf, numbered, lineListed, pieceListed, inputListed, Reads}
+use Rattle.listing.specs.Listed.{Served, served, Listed, listedAs, nextOf, numbered, lineListed, pieceListed, inputListed, endListed, Reads}
 
 -- ---- a line's end
 
@@ -62,11 +61,11 @@ module _ (l : Listed) where
 -- ---- one character more
 
 module _ (character : ℕ) (input : List ℕ) (l : Listed) where
-  listed-newline : character ≡ newline → inputListed (character ∷ input) l ≡ inputListed input (lineListed l)
+  pub listed-newline : character ≡ newline → inputListed (character ∷ input) l ≡ inputListed input (lineListed l)
   unfolding inputListed
   listed-newline e = rw e
 
-  listed-other : (character ≡ newline → ⊥) → inputListed (character ∷ input) l ≡ inputListed input (pieceListed (character ∷ []) l)
+  pub listed-other : (character ≡ newline → ⊥) → inputListed (character ∷ input) l ≡ inputListed input (pieceListed (character ∷ []) l)
   unfolding inputListed
   listed-other n = rw (ne-eqb character newline n)
 
@@ -150,6 +149,17 @@ module _ (chunk : List ℕ) (from : ℕ) (l : Listed) (got : Gathered) (line : L
       let all : length input ≤ length (before input) = omega (arith, length-drop from chunk) in
       let none : drop (got .next) chunk ≡ [] = rw gathers (drop-of-length-le chunk {i = gathered chunk from (l .listing .kept) .next} (rw some past)) in
       rw (none, kept-piece) (input-none (pieceListed (before input) l) ∙ sym (input-goes input l all))
+
+-- ---- the input's end
+
+module _ (l : Listed) where
+  pub end-some : 0 < l .listing .kept → endListed l ≡ lineListed l
+  unfolding endListed
+  end-some h = rw (lt-ltb 0 (l .listing .kept) h)
+
+  pub end-none : l .listing .kept ≤ 0 → endListed l ≡ l
+  unfolding endListed
+  end-none h = rw (le-ltb 0 (l .listing .kept) h)
 
 -- ---- reads, one after the other
 
