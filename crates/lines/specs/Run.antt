@@ -16,7 +16,7 @@ use Rattle.octets.specs.Over.{over-none}
 pub over-nothing : (l : List ℕ) (at : ℕ) → l ≡ over l at []
 over-nothing l at = over-none l at []
 
--- a memory that laid a run, and beyond it what was there
+-- a memory that a run is laid over, and beyond it what was there
 record Laid (l m : List ℕ) (at : ℕ) (run : List ℕ) : Type 0 where
   front : take (at + length run) m ≡ take at l ++ run
   back : (count : ℕ) → drop (at + length run + count) m ≡ drop (at + length run + count) l

@@ -9,7 +9,6 @@ use lib.Seq.{take-at}
 use Rattle.octets.specs.Octets.{over}
 use Rattle.slots.specs.Stores.{Stores}
 use Rattle.collector.specs.Calls.{Answered, takeGroup, dropNumber}
-use Rattle.lines.specs.declared.Line.{Line}
 use Rattle.lines.specs.declared.Line.the-variants.{Group, Drop, Malformed}
 use Rattle.lines.specs.Line.{Asked, taking, dropping, neither, askedOf, told, left}
 use Rattle.lines.specs.Run.{over-nothing}

@@ -1,11 +1,10 @@
 -- The input's characters listed, a piece at a time as `gather` takes them, and a chunk after the other.
 use mathlib.Core.Path.{_≡_, refl, sym, ap, _∙_}
-use mathlib.Core.Bool.{Bool, true, false, cond}
+use mathlib.Core.Bool.{true, false}
 use mathlib.Core.List.{List, [], _∷_, _++_}
 use Prim.Native.Nat.{ℕ, suc, _+_, _-_, _≤_, _<_}
 use native.Mathlib.Decide.{ℕ-discrete}
 use native.Mathlib.Omega.{arith}
-use lib.Dec.{eqb}
 use lib.ListN.{length, take, drop, drop-of-length-le, length-append, length-drop}
 use lib.Seq.{drop-drop, take-nil}
 use borrow.Author.Tests.{ne-eqb, lt-ltb, le-ltb}
@@ -17,7 +16,6 @@ use Rattle.lines.specs.Gather.{most, before, roomFor, lineEnd, gathered, lineAf
 use Rattle.lines.specs.Run.{over-nothing, over-on}
 use Rattle.lines.specs.Chunks.{before-newline, before-other, front-joined, ends-in, goes-past}
 use Rattle.listing.specs.declared.Held.{Held}
-use Rattle.listing.specs.declared.Listing.{Listing}
 use Rattle.listing.specs.Listed.{Served, served, Listed, listedAs, nextOf, numbered, lineListed, pieceListed, inputListed, endListed, Reads}
 
 -- ---- a line's end

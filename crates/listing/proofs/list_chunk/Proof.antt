@@ -1,7 +1,7 @@
 -- `listing::list_chunk` meets its contract: what is left of the chunk makes the same of what is carried as the chunk made of
 -- what was carried at first. Each call of `gather` gets further in the chunk.
 -- Assumes nothing.
-use mathlib.Core.Path.{_≡_, refl, sym, ap, subst, _∙_}
+use mathlib.Core.Path.{_≡_, refl, sym, subst, _∙_}
 use mathlib.Core.List.{List, []}
 use Prim.Native.Nat.{ℕ, _-_, _<_}
 use native.Mathlib.Omega.{arith}

@@ -2,7 +2,9 @@
 -- Assumes nothing.
 use mathlib.Core.Path.{sym, _∙_}
 use borrow.Author.Needs.{needs}
+use Rattle.slots.specs.Stores.{Stores}
 use Rattle.collector.specs.Calls.{Answered}
+use Rattle.listing.specs.declared.Done.{Done}
 use Rattle.listing.specs.Listed.{storesOf}
 use Rattle.listing.proofs.Served.{served-group, served-drop, served-malformed}
 use Rattle.listing.proofs.list_line.Statement.{statement}
@@ -38,28 +40,36 @@ enum-told c = search needs
 say-malformed-requires : tie.Need-say-malformed-requires
 say-malformed-requires c κs = search needs
 
+abbrev stores : tie.Start → Stores
+stores s = storesOf (s .args .header .now) (s .args .body .now) (s .args .marks .now)
+
+abbrev answered : Done → Stores → Answered
+answered done left = record { answer = done .answered .answer; collector = done .answered .collector; counts = done .counts; stores = left }
+
 returns : tie.Need-returns
 returns c =
-    let start = c .before .before .before .before .before .before .before .before .before .before .before .before .before .before .before .before in
+    let s = c .before .before .before .before .before .before .before .before .before .before .before .before .before .before .before .before in
     let reads = c .before .before .before .before .before .before .before .before .before .before .before .read .ensures in
+    let told = sym (reads .0) ∙ c .before .before .before .before .before .before .before .before .before .count .given .1 in
+    let left = storesOf (c .before .taken .last .1 .1 .1 .0) (c .before .taken .last .1 .1 .1 .1 .0) (c .before .taken .last .1 .1 .1 .1 .1 .0) in
     rw (c .say-done .ensures)
-    (served-group (start .args .line .now) (start .args .held) (start .args .group .now) (storesOf (start .args .header .now) (start .args .body .now) (start .args .marks .now))
-    _ (reads .1) _ _ (record { answer = c .before .taken .result .answered .answer; collector = c .before .taken .result .answered .collector; counts = c .before .taken .result .counts; stores = storesOf (c .before .taken .last .1 .1 .1 .0) (c .before .taken .last .1 .1 .1 .1 .0) (c .before .taken .last .1 .1 .1 .1 .1 .0) }) (sym (reads .0) ∙ c .before .before .before .before .before .before .before .before .before .count .given .1) (c .before .before .before .before .before .front .ensures) (c .before .taken .ensures))
+    (served-group (s .args .line .now) (s .args .held) (s .args .group .now) (stores s) _ (reads .1) _ _ (answered (c .before .taken .result) left) told
+    (c .before .before .before .before .before .front .ensures) (c .before .taken .ensures))
 
 returns-2 : tie.Need-returns-2
 returns-2 c =
-    let start = c .before .before .before .before .before .before .before .before .before .before .before .before .before .before .before in
+    let s = c .before .before .before .before .before .before .before .before .before .before .before .before .before .before .before in
     let reads = c .before .before .before .before .before .before .before .before .before .before .read .ensures in
+    let told = sym (reads .0) ∙ c .before .before .before .before .before .before .before .before .transport .given .1 in
+    let left = storesOf (s .args .header .now) (s .args .body .now) (c .before .dropped .last .1 .1 .1 .1 .1 .0) in
     rw (c .say-done2 .ensures)
-    (served-drop (start .args .line .now) (start .args .held) (start .args .group .now) (storesOf (start .args .header .now) (start .args .body .now) (start .args .marks .now))
-    _ (reads .1) _ (record { answer = c .before .dropped .result .answered .answer; collector = c .before .dropped .result .answered .collector; counts = c .before .dropped .result .counts; stores = storesOf (start .args .header .now) (start .args .body .now) (c .before .dropped .last .1 .1 .1 .1 .1 .0) }) (sym (reads .0) ∙ c .before .before .before .before .before .before .before .before .transport .given .1) (c .before .dropped .ensures))
+    (served-drop (s .args .line .now) (s .args .held) (s .args .group .now) (stores s) _ (reads .1) _ (answered (c .before .dropped .result) left) told (c .before .dropped .ensures))
 
 returns-3 : tie.Need-returns-3
 returns-3 c =
-    let start = c .before .before .before .before .before .before .before .before in
+    let s = c .before .before .before .before .before .before .before .before in
     let reads = c .before .before .before .read .ensures in
-    served-malformed (start .args .line .now) (start .args .held) (start .args .group .now) (storesOf (start .args .header .now) (start .args .body .now) (start .args .marks .now))
-    _ (reads .1) (sym (reads .0) ∙ c .before .enum-told .given .1)
+    served-malformed (s .args .line .now) (s .args .held) (s .args .group .now) (stores s) _ (reads .1) (sym (reads .0) ∙ c .before .enum-told .given .1)
 
 pub list-line-spec : {M : Type 1} → statement M
 list-line-spec =
