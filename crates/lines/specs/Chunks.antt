@@ -39,28 +39,28 @@ pub data Hands : List (List ℕ) → ℕ → List ℕ → ℕ → List (List ℕ
 -- ---- one character more
 
 module _ (character : ℕ) (begun input : List ℕ) where
-  ended-newline : character ≡ newline → ended begun (character ∷ input) ≡ begun ∷ ended [] input
+  pub ended-newline : character ≡ newline → ended begun (character ∷ input) ≡ begun ∷ ended [] input
   unfolding ended
   ended-newline e = rw e
 
-  ended-other : (character ≡ newline → ⊥) → ended begun (character ∷ input) ≡ ended (begun ++ (character ∷ [])) input
+  pub ended-other : (character ≡ newline → ⊥) → ended begun (character ∷ input) ≡ ended (begun ++ (character ∷ [])) input
   unfolding ended
   ended-other n = rw (ne-eqb character newline n)
 
-  behind-newline : character ≡ newline → behind begun (character ∷ input) ≡ behind [] input
+  pub behind-newline : character ≡ newline → behind begun (character ∷ input) ≡ behind [] input
   unfolding behind
   behind-newline e = rw e
 
-  behind-other : (character ≡ newline → ⊥) → behind begun (character ∷ input) ≡ behind (begun ++ (character ∷ [])) input
+  pub behind-other : (character ≡ newline → ⊥) → behind begun (character ∷ input) ≡ behind (begun ++ (character ∷ [])) input
   unfolding behind
   behind-other n = rw (ne-eqb character newline n)
 
 module _ (character : ℕ) (input : List ℕ) where
-  before-newline : character ≡ newline → before (character ∷ input) ≡ []
+  pub before-newline : character ≡ newline → before (character ∷ input) ≡ []
   unfolding before
   before-newline e = rw e
 
-  before-other : (character ≡ newline → ⊥) → before (character ∷ input) ≡ character ∷ before input
+  pub before-other : (character ≡ newline → ⊥) → before (character ∷ input) ≡ character ∷ before input
   unfolding before
   before-other n = rw (ne-eqb character newline n)
 
@@ -152,7 +152,7 @@ pub record Holds (line : List ℕ) (kept : ℕ) (begun : List ℕ) : Type 0 wher
 pub holds-nothing : (line : List ℕ) → length line ≡ most → Holds line 0 []
 holds-nothing line h = record { long = h; counted = refl; held = refl }
 
-front-joined : (room : ℕ) (first then : List ℕ) → take room (first ++ then) ≡ take room first ++ take (room - length (take room first)) then
+pub front-joined : (room : ℕ) (first then : List ℕ) → take room (first ++ then) ≡ take room first ++ take (room - length (take room first)) then
 front-joined zero first then = refl
 front-joined (suc room) [] then = let all : suc room - 0 ≡ suc room = omega arith in rw all
 front-joined (suc room) (character ∷ first) then =
@@ -168,7 +168,7 @@ module _ {line begun : List ℕ} {kept : ℕ} (holds : Holds line kept begun) (p
   unfolding roomFor
   piece-fits = omega (arith, holds .long, holds .counted, length-take most begun, length-take (most - kept) piece)
 
-  holds-more : Holds (over line kept (roomFor most kept piece)) (kept + length (roomFor most kept piece)) (begun ++ piece)
+  pub holds-more : Holds (over line kept (roomFor most kept piece)) (kept + length (roomFor most kept piece)) (begun ++ piece)
   holds-more = record {
     long = over-length line kept (roomFor most kept piece) piece-fits ∙ holds .long;
     counted = rw (front-held, length-append) (ap (λ (count : ℕ). count + length (roomFor most kept piece)) (holds .counted));
@@ -219,11 +219,11 @@ module _ (chunk : List ℕ) (from : ℕ) (begun then : List ℕ) where
       rw (ended-joined begun input then, behind-joined begun input then, cut .lines, cut .rest)
 
 module _ (chunk : List ℕ) (from kept : ℕ) where
-  ends-in : gathered chunk from kept .whole ≡ true → (lineEnd chunk from < length chunk) × (gathered chunk from kept .next ≡ lineEnd chunk from + 1)
+  pub ends-in : gathered chunk from kept .whole ≡ true → (lineEnd chunk from < length chunk) × (gathered chunk from kept .next ≡ lineEnd chunk from + 1)
   unfolding gathered
   ends-in e = (ltb-true (lineEnd chunk from) (length chunk) e, rw e)
 
-  goes-past : gathered chunk from kept .whole ≡ false → length chunk ≤ lineEnd chunk from
+  pub goes-past : gathered chunk from kept .whole ≡ false → length chunk ≤ lineEnd chunk from
   unfolding gathered
   goes-past e = ltb-false (lineEnd chunk from) (length chunk) e
 

@@ -1,6 +1,8 @@
 // The listing program (document 01, "The listing program"): groups and drops from standard input,
 // one a line, and what is answered to each on standard output. A line's answer is written before
-// more of the input is read. All memory is lent here, once, so none grows with the input.
+// more of the input is read. All memory is lent here, once, so none grows with the input. What an
+// input leaves is what its lines leave, each done once, in order (`lines-done` in
+// specs/Theorems.antt).
 use answer::Answer;
 use collector::Answered;
 use collector::Collector;
@@ -10,11 +12,10 @@ use libc::STDIN_FILENO;
 use libc::STDOUT_FILENO;
 use lines::Line;
 ghost use mathlib.Core.Path.{_≡_};
-ghost use Prim.Native.Nat.{_+_};
-ghost use lib.Dec.{ltb};
-ghost use lib.ListN.{take};
-ghost use Rattle.cut.specs.Lists.{pick};
+ghost use Prim.Native.Nat.{_≤_};
+ghost use lib.ListN.{length, take};
 ghost use Rattle.collector.specs.Calls.{openedBy, takeGroup, dropNumber};
+ghost use Rattle.listing.specs.Listed.{storesOf, served, nextOf, listedAs, lineListed, inputListed, endListed, Reads};
 
 // The collector, and the counts that are lent to it.
 struct Held {
@@ -42,14 +43,15 @@ struct Listing {
     held: Held,
 }
 
+// What one read left, and how many bytes came.
 struct Went {
     listing: Listing,
-    more: bool,
+    count: usize,
 }
 
 // The number of the next line, as far as numbers go.
 fn next(number: u64) -> u64
-    ensures { λ r. ⌜ r ≡ pick (ltb number 18446744073709551615) (number + 1) number ⌝ }
+    ensures { λ r. ⌜ r ≡ nextOf number ⌝ }
 {
     if number < 18446744073709551615 {
         return number + 1;
@@ -154,7 +156,9 @@ fn say_counts(held: Held) {
 }
 
 // The answer is written, and what is held from then on handed back.
-fn say_done(line: u64, done: Done) -> Held {
+fn say_done(line: u64, done: Done) -> Held
+    ensures { λ r. ⌜ r ≡ record { collector = done .answered .collector; counts = done .counts } ⌝ }
+{
     let counts = done.counts;
     let answered = done.answered;
     let answer = answered.answer;
@@ -172,7 +176,9 @@ fn list_line(
     marks: &mut [u8; 2176],
     number: u64,
     held: Held,
-) -> Held {
+) -> Held
+    ensures { λ r. ⌜ record { held = r; group = now (group .exit); stores = storesOf (now (header .exit)) (now (body .exit)) (now (marks .exit)) } ≡ served (now (line .entry)) held (now (group .entry)) (storesOf (now (header .entry)) (now (body .entry)) (now (marks .entry))) ⌝ }
+{
     let collector = held.collector;
     let counts = held.counts;
     match lines::read(line, group) {
@@ -191,17 +197,19 @@ fn list_line(
     }
 }
 
-// A line that a newline or the input's end has ended.
+// The line that is kept, which a newline or the input's end has ended.
 fn list_kept(
     line: &[u8; 16433],
-    kept: usize,
     group: &mut [u8; 8217],
     header: &mut [u8; 2048],
     body: &mut [u8; 24576],
     marks: &mut [u8; 2176],
     listing: Listing,
-) -> Listing {
+) -> Listing
+    ensures { λ r. ⌜ listedAs r (now (line .entry)) (now (group .exit)) (storesOf (now (header .exit)) (now (body .exit)) (now (marks .exit))) ≡ lineListed (listedAs listing (now (line .entry)) (now (group .entry)) (storesOf (now (header .entry)) (now (body .entry)) (now (marks .entry)))) ⌝ }
+{
     let number = next(listing.lines);
+    let kept = listing.kept;
     let before = listing.held;
     let held = list_line(
         front(line, kept),
@@ -228,16 +236,17 @@ fn list_chunk(
     body: &mut [u8; 24576],
     marks: &mut [u8; 2176],
     listing: Listing,
-) -> Listing {
+) -> Listing
+    ensures { λ r. ⌜ listedAs r (now (line .exit)) (now (group .exit)) (storesOf (now (header .exit)) (now (body .exit)) (now (marks .exit))) ≡ inputListed (now (chunk .entry)) (listedAs listing (now (line .entry)) (now (group .entry)) (storesOf (now (header .entry)) (now (body .entry)) (now (marks .entry)))) ⌝ }
+{
     let mut now = listing;
     let mut from = 0;
     while from < chunk.len() {
         let gathered = lines::gather(chunk, from, line, now.kept);
         from = gathered.next;
+        now.kept = gathered.kept;
         if gathered.whole {
-            now = list_kept(line, gathered.kept, group, header, body, marks, now);
-        } else {
-            now.kept = gathered.kept;
+            now = list_kept(line, group, header, body, marks, now);
         }
     }
     now
@@ -245,25 +254,30 @@ fn list_chunk(
 
 // Reads once, and lists what came.
 fn list_some(
+    chunk: &mut [u8; 65536],
     line: &mut [u8; 16433],
     group: &mut [u8; 8217],
     header: &mut [u8; 2048],
     body: &mut [u8; 24576],
     marks: &mut [u8; 2176],
     listing: Listing,
-) -> Went {
-    let mut chunk = io::large_buffer();
-    let got = libc::read(STDIN_FILENO, &mut chunk);
-    if got <= 0 {
-        return Went {
-            listing,
-            more: false,
-        };
-    }
-    let count = io::count(got, &chunk);
+) -> Went
+    ensures { λ r. ⌜ r .count ≤ length (now (chunk .exit)) ⌝ }
+    ensures { λ r. ⌜ listedAs (r .listing) (now (line .exit)) (now (group .exit)) (storesOf (now (header .exit)) (now (body .exit)) (now (marks .exit))) ≡ inputListed (take (r .count) (now (chunk .exit))) (listedAs listing (now (line .entry)) (now (group .entry)) (storesOf (now (header .entry)) (now (body .entry)) (now (marks .entry)))) ⌝ }
+{
+    let got = libc::read(STDIN_FILENO, chunk);
+    let count = io::count(got, chunk);
     Went {
-        listing: list_chunk(&chunk[..count], line, group, header, body, marks, listing),
-        more: true,
+        listing: list_chunk(
+            front(chunk, count),
+            line,
+            group,
+            header,
+            body,
+            marks,
+            listing,
+        ),
+        count,
     }
 }
 
@@ -276,18 +290,38 @@ fn list_all(
     body: &mut [u8; 24576],
     marks: &mut [u8; 2176],
     listing: Listing,
-) -> Listing {
+) -> Listing
+    ensures { λ r. ⌜ Reads (listedAs listing (now (line .entry)) (now (group .entry)) (storesOf (now (header .entry)) (now (body .entry)) (now (marks .entry)))) (listedAs r (now (line .exit)) (now (group .exit)) (storesOf (now (header .exit)) (now (body .exit)) (now (marks .exit)))) ⌝ }
+{
+    let mut chunk = io::large_buffer();
     let mut now = listing;
     let mut turns = u64::MAX;
     while 0 < turns {
-        let went = list_some(line, group, header, body, marks, now);
+        let went = list_some(&mut chunk, line, group, header, body, marks, now);
         now = went.listing;
-        if !went.more {
+        if went.count == 0 {
             return now;
         }
         turns -= 1;
     }
     now
+}
+
+// The input's end ends a line of which there are characters.
+fn list_end(
+    line: &[u8; 16433],
+    group: &mut [u8; 8217],
+    header: &mut [u8; 2048],
+    body: &mut [u8; 24576],
+    marks: &mut [u8; 2176],
+    listing: Listing,
+) -> Listing
+    ensures { λ r. ⌜ listedAs r (now (line .entry)) (now (group .exit)) (storesOf (now (header .exit)) (now (body .exit)) (now (marks .exit))) ≡ endListed (listedAs listing (now (line .entry)) (now (group .entry)) (storesOf (now (header .entry)) (now (body .entry)) (now (marks .entry)))) ⌝ }
+{
+    if 0 < listing.kept {
+        return list_kept(line, group, header, body, marks, listing);
+    }
+    listing
 }
 
 fn main() {
@@ -314,21 +348,14 @@ fn main() {
         &mut marks,
         start,
     );
-    let kept = listed.kept;
-    if 0 < kept {
-        let ended = list_kept(
-            &line,
-            kept,
-            &mut group,
-            &mut header,
-            &mut body,
-            &mut marks,
-            listed,
-        );
-        let held = ended.held;
-        say_counts(held);
-    } else {
-        let held = listed.held;
-        say_counts(held);
-    }
+    let ended = list_end(
+        &line,
+        &mut group,
+        &mut header,
+        &mut body,
+        &mut marks,
+        listed,
+    );
+    let held = ended.held;
+    say_counts(held);
 }
