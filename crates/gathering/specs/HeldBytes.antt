@@ -23,7 +23,7 @@ place-known true (suc size) width n k z = refl
 
 -- ---- the size becomes known
 
-tail-length : (tail : ℕ) (share : List ℕ) → tail ≤ length share → length (take tail (drop (length share - tail) share)) ≡ tail
+pub tail-length : (tail : ℕ) (share : List ℕ) → tail ≤ length share → length (take tail (drop (length share - tail) share)) ≡ tail
 tail-length tail share h = simp (length-take, length-drop) (omega arith)
 
 pub moved-length : (old new S L end tail : ℕ) (share : List ℕ) → EndSits S L end tail → L ≤ length share → (new ≡ 0) ⊎ (new ≡ S) → length (movedAs old new end tail share) ≡ length share

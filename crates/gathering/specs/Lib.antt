@@ -1,4 +1,3 @@
-pub mod Vacant
 pub mod Memory
 pub mod Take
 pub mod Sound

@@ -9,8 +9,8 @@ use lib.Dec.{eqb, leb}
 use borrow.Author.Tests.{eq-eqb, leb-true, le-leb}
 use Rattle.answer.specs.declared.Part.{Part}
 use Rattle.answer.specs.declared.Part.the-variants.{Header, Body}
-use Rattle.cut.specs.Lists.{pick, Each, Bytes, each-map, each-among, among-each, bytes-take, bytes-drop}
-use Rattle.cut.specs.Requirement.{headerLeast, limitMost, Segment, Fits}
+use Rattle.cut.specs.Lists.{pick, Each, Bytes, each-map, bytes-take, bytes-drop}
+use Rattle.cut.specs.Requirement.{headerLeast, limitMost, Segment}
 use Rattle.cut.specs.declared.Core.{Core}
 use Rattle.cut.specs.declared.Core.the-variants.{Unseen, Seen}
 use Rattle.cut.specs.declared.Bounds.{Bounds}
@@ -18,8 +18,7 @@ use Rattle.cut.specs.Decision.{someFull, boundsOf, coreTests, coreFits, possibl
 use Rattle.cut.specs.LawsSegment.{Sits, among-numbered}
 use Rattle.cut.specs.LawsDecision.{Clear, all-true, true-all, true-both, sits-possible}
 use Rattle.cut.specs.LawsObject.{WithinOf, those, Passes, fits-passes, passes-fits}
-use Rattle.cut.specs.LawsOrder.{SameSet, EndFrom, end-from, kept-same}
-use Rattle.cut.specs.Theorem.{fits-among}
+use Rattle.cut.specs.LawsOrder.{SameSet, EndFrom, end-from}
 use Rattle.cut.specs.Marks.{Marked}
 use Rattle.cut.specs.Sums.{fullIn, suitsIn, suits-kept}
 use Rattle.gathering.specs.declared.Stage.{Stage}
@@ -160,24 +159,3 @@ pub part-same : (part : Part) (limit : ℕ) (ps : Parts) (hs bs : List Segment) 
 part-same part limit ps hs bs g =
     let k = part-keeps part limit ps hs bs g in
     reads-same (memoryOf part ps) (those part hs bs) (heldIn (memoryOf part ps)) (part-reads part limit ps hs bs g) (held-reads (memoryOf part ps)) (k .marked) (held-marked (memoryOf part ps) (k .marked .bits))
-
--- another list of the same segments, that gives the same record
-keeps-same : (b c : Bounds) (m : Memory) (ss ts : List Segment) → Keeps b m ss → SameSet ss ts → Marked (m .marks) ts → recordOf b (summary ss) ≡ recordOf c (summary ts) → Keeps c m ts
-keeps-same b c m ss ts k s t e = record {
-  kept = k .kept ∙ e;
-  laid = among-each ts (λ q i. each-among (Laid (m .kept .size) (m .share)) q ss (k .laid) (s .back q i));
-  marked = t;
-}
-
-pub gathers-held : (limit : ℕ) (ps : Parts) (hs bs : List Segment) → Gathers limit ps hs bs → Gathers limit ps (heldIn (ps .header)) (heldIn (ps .body))
-gathers-held limit ps hs bs g =
-    let h : SameSet hs (heldIn (ps .header)) = part-same Header limit ps hs bs g in
-    let b : SameSet bs (heldIn (ps .body)) = part-same Body limit ps hs bs g in
-    let f : Fits limit (heldIn (ps .header)) (heldIn (ps .body)) = fits-among limit hs (heldIn (ps .header)) bs (heldIn (ps .body)) (h .back) (b .back) (g .object) in
-    let e = kept-same limit hs (heldIn (ps .header)) bs (heldIn (ps .body)) h b (g .object) f in
-    record {
-      object = f;
-      shape = g .shape;
-      header = keeps-same (boundsOf Header limit (coreOf hs)) (boundsOf Header limit (coreOf (heldIn (ps .header)))) (ps .header) hs (heldIn (ps .header)) (g .header) h (held-marked (ps .header) (g .header .marked .bits)) (rw (e .0, e .1) refl);
-      body = keeps-same (boundsOf Body limit (coreOf hs)) (boundsOf Body limit (coreOf (heldIn (ps .header)))) (ps .body) bs (heldIn (ps .body)) (g .body) b (held-marked (ps .body) (g .body .marked .bits)) (rw (e .0, e .2) refl);
-    }

@@ -10,7 +10,7 @@ use native.Mathlib.Omega.{arith}
 use lib.ListN.{length, take, drop, getD, length-set}
 use lib.Seq.{getD-take, getD-drop, getD-set-other}
 use Rattle.octets.specs.Octets.{over}
-use Rattle.octets.specs.Over.{part-length, over-length, over-past, over-before}
+use Rattle.octets.specs.Over.{over-length, over-past, over-before}
 use Rattle.answer.specs.declared.Part.{Part}
 use Rattle.answer.specs.declared.Part.the-variants.{Header, Body}
 use Rattle.cut.specs.Requirement.{headerNumbers, bodyNumbers, Segment}
@@ -21,6 +21,7 @@ use Rattle.gathering.specs.Memory.{Memory, placeOf, segmentAt, movedAs, 
 use Rattle.gathering.specs.Take.{Lent, Parts, partsOf, lentOf, memoryOf, coreIn, takesIn, recordWithin, partsWith, slotWith, sameSegment, ifNew, ifHeld, byMark, takeInto}
 use Rattle.gathering.specs.Shape.{Shaped, recordAfter, keptOf, shareOf, Placed, Moves, Copied, Written, Leaves}
 use Rattle.gathering.specs.Step.{parts-back}
+use Rattle.gathering.specs.HeldBytes.{tail-length}
 use Rattle.gathering.specs.Inside.{takes-inside, settled-inside, body-inside}
 
 -- ---- one byte under a run that is laid over a list
@@ -41,9 +42,6 @@ module _ (l : List ℕ) (at : ℕ) (run : List ℕ) (fits : at + length run ≤ 
       go (yes x) (no y) = absurd (h (x, omega arith))
 
 -- ---- the two moves
-
-tail-length : (tail : ℕ) (share : List ℕ) → tail ≤ length share → length (take tail (drop (length share - tail) share)) ≡ tail
-tail-length tail share h = part-length share (length share - tail) tail (omega arith)
 
 -- where the last one moves, it does so inside the share
 abbrev MovesIn : ℕ → Record → Record → Type 0

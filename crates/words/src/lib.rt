@@ -161,7 +161,7 @@ fn slots_from(words: &[u64]) -> [Slot; 16]
     requires { ⌜ length (now words) ≡ 162 ⌝ }
     ensures { λ r. ⌜ r ≡ slotsFrom (now (words .entry)) 16 2 ⌝ }
 {
-    let free = gathering::vacant();
+    let free = slots::free_slot();
     let mut slots = [free; 16];
     let mut i = 0;
     let mut at = 2;

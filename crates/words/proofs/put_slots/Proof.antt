@@ -1,7 +1,7 @@
 -- `words::put_slots` meets its contract: the words that are put and those of the slots to come are all words.
 -- Assumes nothing.
 use lib.Seq.{take-length}
-use Rattle.gathering.specs.Vacant.{vacant}
+use Rattle.slots.specs.Stores.{freeSlot}
 use mathlib.Core.Path.{_≡_, refl, sym, _∙_}
 use mathlib.Core.List.{_++_}
 use Prim.Native.Nat.{_+_, _-_, _*_, _≤_}
@@ -53,6 +53,7 @@ loop-less : tie.Need-loop-less Inv-loop μ-loop
 loop-less c = search needs
 
 loop-again : tie.Need-loop-again Inv-loop μ-loop
+unfolding freeSlot
 loop-again c =
     let k = c .before .before .before .before .before .before in
     let a = k .before .before .args in
@@ -60,7 +61,7 @@ loop-again c =
       omega arith,
       omega arith,
       put-length (k .loop .words) (k .loop .at) (k .loop .at + 10) (c .before .before .put-slot .last .0) (omega arith) (omega arith) ∙ k .loop .inv .2,
-      k .loop .inv .3 ∙ rw (c .before .before .put-slot .ensures) (put-turn (k .loop .words) (a .t2) (k .loop .i) (k .loop .at) vacant (omega arith) (omega arith)),
+      k .loop .inv .3 ∙ rw (c .before .before .put-slot .ensures) (put-turn (k .loop .words) (a .t2) (k .loop .i) (k .loop .at) freeSlot (omega arith) (omega arith)),
     )
 
 same-length : tie.Need-same-length Inv-loop μ-loop

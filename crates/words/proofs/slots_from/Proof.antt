@@ -18,8 +18,8 @@ Inv-loop words slots₀ i₀ at₀ slots i at = (i ≤ 16) × (at ≡ 2 + i * 10
 abbrev μ-loop : tie.MeasureT-loop
 μ-loop words slots₀ i₀ at₀ slots i at = 16 - i
 
-vacant-requires : tie.Need-vacant-requires Inv-loop μ-loop
-vacant-requires c κs = search needs
+free-slot-requires : tie.Need-free-slot-requires Inv-loop μ-loop
+free-slot-requires c κs = search needs
 
 loop-holds : tie.Need-loop-holds Inv-loop μ-loop
 loop-holds c = (omega arith, refl, refl, refl)
@@ -62,7 +62,7 @@ slots-from-spec =
     (tie.spec
     Inv-loop
     μ-loop
-    vacant-requires
+    free-slot-requires
     loop-holds
     slot-at-requires
     mul-slots
