@@ -6,7 +6,7 @@ use cut::Record;
 ghost use mathlib.Core.Path.{_≡_};
 ghost use mathlib.Core.Bool.{true, false};
 ghost use Prim.Native.Nat.{_<_};
-ghost use Rattle.cases.specs.Pieces.{isThere, countOf, keptWith, topWith, goesWith};
+ghost use Rattle.cases.specs.Pieces.{isThere, countOf, keptWith, topWith, goesWith, verdictBy, verdictOf};
 
 const LIMIT: usize = 12288;
 
@@ -17,6 +17,13 @@ struct Piece {
     number: usize,
     last: bool,
     length: usize,
+}
+
+// What the decision makes of a case.
+enum Verdict {
+    Conflicts,
+    Fits,
+    Completes,
 }
 
 fn full(number: usize, length: usize) -> Piece
@@ -110,6 +117,43 @@ fn goes_with(piece: Piece, top: usize, kept: Record) -> bool
     true
 }
 
+fn verdict_by(suits: bool, finished: bool) -> Verdict
+    ensures { λ r. ⌜ r ≡ verdictBy suits finished ⌝ }
+{
+    if !suits {
+        return Verdict::Conflicts;
+    }
+    if finished {
+        return Verdict::Completes;
+    }
+    Verdict::Fits
+}
+
+// What comes of the second body segment, where the header segment and the first one are held.
+fn verdict_of(limit: usize, core: Core, header: Piece, first: Piece, second: Piece) -> Verdict
+    ensures { λ r. ⌜ r ≡ verdictOf limit core header first second ⌝ }
+{
+    let headers = kept_with(header, nothing());
+    let held = kept_with(first, nothing());
+    let top = top_with(first, 0);
+    if !goes_with(second, top, held) {
+        return Verdict::Conflicts;
+    }
+    let bodies = kept_with(second, held);
+    let count = count_of(first) + count_of(second);
+    verdict_by(
+        fitting::suits(
+            limit,
+            core,
+            top_with(header, 0),
+            headers,
+            top_with(second, top),
+            bodies,
+        ),
+        kept::finished(core, count_of(header), headers, count, bodies),
+    )
+}
+
 fn say_number(name: &[u8], number: usize) {
     io::write_all(1, name);
     io::print_decimal(1, number as u64);
@@ -135,14 +179,13 @@ fn say_core(core: Core) {
     }
 }
 
-fn say_verdict(fits: bool, finished: bool) {
-    if !fits {
-        io::write_all(1, b": conflicts\n");
-    } else if finished {
-        io::write_all(1, b": completes\n");
-    } else {
-        io::write_all(1, b": fits\n");
+fn say_verdict(verdict: Verdict) {
+    match verdict {
+        Verdict::Conflicts => io::write_all(1, b": conflicts\n"),
+        Verdict::Completes => io::write_all(1, b": completes\n"),
+        Verdict::Fits => io::write_all(1, b": fits\n"),
     }
+    ;
 }
 
 // A header segment, what it says if it is number 0, and two body segments, the second one new.
@@ -152,26 +195,7 @@ fn case(limit: usize, core: Core, header: Piece, first: Piece, second: Piece) {
     say_core(core);
     say_piece(b"; body ", first);
     say_piece(b"; body ", second);
-    let h = kept_with(header, nothing());
-    let held = kept_with(first, nothing());
-    let top = top_with(first, 0);
-    let b = kept_with(second, held);
-    let count = count_of(first) + count_of(second);
-    if goes_with(second, top, held) {
-        say_verdict(
-            fitting::suits(
-                limit,
-                core,
-                top_with(header, 0),
-                h,
-                top_with(second, top),
-                b,
-            ),
-            kept::finished(core, count_of(header), h, count, b),
-        );
-    } else {
-        say_verdict(false, false);
-    }
+    say_verdict(verdict_of(limit, core, header, first, second));
 }
 
 fn header_alone(header: Piece) {
