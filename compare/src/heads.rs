@@ -105,8 +105,8 @@ fn stream(random: &mut Random, objects: &[Object]) -> Vec<u8> {
 }
 
 pub fn run() -> Result<String, String> {
-    let target = PathBuf::from(env!("CARGO_MANIFEST_DIR")).join("../target");
-    let folder = target.join("head_objects");
+    let top = PathBuf::from(env!("CARGO_MANIFEST_DIR")).join("..");
+    let folder = top.join("target/head_objects");
     let said = |error: std::io::Error| error.to_string();
     if folder.exists() {
         fs::remove_dir_all(&folder).map_err(said)?;
@@ -116,7 +116,9 @@ pub fn run() -> Result<String, String> {
     let objects: Vec<_> = (0..OBJECTS).map(|each| object(random, each * 7)).collect();
     let stream = stream(random, &objects);
 
-    let mut child = Command::new(target.join("head"))
+    let mut child = Command::new(top.join("machine"))
+        .arg("run")
+        .arg(top.join("target/head"))
         .arg(&folder)
         .stdin(Stdio::piped())
         .stdout(Stdio::piped())
