@@ -53,11 +53,11 @@ answeredBy answer c counts stores = record { answer = answer; collector = c; cou
 abbrev pub withSlots : List Slot → Collector → Collector
 withSlots slots c = record { limit = c .limit; count = c .count; slots = slots }
 
--- ---- a group
-
--- the state is not damaged: document 01's list, the counts last
+-- the state is not damaged, to every call: document 01's list, the counts last
 unfoldable pub soundState : Collector → Counts → Stores → Bool
 soundState c counts stores = both (soundSlots (c .limit) (c .count) (c .slots) stores) (within counts)
+
+-- ---- a group
 
 abbrev pub heardAs : Carried → Heard
 heardAs carried = record { number = carried .number; part = carried .part; segment = carried .segment }
@@ -143,14 +143,14 @@ abbrev pub locatedIn : Found → Collector → Located
 locatedIn Nothing c = Located.Refused Answer.NotHeld
 locatedIn (At i) c = locatedAs (slotAt i (c .slots) .stage) i
 
--- STATE, NOTHELD, UNFINISHED; a question is not handed the counts
-unfoldable pub locate : ℕ → Collector → Stores → Located
-locate number c stores = pick (soundSlots (c .limit) (c .count) (c .slots) stores) (locatedIn (findIn number (c .count) (c .slots)) c) (Located.Refused Answer.State)
+-- STATE, NOTHELD, UNFINISHED
+unfoldable pub locate : ℕ → Collector → Counts → Stores → Located
+locate number c counts stores = pick (soundState c counts stores) (locatedIn (findIn number (c .count) (c .slots)) c) (Located.Refused Answer.State)
 
 abbrev pub shownAt : Located → Part → Collector → Stores → List ℕ
 shownAt (Located.Refused why) part c stores = []
 shownAt (Located.At i) part c stores = shownOf part i (c .limit) (slotAt i (c .slots)) (stores .header) (stores .body)
 
 -- its header or body, as the part of the store that has it; nothing where it can't be shown
-unfoldable pub show : ℕ → Part → Collector → Stores → List ℕ
-show number part c stores = shownAt (locate number c stores) part c stores
+unfoldable pub show : ℕ → Part → Collector → Counts → Stores → List ℕ
+show number part c counts stores = shownAt (locate number c counts stores) part c stores

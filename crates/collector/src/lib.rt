@@ -1,7 +1,7 @@
 // The collector (document 01): several objects gathered at once, by value, over stores, marks and
 // counts that the caller lends. Its limits are the type's constants, and opening is a function of
-// the type. Every call checks all that it is given before anything else; what it answers and all that
-// it leaves is one definition (specs/Calls.antt).
+// the type. Every call, a question too, checks all that it is given before anything else, the counts
+// among it; what it answers and all that it leaves is one definition (specs/Calls.antt).
 use answer::Answer;
 use answer::Heard;
 use answer::Part;
@@ -192,13 +192,20 @@ impl Collector {
     }
 
     // Where the finished object of a number is.
-    pub fn locate(self, number: u16, header: &[u8], body: &[u8], marks: &[u8]) -> Located
-        ensures { λ r. ⌜ r ≡ locate number self (record { header = now (header .entry); body = now (body .entry); marks = now (marks .entry) }) ⌝ }
+    pub fn locate(
+        self,
+        counts: Counts,
+        number: u16,
+        header: &[u8],
+        body: &[u8],
+        marks: &[u8],
+    ) -> Located
+        ensures { λ r. ⌜ r ≡ locate number self counts (record { header = now (header .entry); body = now (body .entry); marks = now (marks .entry) }) ⌝ }
     {
-        let slots = self.slots;
-        if !slots::sound(self.limit, self.count, slots, header, body, marks) {
+        if !self.is_sound(counts, header, body, marks) {
             return Located::Refused(Answer::State);
         }
+        let slots = self.slots;
         let Found::At(i) = slots::find(number, self.count, slots) else {
             return Located::Refused(Answer::NotHeld);
         };
@@ -226,15 +233,16 @@ impl Collector {
     // nothing where `locate` says why.
     pub fn show<'a>(
         self,
+        counts: Counts,
         number: u16,
         part: Part,
         header: &'a [u8],
         body: &'a [u8],
         marks: &[u8],
     ) -> &'a [u8]
-        ensures { λ r. ⌜ now r ≡ show number part self (record { header = now (header .entry); body = now (body .entry); marks = now (marks .entry) }) ⌝ }
+        ensures { λ r. ⌜ now r ≡ show number part self counts (record { header = now (header .entry); body = now (body .entry); marks = now (marks .entry) }) ⌝ }
     {
-        let Located::At(i) = self.locate(number, header, body, marks) else {
+        let Located::At(i) = self.locate(counts, number, header, body, marks) else {
             return &header[..0];
         };
         self.shown_at(part, i, header, body)

@@ -24,11 +24,11 @@ use Rattle.slots.specs.Take.{Inside}
 use Rattle.slots.specs.Show.{startOf, shownAs, shownOf}
 use Rattle.collector.specs.Calls.{locatedAs, locate, shownAt, show}
 use Rattle.history.specs.Call.{State, sound, limitOf, slotOf, lentOf, find}
-use Rattle.history.specs.Ready.{slots-sound, used-inside, found-used, found-sound}
+use Rattle.history.specs.Ready.{used-inside, found-used, found-sound}
 
 -- a question: a finished object's header or body
 abbrev pub showing : ℕ → Part → State → List ℕ
-showing number part s = show number part (s .collector) (s .stores)
+showing number part s = show number part (s .collector) (s .counts) (s .stores)
 
 -- it is lent nothing that it could change
 abbrev pub asking : ℕ → Part → State → State
@@ -57,12 +57,12 @@ module _ (number : ℕ) (part : Part) (s : State) (good : sound s ≡ true) wher
   -- nothing of a number that holds no slot
   pub unheld-shown : find number s ≡ Nothing → showing number part s ≡ []
   unfolding show locate
-  unheld-shown e = rw (slots-sound s good, e) refl
+  unheld-shown e = rw (good, e) refl
 
   -- the front of the shares of the slot that holds it
   pub held-shown : (i : ℕ) → find number s ≡ At i → showing number part s ≡ frontOf part (slotOf i s .stage) (lentOf i s)
   unfolding show locate shownOf
-  held-shown i e = rw (slots-sound s good, e) (go (slotOf i s .stage) refl)
+  held-shown i e = rw (good, e) (go (slotOf i s .stage) refl)
     where
       inside : Inside (limitOf s) i (s .stores)
       inside = used-inside s good i (found-used s good number i e)

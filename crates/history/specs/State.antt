@@ -39,7 +39,7 @@ use Rattle.collector.specs.Calls.{soundState, heardAs, segmentIn, answerAs, loc
 use Rattle.history.specs.Slots.{undamaged-sound}
 use Rattle.history.specs.Call.{State, Reply, taking, dropping, groupAnswer, dropAnswer, sound, limitOf, InUse, slotOf, lentOf, find, Came, alone, full, first, more, group-damaged, unread, came, drop-damaged, none-dropped, found-dropped}
 use Rattle.history.specs.Counts.{Low, low-within}
-use Rattle.history.specs.Ready.{OfBytes, slots-sound, counts-low, slots-right, limit-low, limits-lent, used-inside, used-lent, found-used}
+use Rattle.history.specs.Ready.{OfBytes, counts-low, slots-right, limit-low, limits-lent, used-inside, used-lent, found-used}
 
 -- a state that is not damaged
 pub record InOrder (s : State) : Type 0 where
@@ -123,9 +123,9 @@ drop-never number s good = go (find number s) refl
     go Nothing e d = let f = none-dropped number s good e in let z : _≡_ {A = ℕ} 0 1 = cc in absurd (omega arith)
     go (At i) e d = let f = found-dropped number s good i (used-inside s good i (found-used s good number i e)) e in let z : _≡_ {A = ℕ} 0 1 = cc in absurd (omega arith)
 
-pub question-never : (number : ℕ) (s : State) → sound s ≡ true → locate number (s .collector) (s .stores) ≢ Located.Refused Answer.State
+pub question-never : (number : ℕ) (s : State) → sound s ≡ true → locate number (s .collector) (s .counts) (s .stores) ≢ Located.Refused Answer.State
 unfolding locate
-question-never number s good d = asked (find number s) (rw (slots-sound s good) at d)
+question-never number s good d = asked (find number s) (rw good at d)
   where
     staged : (stage : Stage) (i : ℕ) → locatedAs stage i ≢ Located.Refused Answer.State
     staged Stage.Free i e = let z : _≡_ {A = ℕ} 0 1 = cc in absurd (omega arith)

@@ -1,10 +1,11 @@
 // Questions about finished objects: what a header says, its name as a part of the header store, and
-// whose a name is. A question changes nothing; it checks the state before anything else, without the
-// counts, which it is not handed.
+// whose a name is. A question changes nothing; it checks the state before anything else, the counts
+// too.
 use answer::Answer;
 use answer::Part;
 use collector::Collector;
 use collector::Located;
+use counts::Counts;
 use header::Fields;
 use header::Reading;
 use header::Refusal;
@@ -56,14 +57,15 @@ fn sought_as(holder: Holder) -> Sought
 // name stands in it.
 pub fn parameters<'a>(
     collector: Collector,
+    counts: Counts,
     number: u16,
     header: &'a [u8],
     body: &'a [u8],
     marks: &[u8],
 ) -> Asked
-    ensures { λ r. ⌜ r ≡ parameters number collector (record { header = now (header .entry); body = now (body .entry); marks = now (marks .entry) }) ⌝ }
+    ensures { λ r. ⌜ r ≡ parameters number collector counts (record { header = now (header .entry); body = now (body .entry); marks = now (marks .entry) }) ⌝ }
 {
-    match collector.locate(number, header, body, marks) {
+    match collector.locate(counts, number, header, body, marks) {
         Located::Refused(why) => Asked::Refused(why),
         Located::At(i) => asked_as(header::read(collector.shown_at(Part::Header, i, header, body))),
     }
@@ -73,23 +75,31 @@ pub fn parameters<'a>(
 // copying; nothing where it has no name or `parameters` refuses.
 pub fn name<'a>(
     collector: Collector,
+    counts: Counts,
     number: u16,
     header: &'a [u8],
     body: &'a [u8],
     marks: &[u8],
 ) -> &'a [u8]
-    ensures { λ r. ⌜ now r ≡ name number collector (record { header = now (header .entry); body = now (body .entry); marks = now (marks .entry) }) ⌝ }
+    ensures { λ r. ⌜ now r ≡ name number collector counts (record { header = now (header .entry); body = now (body .entry); marks = now (marks .entry) }) ⌝ }
 {
-    names::name_data(collector.show(number, Part::Header, header, body, marks))
+    names::name_data(collector.show(counts, number, Part::Header, header, body, marks))
 }
 
 // The lowest transport number among the finished objects that have a name.
-pub fn find(collector: Collector, asked: &[u8], header: &[u8], body: &[u8], marks: &[u8]) -> Sought
-    ensures { λ r. ⌜ r ≡ find (now (asked .entry)) collector (record { header = now (header .entry); body = now (body .entry); marks = now (marks .entry) }) ⌝ }
+pub fn find(
+    collector: Collector,
+    counts: Counts,
+    asked: &[u8],
+    header: &[u8],
+    body: &[u8],
+    marks: &[u8],
+) -> Sought
+    ensures { λ r. ⌜ r ≡ find (now (asked .entry)) collector counts (record { header = now (header .entry); body = now (body .entry); marks = now (marks .entry) }) ⌝ }
 {
-    let slots = collector.slots;
-    if !slots::sound(collector.limit, collector.count, slots, header, body, marks) {
+    if !collector.is_sound(counts, header, body, marks) {
         return Sought::Refused(Answer::State);
     }
+    let slots = collector.slots;
     sought_as(names::find(asked, collector.count, slots, header))
 }

@@ -147,10 +147,10 @@ abbrev pub placeTold : Located → Collector → List ℕ → Told
 placeTold (Located.Refused why) c place = record { result = numberOf why; told = place }
 placeTold (Located.At i) c place = record { result = 0; told = placeWords i (slotAt i (c .slots) .stage) }
 
-unfoldable pub finishedCall : ℕ → List ℕ → Stores → List ℕ → Told
-finishedCall number state stores place =
-    pick (both (eqb (length place) 3) (readable state))
-    (placeTold (locate number (collectorFrom state) stores) (collectorFrom state) place)
+unfoldable pub finishedCall : ℕ → List ℕ → List ℕ → Stores → List ℕ → Told
+finishedCall number state counts stores place =
+    pick (both (eqb (length place) 3) (lentRight state counts))
+    (placeTold (locate number (collectorFrom state) (countsFrom counts) stores) (collectorFrom state) place)
     (record { result = numberOf State; told = place })
 
 -- ---- what its header says
@@ -180,10 +180,10 @@ abbrev pub fieldsTold : Asked → List ℕ → Told
 fieldsTold (Asked.Refused why) told = record { result = numberOf why; told = told }
 fieldsTold (Asked.Fields fields) told = record { result = 0; told = fieldWords fields }
 
-unfoldable pub readCall : ℕ → List ℕ → Stores → List ℕ → Told
-readCall number state stores told =
-    pick (both (eqb (length told) 7) (readable state))
-    (fieldsTold (parameters number (collectorFrom state) stores) told)
+unfoldable pub readCall : ℕ → List ℕ → List ℕ → Stores → List ℕ → Told
+readCall number state counts stores told =
+    pick (both (eqb (length told) 7) (lentRight state counts))
+    (fieldsTold (parameters number (collectorFrom state) (countsFrom counts) stores) told)
     (record { result = numberOf State; told = told })
 
 -- ---- whose a name is
@@ -193,5 +193,5 @@ abbrev pub soughtWord : Sought → ℕ
 soughtWord (Sought.Number number) = number * 65536
 soughtWord (Sought.Refused why) = numberOf why
 
-unfoldable pub findCall : List ℕ → List ℕ → Stores → ℕ
-findCall name state stores = pick (readable state) (soughtWord (find name (collectorFrom state) stores)) (numberOf State)
+unfoldable pub findCall : List ℕ → List ℕ → List ℕ → Stores → ℕ
+findCall name state counts stores = pick (lentRight state counts) (soughtWord (find name (collectorFrom state) (countsFrom counts) stores)) (numberOf State)

@@ -19,7 +19,7 @@ use questions::Asked;
 use questions::Sought;
 ghost use mathlib.Core.Path.{_≡_};
 ghost use Prim.Native.Nat.{_<_};
-ghost use lib.ListN.{length, getD};
+ghost use lib.ListN.{length};
 ghost use Rattle.cut.specs.Lists.{pick};
 ghost use Rattle.slots.specs.Stores.{slotAt};
 ghost use Rattle.words.specs.Layout.{wordsOf, countWords};
@@ -249,22 +249,26 @@ fn put_place(place: &mut [u64], i: usize, stage: Stage)
 #[no_mangle]
 pub extern "C" fn yovtirak_finished(
     state: &[u64],
+    counts: &[u32],
     number: u16,
     header: &[u8],
     body: &[u8],
     marks: &[u8],
     place: &mut [u64],
 ) -> u64
-    ensures { λ r. ⌜ record { result = r; told = now (place .exit) } ≡ finishedCall number (now (state .entry)) (record { header = now (header .entry); body = now (body .entry); marks = now (marks .entry) }) (now (place .entry)) ⌝ }
+    ensures { λ r. ⌜ record { result = r; told = now (place .exit) } ≡ finishedCall number (now (state .entry)) (now (counts .entry)) (record { header = now (header .entry); body = now (body .entry); marks = now (marks .entry) }) (now (place .entry)) ⌝ }
 {
     if place.len() != 3 {
+        return 26;
+    }
+    if counts.len() != 5 {
         return 26;
     }
     if !words::readable(state) {
         return 26;
     }
     let collector = words::collector_from(state);
-    let located = collector.locate(number, header, body, marks);
+    let located = collector.locate(words::counts_from(counts), number, header, body, marks);
     let Located::At(i) = located else {
         return refused_word(located);
     };
@@ -328,22 +332,33 @@ fn unread_word(asked: Asked) -> u64
 #[no_mangle]
 pub extern "C" fn yovtirak_read<'a>(
     state: &[u64],
+    counts: &[u32],
     number: u16,
     header: &'a [u8],
     body: &'a [u8],
     marks: &[u8],
     told: &mut [u64],
 ) -> u64
-    ensures { λ r. ⌜ record { result = r; told = now (told .exit) } ≡ readCall number (now (state .entry)) (record { header = now (header .entry); body = now (body .entry); marks = now (marks .entry) }) (now (told .entry)) ⌝ }
+    ensures { λ r. ⌜ record { result = r; told = now (told .exit) } ≡ readCall number (now (state .entry)) (now (counts .entry)) (record { header = now (header .entry); body = now (body .entry); marks = now (marks .entry) }) (now (told .entry)) ⌝ }
 {
     if told.len() != 7 {
+        return 26;
+    }
+    if counts.len() != 5 {
         return 26;
     }
     if !words::readable(state) {
         return 26;
     }
     let collector = words::collector_from(state);
-    let asked = questions::parameters(collector, number, header, body, marks);
+    let asked = questions::parameters(
+        collector,
+        words::counts_from(counts),
+        number,
+        header,
+        body,
+        marks,
+    );
     let Asked::Fields(fields) = asked else {
         return unread_word(asked);
     };
@@ -364,28 +379,27 @@ fn sought_word(sought: Sought) -> u64
 #[no_mangle]
 pub extern "C" fn yovtirak_find(
     state: &[u64],
+    counts: &[u32],
     name: &[u8],
     header: &[u8],
     body: &[u8],
     marks: &[u8],
 ) -> u64
-    ensures { λ r. ⌜ r ≡ findCall (now (name .entry)) (now (state .entry)) (record { header = now (header .entry); body = now (body .entry); marks = now (marks .entry) }) ⌝ }
+    ensures { λ r. ⌜ r ≡ findCall (now (name .entry)) (now (state .entry)) (now (counts .entry)) (record { header = now (header .entry); body = now (body .entry); marks = now (marks .entry) }) ⌝ }
 {
+    if counts.len() != 5 {
+        return 26;
+    }
     if !words::readable(state) {
         return 26;
     }
     let collector = words::collector_from(state);
-    sought_word(questions::find(collector, name, header, body, marks))
-}
-
-// One of the five counts, in the order taken, repeated, refused, completed, dropped; 0 where there
-// is none of that number.
-#[no_mangle]
-pub extern "C" fn yovtirak_count(counts: &[u32], which: usize) -> u32
-    ensures { λ r. ⌜ r ≡ getD (now (counts .entry)) which 0 ⌝ }
-{
-    if counts.len() <= which {
-        return 0;
-    }
-    counts[which]
+    sought_word(questions::find(
+        collector,
+        words::counts_from(counts),
+        name,
+        header,
+        body,
+        marks,
+    ))
 }

@@ -2,7 +2,7 @@
 -- Assumes nothing.
 use mathlib.Core.Path.{_≡_, refl, sym, _∙_}
 use mathlib.Core.Bool.{true}
-use borrow.Author.Tests.{not-true, not-false}
+use borrow.Author.Tests.{eq-eqb, ne-eqb, not-true, not-false}
 use Rattle.words.specs.Layout.{readable}
 use Rattle.yovtirak.specs.Exports.{findCall}
 use Rattle.yovtirak.specs.Laws.{readable-length}
@@ -11,18 +11,25 @@ use Rattle.yovtirak.proofs.yovtirak_find.Statement.{statement}
 use Rattle.yovtirak.proofs.yovtirak_find.Tie as tie
 
 -- the state's words hold one
-held : (e : tie.Else1) → readable (e .before .before .before .before .before .before .before .args .state .now) ≡ true
-held e = sym (e .before .readable .ensures) ∙ not-false _ (e .if1 .left)
+held : (e : tie.Else2) → readable (e .before .before .before .before .before .before .before .before .before .args .state .now) ≡ true
+held e = sym (e .before .readable .ensures) ∙ not-false _ (e .if2 .left)
+
+returns : tie.Need-returns
+unfolding findCall
+returns c = rw (ne-eqb _ _ (c .if1 .taken)) refl
 
 readable-requires : tie.Need-readable-requires
 readable-requires c κs = search needs
 
-returns : tie.Need-returns
+returns-2 : tie.Need-returns-2
 unfolding findCall
-returns c = rw (sym (c .before .readable .ensures) ∙ not-true _ (c .if1 .taken)) refl
+returns-2 c = rw (eq-eqb _ _ (c .before .before .if1 .left), sym (c .before .readable .ensures) ∙ not-true _ (c .if2 .taken)) refl
 
 collector-from-requires : tie.Need-collector-from-requires
-collector-from-requires c κs = readable-length (c .before .before .before .before .before .before .before .args .state .now) (held c)
+collector-from-requires c κs = readable-length (c .before .before .before .before .before .before .before .before .before .args .state .now) (held c)
+
+counts-from-requires : tie.Need-counts-from-requires
+counts-from-requires c κs = search needs
 
 find-requires : tie.Need-find-requires
 find-requires c κs = search needs
@@ -30,19 +37,21 @@ find-requires c κs = search needs
 sought-word-requires : tie.Need-sought-word-requires
 sought-word-requires c κs = search needs
 
-returns-2 : tie.Need-returns-2
+returns-3 : tie.Need-returns-3
 unfolding findCall
-returns-2 c =
-    let e = c .before .before .before in
-    rw (held e, ← (c .before .before .collector-from .ensures), ← (c .before .find .ensures)) (c .sought-word .ensures)
+returns-3 c =
+    let e = c .before .before .before .before in
+    rw (eq-eqb _ _ (e .before .before .if1 .left), held e, ← (c .before .before .before .collector-from .ensures), ← (c .before .before .counts-from .ensures), ← (c .before .find .ensures)) (c .sought-word .ensures)
 
 pub yovtirak-find-spec : {M : Type 1} → statement M
 yovtirak-find-spec =
     tie.close
     (tie.spec
-    readable-requires
     returns
+    readable-requires
+    returns-2
     collector-from-requires
+    counts-from-requires
     find-requires
     sought-word-requires
-    returns-2)
+    returns-3)

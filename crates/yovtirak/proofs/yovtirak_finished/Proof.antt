@@ -11,22 +11,29 @@ use Rattle.yovtirak.proofs.yovtirak_finished.Statement.{statement}
 use Rattle.yovtirak.proofs.yovtirak_finished.Tie as tie
 
 -- the state's words hold one
-held : (e : tie.Else2) → readable (e .before .before .before .before .before .before .before .before .args .state .now) ≡ true
-held e = sym (e .before .readable .ensures) ∙ not-false _ (e .if2 .left)
+held : (e : tie.Else3) → readable (e .before .before .before .before .before .before .before .before .before .before .args .state .now) ≡ true
+held e = sym (e .before .readable .ensures) ∙ not-false _ (e .if3 .left)
 
 returns : tie.Need-returns
 unfolding finishedCall
 returns c = rw (ne-eqb _ _ (c .if1 .taken)) refl
 
+returns-2 : tie.Need-returns-2
+unfolding finishedCall
+returns-2 c = rw (eq-eqb _ _ (c .before .if1 .left), ne-eqb _ _ (c .if2 .taken)) refl
+
 readable-requires : tie.Need-readable-requires
 readable-requires c κs = search needs
 
-returns-2 : tie.Need-returns-2
+returns-3 : tie.Need-returns-3
 unfolding finishedCall
-returns-2 c = rw (eq-eqb _ _ (c .before .before .if1 .left), sym (c .before .readable .ensures) ∙ not-true _ (c .if2 .taken)) refl
+returns-3 c = rw (eq-eqb _ _ (c .before .before .before .if1 .left), eq-eqb _ _ (c .before .before .if2 .left), sym (c .before .readable .ensures) ∙ not-true _ (c .if3 .taken)) refl
 
 collector-from-requires : tie.Need-collector-from-requires
-collector-from-requires c κs = readable-length (c .before .before .before .before .before .before .before .before .args .state .now) (held c)
+collector-from-requires c κs = readable-length (c .before .before .before .before .before .before .before .before .before .before .args .state .now) (held c)
+
+counts-from-requires : tie.Need-counts-from-requires
+counts-from-requires c κs = search needs
 
 locate-requires : tie.Need-locate-requires
 locate-requires c κs = search needs
@@ -40,12 +47,12 @@ enum-told c = search needs
 refused-word-requires : tie.Need-refused-word-requires
 refused-word-requires c κs = search needs
 
-returns-3 : tie.Need-returns-3
+returns-4 : tie.Need-returns-4
 unfolding finishedCall
-returns-3 c =
+returns-4 c =
     let k = c .before .before .before in
-    let e = k .before .before in
-    rw (eq-eqb _ _ (e .before .before .if1 .left), held e, ← (k .before .collector-from .ensures), ← (k .locate .ensures), c .refused-word .ensures, c .before .enum-told .given .1) refl
+    let e = k .before .before .before in
+    rw (eq-eqb _ _ (e .before .before .before .if1 .left), eq-eqb _ _ (e .before .before .if2 .left), held e, ← (k .before .before .collector-from .ensures), ← (k .before .counts-from .ensures), ← (k .locate .ensures), c .refused-word .ensures, c .before .enum-told .given .1) refl
 
 stage-at-requires : tie.Need-stage-at-requires
 stage-at-requires c κs = search needs
@@ -56,27 +63,29 @@ put-place-requires c κs = search needs
 same-length : tie.Need-same-length
 same-length c = search needs
 
-returns-4 : tie.Need-returns-4
+returns-5 : tie.Need-returns-5
 unfolding finishedCall
-returns-4 c =
+returns-5 c =
     let k = c .before .before .before .before .before .before .before .before .before in
-    let e = k .before .before in
-    rw (eq-eqb _ _ (e .before .before .if1 .left), held e, ← (k .before .collector-from .ensures), sym (k .locate .ensures) ∙ c .before .before .before .before .before .before .before .located .given .1, c .before .before .put-place .ensures, c .before .before .before .stage-at .ensures) refl
+    let e = k .before .before .before in
+    rw (eq-eqb _ _ (e .before .before .before .if1 .left), eq-eqb _ _ (e .before .before .if2 .left), held e, ← (k .before .before .collector-from .ensures), ← (k .before .counts-from .ensures), sym (k .locate .ensures) ∙ c .before .before .before .before .before .before .before .located .given .1, c .before .before .put-place .ensures, c .before .before .before .stage-at .ensures) refl
 
 pub yovtirak-finished-spec : {M : Type 1} → statement M
 yovtirak-finished-spec =
     tie.close
     (tie.spec
     returns
-    readable-requires
     returns-2
+    readable-requires
+    returns-3
     collector-from-requires
+    counts-from-requires
     locate-requires
     enum-known-located
     enum-told
     refused-word-requires
-    returns-3
+    returns-4
     stage-at-requires
     put-place-requires
     same-length
-    returns-4)
+    returns-5)

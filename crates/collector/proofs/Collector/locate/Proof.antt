@@ -2,7 +2,8 @@
 -- Assumes nothing.
 use Rattle.collector.specs.Calls.{locate}
 use Rattle.slots.specs.Ready.{found-inside}
-use Rattle.slots.specs.Stores.{freeSlot, slotAt}
+use Rattle.slots.specs.Stores.{Stores, freeSlot, slotAt}
+use Rattle.collector.proofs.Laws.{state-slots}
 use borrow.Author.Tests.{not-true, not-false}
 use native.Mathlib.Omega.{arith}
 use mathlib.Core.Path.{sym, _∙_}
@@ -10,12 +11,12 @@ use borrow.Author.Needs.{needs}
 use Rattle.collector.proofs.Collector.locate.Statement.{statement}
 use Rattle.collector.proofs.Collector.locate.Tie as tie
 
-sound-requires : tie.Need-sound-requires
-sound-requires c κs = search needs
+is-sound-requires : tie.Need-is-sound-requires
+is-sound-requires c κs = search needs
 
 returns : tie.Need-returns
 unfolding locate
-returns c = rw (sym (c .before .sound .ensures) ∙ not-true _ (c .if1 .taken))
+returns c = rw (sym (c .before .is-sound .ensures) ∙ not-true _ (c .if1 .taken))
 
 find-requires : tie.Need-find-requires
 find-requires c κs = search needs
@@ -28,12 +29,14 @@ enum-told c = search needs
 
 returns-2 : tie.Need-returns-2
 unfolding locate
-returns-2 c = rw (sym (c .before .before .before .before .sound .ensures) ∙ not-false _ (c .before .before .before .if1 .left), sym (c .before .before .find .ensures) ∙ c .enum-told .given .1)
+returns-2 c = rw (sym (c .before .before .before .before .before .is-sound .ensures) ∙ not-false _ (c .before .before .before .before .if1 .left), sym (c .before .before .find .ensures) ∙ c .enum-told .given .1)
 
 returns-3 : tie.Need-returns-3
 returns-3 c =
     let a = c .before .before .before .before .before .before .before .before .before .before .before .args in
-    let within = found-inside (a .self .limit) (a .self .count) (a .self .slots) (record { header = c .before .before .before .before .before .before .before .before .before .before .before .args .header .now; body = c .before .before .before .before .before .before .before .before .before .before .before .args .body .now; marks = c .before .before .before .before .before .before .before .before .before .before .before .args .marks .now }) (sym (c .before .before .before .before .before .before .sound .ensures) ∙ not-false _ (c .before .before .before .before .before .if1 .left)) (a .number) _ (sym (c .before .before .before .before .find .ensures) ∙ c .before .before .i .given .1) in
+    let lends : Stores = record { header = a .header .now; body = a .body .now; marks = a .marks .now } in
+    let sound = state-slots (a .self) (a .counts) lends (sym (c .before .before .before .before .before .before .before .is-sound .ensures) ∙ not-false _ (c .before .before .before .before .before .before .if1 .left)) in
+    let within = found-inside (a .self .limit) (a .self .count) (a .self .slots) lends sound (a .number) _ (sym (c .before .before .before .before .find .ensures) ∙ c .before .before .i .given .1) in
     absurd (omega (arith, within .slot))
 
 mul-slot : tie.Need-mul-slot
@@ -48,13 +51,13 @@ located-as-requires c κs = search needs
 returns-4 : tie.Need-returns-4
 unfolding locate slotAt freeSlot
 returns-4 c =
-    rw (sym (c .before .before .before .before .before .before .before .before .sound .ensures) ∙ not-false _ (c .before .before .before .before .before .before .before .if1 .left), sym (c .before .before .before .before .before .before .find .ensures) ∙ c .before .before .before .before .i .given .1) (c .located-as .ensures)
+    rw (sym (c .before .before .before .before .before .before .before .before .before .is-sound .ensures) ∙ not-false _ (c .before .before .before .before .before .before .before .before .if1 .left), sym (c .before .before .before .before .before .before .find .ensures) ∙ c .before .before .before .before .i .given .1) (c .located-as .ensures)
 
 pub locate-spec : {M : Type 1} → statement M
 locate-spec =
     tie.close
     (tie.spec
-    sound-requires
+    is-sound-requires
     returns
     find-requires
     enum-known-i
