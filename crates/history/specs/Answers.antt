@@ -10,8 +10,6 @@ use Rattle.answer.specs.declared.Heard.{Heard}
 use Rattle.answer.specs.declared.Part.{Part}
 use Rattle.answer.specs.declared.Part.the-variants.{Header, Body}
 use Rattle.group.specs.declared.Segment.{Segment as Carried}
-use Rattle.group.specs.declared.Reading.the-variants.{Read}
-use Rattle.group.specs.Reading.{readingOf}
 use Rattle.cut.specs.Lists.{Among, Bytes}
 use Rattle.cut.specs.Requirement.{limitMost, Segment, Fits, Finished}
 use Rattle.cut.specs.LawsObject.{headersWith, bodiesWith, those}
@@ -27,12 +25,12 @@ use Rattle.gathering.specs.Step.{conflict-exactly, repeat-exactly, complete-exa
 use Rattle.slots.specs.declared.Found.{Found}
 use Rattle.slots.specs.declared.Found.the-variants.{Nothing, At}
 use Rattle.slots.specs.Stores.{freshSlot}
-use Rattle.collector.specs.Calls.{heardAs, segmentIn, answerAs}
-use Rattle.history.specs.Call.{State, Reply, taking, groupAnswer, came, limitOf, slotOf, lentOf, find, free, Came, alone, full, first, more}
+use Rattle.collector.specs.Calls.{heardAs, answerAs}
+use Rattle.history.specs.Call.{State, Reply, limitOf, slotOf, lentOf, find, free, Came, alone, full, first, more}
 use Rattle.history.specs.Held.{SlotFor}
 use Rattle.history.specs.Ready.{limit-low, used-lent, found-used, found-sound, free-used, free-marks}
 use Rattle.history.specs.Taken.{fresh-gathers, alone-fits}
-use Rattle.history.specs.Sound.{Intact, segment-bytes}
+use Rattle.history.specs.Sound.{Intact}
 use Rattle.history.specs.Stands.{StandsFor}
 
 -- when a segment of a part is answered so, with hs and bs stored under its number
@@ -167,13 +165,8 @@ markedIn part (At i) s = markedSegments part (slotOf i s) (lentOf i s)
 abbrev pub markedUnder : Part → ℕ → State → List Segment
 markedUnder part number s = markedIn part (find number s) s
 
-marked-stands : (number : ℕ) (s : State) → Intact s → StandsFor number s (markedUnder Header number s) (markedUnder Body number s)
+pub marked-stands : (number : ℕ) (s : State) → Intact s → StandsFor number s (markedUnder Header number s) (markedUnder Body number s)
 marked-stands number s whole = record {
   held = λ i e. rw e (sound-holds (limitOf s) (slotOf i s) (lentOf i s) (limit-low s (whole .undamaged)) (used-lent s (whole .undamaged) i (found-used s (whole .undamaged) number i e) (whole .bytes)) (found-sound s (whole .undamaged) number i e));
   rest = λ e. rw e (refl, refl);
 }
-
--- it is answered as if its marked segments had been stored
-pub marked-exactly : (s : State) → Intact s → (group : List ℕ) → Bytes group → (carried : Carried) → readingOf group ≡ Read carried → (o : Outcome)
-    → (groupAnswer group s ≡ answerAs o (heardAs carried)) ↔ (Meets o (carried .part) (limitOf s) (segmentIn group carried) (markedUnder Header (carried .number) s) (markedUnder Body (carried .number) s) × Room o (carried .number) s)
-marked-exactly s whole group y carried e o = came-exactly carried (segmentIn group carried) s (markedUnder Header (carried .number) s) (markedUnder Body (carried .number) s) (segment-bytes group carried y) whole (marked-stands (carried .number) s whole) (taking group s) (came group s (whole .undamaged) carried e) o

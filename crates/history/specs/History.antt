@@ -21,34 +21,53 @@ use Rattle.cut.specs.Requirement.{Segment}
 use Rattle.cut.specs.LawsObject.{headersWith, bodiesWith}
 use Rattle.slots.specs.Stores.{Stores}
 use Rattle.slots.specs.StateTests.{Limits}
-use Rattle.collector.specs.Calls.{segmentIn}
+use Rattle.collector.specs.declared.Located.{Located}
+use Rattle.collector.specs.declared.Opening.{Opening}
+use Rattle.collector.specs.Calls.{segmentIn, openedBy}
+use Rattle.questions.specs.declared.Asked.{Asked}
+use Rattle.questions.specs.declared.Sought.{Sought}
 use Rattle.history.specs.Call.{State, Reply, taking, dropping, opening}
 use Rattle.history.specs.Ready.{OfBytes}
-use Rattle.history.specs.Shown.{showing, asking}
+use Rattle.history.specs.Asking.{locating, showing, telling, naming, finding}
 
--- a group is handed in, a number is dropped, a header or a body is asked for
+-- a part of a finished object is asked for, what its header says, its name, or whose a name is
+pub data Question : Type 0 where
+  show : (number : ℕ) (part : Part) → Question
+  parameters : (number : ℕ) → Question
+  name : (number : ℕ) → Question
+  find : (sought : List ℕ) → Question
+
+-- a group is handed in, a number is dropped, a question is asked
 pub data Call : Type 0 where
   hand : (bytes : List ℕ) → Call
   drop : (number : ℕ) → Call
-  ask : (number : ℕ) (part : Part) → Call
+  ask : (question : Question) → Call
 
 -- a group that is handed in is bytes, as all memory is
 abbrev pub CallBytes : Call → Type 0
 CallBytes (hand bytes) = Bytes bytes
 CallBytes (drop number) = Unit {0}
-CallBytes (ask number part) = Unit {0}
+CallBytes (ask question) = Unit {0}
 
 -- the call is not under the number
 abbrev pub Elsewhere : ℕ → Call → Type 0
 Elsewhere number (hand bytes) = (carried : Carried) → readingOf bytes ≡ Read carried → number ≢ carried .number
 Elsewhere number (drop other) = number ≢ other
-Elsewhere number (ask other part) = Unit {0}
+Elsewhere number (ask question) = Unit {0}
+
+-- what comes back of a question: where the object is, with the part itself; what its header says; that, with the data of its
+-- name; or whose the name is
+pub data Said : Type 0 where
+  shown : (located : Located) (bytes : List ℕ) → Said
+  read : (fields : Asked) → Said
+  named : (fields : Asked) (bytes : List ℕ) → Said
+  found : (whose : Sought) → Said
 
 -- a call with what came back
 pub data Event : Type 0 where
   handed : (bytes : List ℕ) (answer : Answer) → Event
   dropped : (number : ℕ) (answer : Answer) → Event
-  asked : (number : ℕ) (part : Part) (shown : List ℕ) → Event
+  asked : (question : Question) (said : Said) → Event
 
 -- ---- since an opening
 
@@ -59,29 +78,49 @@ pub record Start : Type 0 where
   pub counts : Counts
   pub stores : Stores
 
--- the limit and the number of slots are within their bounds, what is lent has the lengths that they give, and is bytes
+-- the limit and the number of slots are within their bounds, and what is lent has the lengths that they give
+abbrev pub Within : Start → Type 0
+Within start = Limits (start .limit) (start .count) (length (start .stores .header)) (length (start .stores .body)) (length (start .stores .marks))
+
+-- and it is bytes, as all memory is
 pub record Allowed (start : Start) : Type 0 where
-  pub limits : Limits (start .limit) (start .count) (length (start .stores .header)) (length (start .stores .body)) (length (start .stores .marks))
+  pub limits : Within start
   pub bytes : OfBytes (start .stores)
 
--- a collector, as a history of calls meets it: what an opening leaves, what a group and a drop are answered and leave, what a
--- question shows, and what it leaves
+-- what an opening is answered and leaves
+pub record Begun : Type 0 where
+  pub opening : Opening
+  pub left : State
+
+-- a collector, as a history of calls meets it: what an opening, a group and a drop are answered and leave, what each question
+-- is answered, and what a question leaves
 pub record Collecting : Type 0 where
-  pub opens : Start → State
+  pub opens : Start → Begun
   pub takes : List ℕ → State → Reply
   pub drops : ℕ → State → Reply
+  pub locates : ℕ → State → Located
   pub shows : ℕ → Part → State → List ℕ
-  pub asks : ℕ → Part → State → State
+  pub tells : ℕ → State → Asked
+  pub names : ℕ → State → List ℕ
+  pub finds : List ℕ → State → Sought
+  pub asks : Question → State → State
+
+-- all that comes back of a question
+abbrev pub says : Collecting → Question → State → Said
+says k (show number part) s = shown (k .locates number s) (k .shows number part s)
+says k (parameters number) s = read (k .tells number s)
+says k (name number) s = named (k .tells number s) (k .names number s)
+says k (find sought) s = found (k .finds sought s)
 
 abbrev pub leaves : Collecting → Call → State → State
 leaves k (hand bytes) s = k .takes bytes s .left
 leaves k (drop number) s = k .drops number s .left
-leaves k (ask number part) s = k .asks number part s
+leaves k (ask question) s = k .asks question s
 
 abbrev pub event : Collecting → Call → State → Event
 event k (hand bytes) s = handed bytes (k .takes bytes s .answer)
 event k (drop number) s = dropped number (k .drops number s .answer)
-event k (ask number part) s = asked number part (k .shows number part s)
+event k (ask question) s = asked question (says k question s)
 
 -- the state after the calls
 abbrev pub after : Collecting → List Call → State → State
@@ -89,7 +128,7 @@ after k [] s = s
 after k (call ∷ calls) s = leaves k call (after k calls s)
 
 abbrev pub reached : Collecting → Start → List Call → State
-reached k start calls = after k calls (k .opens start)
+reached k start calls = after k calls (k .opens start .left)
 
 -- and all that came back
 abbrev pub told : Collecting → Start → List Call → List Event
@@ -124,7 +163,7 @@ unfoldable pub under : (Answer → Bool) → Part → ℕ → List Event → Lis
 under test part number [] = []
 under test part number (handed bytes answer ∷ events) = afterGroup test part number (readingOf bytes) bytes answer (under test part number events)
 under test part number (dropped other answer ∷ events) = afterDrop number other answer (under test part number events)
-under test part number (asked other p shown ∷ events) = under test part number events
+under test part number (asked question said ∷ events) = under test part number events
 
 -- what was stored under it
 abbrev pub storedUnder : Part → ℕ → List Event → List Segment
@@ -135,11 +174,22 @@ storedUnder = under isStored
 abbrev pub opened : Start → State
 opened start = opening (start .limit) (start .count) (start .counts) (start .stores)
 
+abbrev pub begun : Start → Begun
+begun start = record { opening = openedBy (start .limit) (start .count) (start .counts) (start .stores) .opening; left = opened start }
+
+-- a question is lent nothing that it could change
+abbrev pub asking : Question → State → State
+asking question s = s
+
 abbrev pub defined : Collecting
 defined = record {
-  opens = opened;
+  opens = begun;
   takes = taking;
   drops = dropping;
+  locates = locating;
   shows = showing;
+  tells = telling;
+  names = naming;
+  finds = finding;
   asks = asking;
 }

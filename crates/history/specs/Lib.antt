@@ -1,5 +1,6 @@
 pub mod Slots
 pub mod Call
+pub mod Asking
 pub mod Held
 pub mod Counts
 pub mod Ready
@@ -15,6 +16,7 @@ pub mod Stands
 pub mod Reached
 pub mod Answers
 pub mod Stage
+pub mod Told
 pub mod Room
 pub mod Tally
 pub mod Demands

@@ -28,7 +28,8 @@ use Rattle.history.specs.Call.{State, Reply, taking, dropping, groupLeav
 use Rattle.history.specs.Held.{Same}
 use Rattle.history.specs.Ready.{used-inside, used-lent, found-used, found-holds, free-used, free-free}
 use Rattle.history.specs.Taken.{taken-number}
-use Rattle.history.specs.Shown.{showing, unheld-shown, held-shown}
+use Rattle.history.specs.Asking.{showing}
+use Rattle.history.specs.Shown.{unheld-shown, held-shown}
 use Rattle.history.specs.Sound.{Intact, lent-is-wide, more-lent, first-lent, cleared-lent, segment-bytes, group-intact, drop-intact}
 
 same-all : (number : ℕ) (s : State) (answer : Answer) → Same number s (answering answer s .left)

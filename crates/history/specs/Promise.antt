@@ -7,6 +7,7 @@ use mathlib.Core.List.{List, [], _∷_}
 use Prim.Native.Nat.{ℕ, suc, _≤_, _<_, min}
 use lib.Dec.{leb, eqb}
 use lib.ListN.{length}
+use Rattle.octets.specs.Octets.{zeros}
 use Rattle.answer.specs.declared.Answer.{Answer}
 use Rattle.answer.specs.declared.Answer.the-variants as Answer
 use Rattle.answer.specs.declared.Heard.{Heard}
@@ -15,7 +16,7 @@ use Rattle.answer.specs.declared.Part.the-variants.{Header, Body}
 use Rattle.answer.specs.declared.Refusal.{Refusal}
 use Rattle.answer.specs.Table.{numberOf}
 use Rattle.counts.specs.declared.Counts.{Counts}
-use Rattle.counts.specs.Counted.{ceiling, oneRepeated, oneRefused}
+use Rattle.counts.specs.Counted.{ceiling, noneYet, oneRepeated, oneRefused}
 use Rattle.group.specs.declared.Segment.{Segment as Carried}
 use Rattle.group.specs.declared.Reading.the-variants.{Read, Refused}
 use Rattle.group.specs.Reading.{readingOf}
@@ -23,17 +24,26 @@ use Rattle.cut.specs.Lists.{pick, Each, Among, Bytes}
 use Rattle.cut.specs.Requirement.{headerNumbers, bodyNumbers, Segment, Fits, Finished, joined}
 use Rattle.cut.specs.Decision.{both}
 use Rattle.cut.specs.LawsObject.{headersWith, bodiesWith}
+use Rattle.header.specs.declared.Reading.{Reading}
+use Rattle.header.specs.Parameters.{readHeader}
 use Rattle.gathering.specs.declared.Stage.the-variants as Stage
-use Rattle.gathering.specs.declared.Outcome.{Outcome}
 use Rattle.gathering.specs.Offers.{Source, SentBy}
 use Rattle.slots.specs.declared.Found.the-variants.{Nothing, At}
-use Rattle.collector.specs.Calls.{heardAs, segmentIn, answerAs}
-use Rattle.history.specs.Call.{State, sound, limitOf, find, free, inLimits}
+use Rattle.slots.specs.Find.{isFree}
+use Rattle.names.specs.Requirement.{Named}
+use Rattle.names.specs.Finding.{nameData}
+use Rattle.collector.specs.declared.Located.the-variants as Located
+use Rattle.collector.specs.declared.Opening.the-variants as Opening
+use Rattle.collector.specs.Calls.{heardAs, segmentIn, allFree}
+use Rattle.questions.specs.declared.Asked.the-variants as Asked
+use Rattle.questions.specs.declared.Sought.the-variants as Sought
+use Rattle.questions.specs.Questions.{askedAs}
+use Rattle.history.specs.Call.{State, limitOf, slotOf, find, free}
 use Rattle.history.specs.Ready.{OfBytes}
 use Rattle.history.specs.State.{InOrder}
-use Rattle.history.specs.Answers.{Meets, Room, markedUnder}
+use Rattle.history.specs.Answers.{markedUnder}
 use Rattle.history.specs.Held.{stageFor, SlotFor, Same}
-use Rattle.history.specs.History.{Call, hand, drop, ask, CallBytes, Elsewhere, Event, handed, dropped, asked, Start, Allowed, Collecting, after, reached, told, under, storedUnder}
+use Rattle.history.specs.History.{Question, Call, hand, drop, CallBytes, Elsewhere, shown, read, named, found, Event, handed, dropped, asked, Start, Within, Allowed, Collecting, after, reached, told, under, storedUnder}
 
 -- ---- the words
 
@@ -68,23 +78,46 @@ segmentOf g = segmentIn (g .bytes) (g .carried)
 abbrev pub heardOf : Passing → Heard
 heardOf g = heardAs (g .carried)
 
--- what it is answered
-abbrev pub answerTo : Collecting → Run → Passing → Answer
-answerTo k r g = k .takes (g .bytes) (reachedBy k r) .answer
+-- ---- what an answer is told by
+
+-- a state, the limit on a body, and what is stored of each part under each number
+pub record View : Type 0 where
+  pub state : State
+  pub limit : ℕ
+  pub kept : Part → ℕ → List Segment
+
+-- after a run: what was answered STORED or COMPLETE
+abbrev pub since : Collecting → Run → View
+since k r = record { state = reachedBy k r; limit = r .start .limit; kept = stored k r }
+
+-- however the state came about: what its marks say
+abbrev pub byMarks : State → View
+byMarks s = record { state = s; limit = limitOf s; kept = λ part number. markedUnder part number s }
+
+-- what a group is answered
+abbrev pub answerTo : Collecting → View → Passing → Answer
+answerTo k v g = k .takes (g .bytes) (v .state) .answer
 
 -- some object and cut send all that is stored under a number
-abbrev pub FitsStored : Collecting → Run → ℕ → Type 0
-FitsStored k r number = Fits (r .start .limit) (stored k r Header number) (stored k r Body number)
+abbrev pub FitsStored : View → ℕ → Type 0
+FitsStored v number = Fits (v .limit) (v .kept Header number) (v .kept Body number)
 
 -- ... and this group's segment, stored under its number
-abbrev pub FitsWith : Collecting → Run → Passing → Type 0
-FitsWith k r g = Fits (r .start .limit) (headersWith (g .carried .part) (segmentOf g) (stored k r Header (g .carried .number))) (bodiesWith (g .carried .part) (segmentOf g) (stored k r Body (g .carried .number)))
+abbrev pub FitsWith : View → Passing → Type 0
+FitsWith v g = Fits (v .limit) (headersWith (g .carried .part) (segmentOf g) (v .kept Header (g .carried .number))) (bodiesWith (g .carried .part) (segmentOf g) (v .kept Body (g .carried .number)))
+
+-- some segment is missing, of every object and cut that fits
+abbrev pub Missing : View → ℕ → Type 0
+Missing v number = (f : FitsStored v number) → ¬ (Finished f)
 
 -- the answer that came back is not STATE
 abbrev pub NotState : Event → Type 0
 NotState (handed bytes answer) = answer ≢ Answer.State
 NotState (dropped number answer) = answer ≢ Answer.State
-NotState (asked number part shown) = Unit {0}
+NotState (asked question (shown located bytes)) = located ≢ Located.Refused Answer.State
+NotState (asked question (read fields)) = fields ≢ Asked.Refused Answer.State
+NotState (asked question (named fields bytes)) = fields ≢ Asked.Refused Answer.State
+NotState (asked question (found whose)) = whose ≢ Sought.Refused Answer.State
 
 -- ---- the five counts
 
@@ -97,7 +130,7 @@ unfoldable pub answersFrom : ℕ → ℕ → List Event → ℕ
 answersFrom low high [] = 0
 answersFrom low high (handed bytes answer ∷ events) = pick (between low high answer) (suc (answersFrom low high events)) (answersFrom low high events)
 answersFrom low high (dropped number answer ∷ events) = pick (between low high answer) (suc (answersFrom low high events)) (answersFrom low high events)
-answersFrom low high (asked number part shown ∷ events) = answersFrom low high events
+answersFrom low high (asked question said ∷ events) = answersFrom low high events
 
 -- taken (0 and 1), repeated (2), refused (10 to 18), completed (1), dropped (3), each up to the ceiling
 abbrev pub tallied : List Event → Counts
@@ -111,11 +144,9 @@ tallied events = record {
 
 -- ---- groups of one cut of one object
 
--- a group under the number carries a segment that this cut of this object sends
-abbrev pub From : {limit : ℕ} → Source limit → ℕ → Call → Type 0
-From object number (hand bytes) = (carried : Carried) → readingOf bytes ≡ Read carried → carried .number ≡ number → SentBy object (carried .part) (segmentIn bytes carried)
-From object number (drop other) = Unit {0}
-From object number (ask other part) = Unit {0}
+-- all that is stored under a number since it took its slot comes from this cut of this object
+abbrev pub StoredFrom : {limit : ℕ} → Source limit → ℕ → View → Type 0
+StoredFrom object number v = (part : Part) → Each (SentBy object part) (v .kept part number)
 
 -- the segments of a part that came under a number since it was last dropped, each with a slot there: not answered FULL
 abbrev pub hadSlot : Answer → Bool
@@ -123,6 +154,114 @@ hadSlot answer = pick (eqb (numberOf answer) 18) false true
 
 abbrev pub cameUnder : Part → ℕ → List Event → List Segment
 cameUnder = under hadSlot
+
+-- ---- what is answered, by what is stored
+
+-- a number's finished object has the name, and no finished object of a lower number does
+pub record Lowest (v : View) (sought : List ℕ) (number : ℕ) : Type 0 where
+  pub object : FitsStored v number
+  pub finished : Finished object
+  pub named : Named sought (object .header)
+  pub lowest : (other : ℕ) (f : FitsStored v other) → Finished f → Named sought (f .header) → number ≤ other
+
+module _ (k : Collecting) (v : View) where
+  -- CONFLICT exactly when no object and cut send the group's segment and all that is stored under its number.
+  abbrev pub ConflictBy : Type 0
+  ConflictBy = (g : Passing) → (answerTo k v g ≡ Answer.Conflict (heardOf g)) ↔ (¬ (FitsWith v g))
+
+  -- FULL exactly when it is no conflict, its number holds no slot and none is free.
+  abbrev pub FullBy : Type 0
+  FullBy = (g : Passing) → (answerTo k v g ≡ Answer.Full (heardOf g)) ↔ (FitsWith v g × (find (g .carried .number) (v .state) ≡ Nothing) × (free (v .state) ≡ Nothing))
+
+  -- REPEAT exactly when the same segment is stored.
+  abbrev pub RepeatBy : Type 0
+  RepeatBy = (g : Passing) → (answerTo k v g ≡ Answer.Repeat (heardOf g)) ↔ Among (segmentOf g) (v .kept (g .carried .part) (g .carried .number))
+
+  -- COMPLETE exactly when with it every segment is in, before it not, and a slot is there.
+  abbrev pub CompleteBy : Type 0
+  CompleteBy = (g : Passing) → (answerTo k v g ≡ Answer.Complete (heardOf g)) ↔ (((f : FitsWith v g) × Finished f) × Missing v (g .carried .number) × SlotFor (g .carried .number) (v .state))
+
+  -- STORED exactly when it is new and fits, with it some segment is still missing, and a slot is there.
+  abbrev pub StoredBy : Type 0
+  StoredBy = (g : Passing) → (answerTo k v g ≡ Answer.Stored (heardOf g)) ↔ (((f : FitsWith v g) × (¬ (Finished f))) × (¬ (Among (segmentOf g) (v .kept (g .carried .part) (g .carried .number)))) × SlotFor (g .carried .number) (v .state))
+
+  -- A number that holds no slot takes the lowest free one: with STORED or COMPLETE it holds slot i, which was free, and no slot
+  -- below i was.
+  abbrev pub LowestFreeBy : Type 0
+  LowestFreeBy = (g : Passing) → find (g .carried .number) (v .state) ≡ Nothing → numberOf (answerTo k v g) ≤ 1
+      → (i : ℕ) × (find (g .carried .number) (k .takes (g .bytes) (v .state) .left) ≡ At i) × (isFree (slotOf i (v .state)) ≡ true) × ((j : ℕ) → j < i → isFree (slotOf j (v .state)) ≡ false)
+
+  -- A group that does not pass the reading checks is answered with the first that it fails.
+  abbrev pub UnreadBy : Type 0
+  UnreadBy = (bytes : List ℕ) (why : Refusal) → readingOf bytes ≡ Refused why → k .takes bytes (v .state) .answer ≡ Answer.Refused why
+
+  -- A drop: DROPPED exactly when the number holds a slot, NOTHELD exactly when not.
+  abbrev pub DropBy : Type 0
+  DropBy = (number : ℕ) → ((k .drops number (v .state) .answer ≡ Answer.Dropped number) ↔ (find number (v .state) ≢ Nothing)) × ((k .drops number (v .state) .answer ≡ Answer.NotHeld) ↔ (find number (v .state) ≡ Nothing))
+
+  -- A number holds no slot exactly when nothing is stored under it.
+  abbrev pub UnheldBy : Type 0
+  UnheldBy = (number : ℕ) → (find number (v .state) ≡ Nothing) ↔ ((v .kept Header number ≡ []) × (v .kept Body number ≡ []))
+
+  -- An object that is asked for, or its parameters: NOTHELD exactly when its number holds no slot.
+  abbrev pub NotHeldBy : Type 0
+  NotHeldBy = (number : ℕ) → ((k .locates number (v .state) ≡ Located.Refused Answer.NotHeld) ↔ (find number (v .state) ≡ Nothing)) × ((k .tells number (v .state) ≡ Asked.Refused Answer.NotHeld) ↔ (find number (v .state) ≡ Nothing))
+
+  -- UNFINISHED exactly when it holds one and some segment is missing.
+  abbrev pub UnfinishedBy : Type 0
+  UnfinishedBy = (number : ℕ) → ((k .locates number (v .state) ≡ Located.Refused Answer.Unfinished) ↔ ((find number (v .state) ≢ Nothing) × Missing v number)) × ((k .tells number (v .state) ≡ Asked.Refused Answer.Unfinished) ↔ ((find number (v .state) ≢ Nothing) × Missing v number))
+
+  -- It is located exactly when every segment is in, in the slot that holds its number.
+  abbrev pub LocatedBy : Type 0
+  LocatedBy = (number i : ℕ) → (k .locates number (v .state) ≡ Located.At i) ↔ ((find number (v .state) ≡ At i) × (f : FitsStored v number) × Finished f)
+
+  -- What is shown of a finished object: the header and the body of every object and cut that fits, which are the stored
+  -- segments joined by number.
+  abbrev pub ShownBy : Type 0
+  ShownBy = (number : ℕ) (f : FitsStored v number) → Finished f
+      → (k .shows number Header (v .state) ≡ f .header) × (k .shows number Body (v .state) ≡ f .body)
+      × (k .shows number Header (v .state) ≡ joined headerNumbers (v .kept Header number)) × (k .shows number Body (v .state) ≡ joined bodyNumbers (v .kept Body number))
+
+  -- Of any other number, nothing.
+  abbrev pub UnshownBy : Type 0
+  UnshownBy = (number : ℕ) → Missing v number → (part : Part) → k .shows number part (v .state) ≡ []
+
+  -- What is read off a header, or why it is not, HEADER and DUPLICATE: what the header of the finished object reads as.
+  abbrev pub ReadBy : Type 0
+  ReadBy = (number : ℕ) (reading : Reading) → (k .tells number (v .state) ≡ askedAs reading) ↔ ((f : FitsStored v number) × Finished f × (readHeader (f .header) ≡ reading))
+
+  -- The data of its name, a part of that header; of any other number nothing.
+  abbrev pub NamedBy : Type 0
+  NamedBy = (number : ℕ) → ((f : FitsStored v number) → Finished f → k .names number (v .state) ≡ nameData (f .header)) × (Missing v number → k .names number (v .state) ≡ [])
+
+  -- A number is found by a name exactly when its finished object has the name and none of a lower number does.
+  abbrev pub FoundBy : Type 0
+  FoundBy = (sought : List ℕ) (number : ℕ) → (k .finds sought (v .state) ≡ Sought.Number number) ↔ Lowest v sought number
+
+  -- NOTFOUND exactly when no finished object has it.
+  abbrev pub NotFoundBy : Type 0
+  NotFoundBy = (sought : List ℕ) → (k .finds sought (v .state) ≡ Sought.Refused Answer.NotFound) ↔ ((number : ℕ) (f : FitsStored v number) → Finished f → ¬ (Named sought (f .header)))
+
+-- all of it
+pub record AnsweredBy (k : Collecting) (v : View) : Type 0 where
+  pub conflict : ConflictBy k v
+  pub full : FullBy k v
+  pub repeated : RepeatBy k v
+  pub complete : CompleteBy k v
+  pub storing : StoredBy k v
+  pub lowest : LowestFreeBy k v
+  pub unread : UnreadBy k v
+  pub dropping : DropBy k v
+  pub unheld : UnheldBy k v
+  pub notHeld : NotHeldBy k v
+  pub unfinished : UnfinishedBy k v
+  pub located : LocatedBy k v
+  pub shown : ShownBy k v
+  pub unshown : UnshownBy k v
+  pub reading : ReadBy k v
+  pub named : NamedBy k v
+  pub found : FoundBy k v
+  pub notFound : NotFoundBy k v
 
 -- ---- the promises, of any collector
 
@@ -148,14 +287,22 @@ module _ (k : Collecting) where
 
   -- Any other state is answered as if its marked segments had been stored.
   abbrev pub MarkedExactly : Type 0
-  MarkedExactly = (s : State) → OfBytes (s .stores) → InOrder s → (g : Passing) (o : Outcome)
-      → (k .takes (g .bytes) s .answer ≡ answerAs o (heardOf g)) ↔ (Meets o (g .carried .part) (limitOf s) (segmentOf g) (markedUnder Header (g .carried .number) s) (markedUnder Body (g .carried .number) s) × Room o (g .carried .number) s)
+  MarkedExactly = (s : State) → OfBytes (s .stores) → InOrder s → AnsweredBy k (byMarks s)
+
+  -- An opening is LIMITS exactly when it is outside the bounds or a lent length is wrong, and else the collector is open.
+  abbrev pub LimitsExactly : Type 0
+  LimitsExactly = (start : Start) → ((k .opens start .opening ≡ Opening.Refused Answer.Limits) ↔ (¬ (Within start))) × ((k .opens start .opening ≡ Opening.Open) ↔ Within start)
+
+  -- Then all slots are free, all marks and counts are 0, and no store is touched.
+  abbrev pub OpenedLeaves : Type 0
+  OpenedLeaves = (start : Start) → Within start
+      → k .opens start .left ≡ record { collector = allFree (start .limit) (start .count); counts = noneYet; stores = record { header = start .stores .header; body = start .stores .body; marks = zeros (length (start .stores .marks)) } }
 
   -- An opening outside the limits leaves the counts and all that is lent, and hands back a state that every call answers
   -- with STATE.
   abbrev pub UnopenedLeaves : Type 0
-  UnopenedLeaves = (start : Start) → inLimits (start .limit) (start .count) (start .stores) ≡ false
-      → (k .opens start .counts ≡ start .counts) × (k .opens start .stores ≡ start .stores) × (sound (k .opens start) ≡ false)
+  UnopenedLeaves = (start : Start) → ¬ (Within start)
+      → (k .opens start .left .counts ≡ start .counts) × (k .opens start .left .stores ≡ start .stores) × (¬ (InOrder (k .opens start .left)))
 
   -- No state so reached meets STATE.
   abbrev pub NeverState : Type 0
@@ -169,57 +316,86 @@ module _ (k : Collecting) where
   abbrev pub StateDropExactly : Type 0
   StateDropExactly = (number : ℕ) (s : State) → OfBytes (s .stores) → (k .drops number s .answer ≡ Answer.State) ↔ (¬ (InOrder s))
 
+  -- A drop touches no store byte, in any state.
+  abbrev pub DropKeepsStores : Type 0
+  DropKeepsStores = (number : ℕ) (s : State) → (k .drops number s .left .stores .header ≡ s .stores .header) × (k .drops number s .left .stores .body ≡ s .stores .body)
+
+  -- A question is answered STATE exactly when the state is damaged, and then nothing is shown and no name is given.
+  abbrev pub StateAskExactly : Type 0
+  StateAskExactly = (s : State) → OfBytes (s .stores)
+      → ((number : ℕ) → (k .locates number s ≡ Located.Refused Answer.State) ↔ (¬ (InOrder s))) × ((number : ℕ) → (k .tells number s ≡ Asked.Refused Answer.State) ↔ (¬ (InOrder s)))
+      × ((sought : List ℕ) → (k .finds sought s ≡ Sought.Refused Answer.State) ↔ (¬ (InOrder s)))
+      × (¬ (InOrder s) → (number : ℕ) → ((part : Part) → k .shows number part s ≡ []) × (k .names number s ≡ []))
+
+  -- A question changes nothing, in any state.
+  abbrev pub AskedLeaves : Type 0
+  AskedLeaves = (question : Question) (s : State) → k .asks question s ≡ s
+
   -- Calls under other numbers change nothing that is held for a number, nor what is shown of it.
   abbrev pub OthersLeave : Type 0
   OthersLeave = (r : Run) (number : ℕ) (more : List Call) → Each CallBytes more → Each (Elsewhere number) more
       → Same number (reachedBy k r) (after k more (reachedBy k r)) × ((part : Part) → k .shows number part (after k more (reachedBy k r)) ≡ k .shows number part (reachedBy k r))
 
-  -- Demand 2. What is shown of a finished object: the header and the body of every object and cut that fits, which are the
-  -- stored segments joined by number.
+  -- Demand 2.
   abbrev pub ShownJoined : Type 0
-  ShownJoined = (r : Run) (number : ℕ) (f : FitsStored k r number) → Finished f
-      → (k .shows number Header (reachedBy k r) ≡ f .header) × (k .shows number Body (reachedBy k r) ≡ f .body)
-      × (k .shows number Header (reachedBy k r) ≡ joined headerNumbers (stored k r Header number)) × (k .shows number Body (reachedBy k r) ≡ joined bodyNumbers (stored k r Body number))
+  ShownJoined = (r : Run) → ShownBy k (since k r)
 
-  -- Of any other number, nothing.
   abbrev pub UnfinishedUnshown : Type 0
-  UnfinishedUnshown = (r : Run) (number : ℕ) → ((f : FitsStored k r number) → ¬ (Finished f)) → (part : Part) → k .shows number part (reachedBy k r) ≡ []
+  UnfinishedUnshown = (r : Run) → UnshownBy k (since k r)
 
   -- Each count is the number of such answers, or 2147483647 where there were more.
   abbrev pub CountsTold : Type 0
   CountsTold = (r : Run) → reachedBy k r .counts ≡ tallied (toldBy k r)
 
-  -- Demand 3. CONFLICT exactly when no object and cut send the group's segment and all that is stored under its number.
+  -- Demand 3.
   abbrev pub ConflictExactly : Type 0
-  ConflictExactly = (r : Run) (g : Passing) → (answerTo k r g ≡ Answer.Conflict (heardOf g)) ↔ (¬ (FitsWith k r g))
+  ConflictExactly = (r : Run) → ConflictBy k (since k r)
 
-  -- FULL exactly when it is no conflict, its number holds no slot and none is free.
   abbrev pub FullExactly : Type 0
-  FullExactly = (r : Run) (g : Passing) → (answerTo k r g ≡ Answer.Full (heardOf g)) ↔ (FitsWith k r g × (find (g .carried .number) (reachedBy k r) ≡ Nothing) × (free (reachedBy k r) ≡ Nothing))
+  FullExactly = (r : Run) → FullBy k (since k r)
 
-  -- REPEAT exactly when the same segment is stored.
   abbrev pub RepeatExactly : Type 0
-  RepeatExactly = (r : Run) (g : Passing) → (answerTo k r g ≡ Answer.Repeat (heardOf g)) ↔ Among (segmentOf g) (stored k r (g .carried .part) (g .carried .number))
+  RepeatExactly = (r : Run) → RepeatBy k (since k r)
 
-  -- COMPLETE exactly when with it every segment is in, before it not, and a slot is there.
   abbrev pub CompleteExactly : Type 0
-  CompleteExactly = (r : Run) (g : Passing) → (answerTo k r g ≡ Answer.Complete (heardOf g)) ↔ (((f : FitsWith k r g) × Finished f) × ((f : FitsStored k r (g .carried .number)) → ¬ (Finished f)) × SlotFor (g .carried .number) (reachedBy k r))
+  CompleteExactly = (r : Run) → CompleteBy k (since k r)
 
-  -- STORED exactly when it is new and fits, with it some segment is still missing, and a slot is there.
   abbrev pub StoredExactly : Type 0
-  StoredExactly = (r : Run) (g : Passing) → (answerTo k r g ≡ Answer.Stored (heardOf g)) ↔ (((f : FitsWith k r g) × (¬ (Finished f))) × (¬ (Among (segmentOf g) (stored k r (g .carried .part) (g .carried .number)))) × SlotFor (g .carried .number) (reachedBy k r))
+  StoredExactly = (r : Run) → StoredBy k (since k r)
 
-  -- A group that does not pass the reading checks is answered with the first that it fails.
+  abbrev pub LowestFreeTaken : Type 0
+  LowestFreeTaken = (r : Run) → LowestFreeBy k (since k r)
+
   abbrev pub UnreadRefused : Type 0
-  UnreadRefused = (r : Run) (bytes : List ℕ) (why : Refusal) → readingOf bytes ≡ Refused why → k .takes bytes (reachedBy k r) .answer ≡ Answer.Refused why
+  UnreadRefused = (r : Run) → UnreadBy k (since k r)
 
-  -- A drop: DROPPED exactly when the number holds a slot, NOTHELD exactly when not.
   abbrev pub DropExactly : Type 0
-  DropExactly = (r : Run) (number : ℕ) → ((k .drops number (reachedBy k r) .answer ≡ Answer.Dropped number) ↔ (find number (reachedBy k r) ≢ Nothing)) × ((k .drops number (reachedBy k r) .answer ≡ Answer.NotHeld) ↔ (find number (reachedBy k r) ≡ Nothing))
+  DropExactly = (r : Run) → DropBy k (since k r)
 
-  -- A number holds no slot exactly when nothing is stored under it.
   abbrev pub UnheldExactly : Type 0
-  UnheldExactly = (r : Run) (number : ℕ) → (find number (reachedBy k r) ≡ Nothing) ↔ ((stored k r Header number ≡ []) × (stored k r Body number ≡ []))
+  UnheldExactly = (r : Run) → UnheldBy k (since k r)
+
+  -- The questions.
+  abbrev pub NotHeldExactly : Type 0
+  NotHeldExactly = (r : Run) → NotHeldBy k (since k r)
+
+  abbrev pub UnfinishedExactly : Type 0
+  UnfinishedExactly = (r : Run) → UnfinishedBy k (since k r)
+
+  abbrev pub LocatedExactly : Type 0
+  LocatedExactly = (r : Run) → LocatedBy k (since k r)
+
+  abbrev pub ReadExactly : Type 0
+  ReadExactly = (r : Run) → ReadBy k (since k r)
+
+  abbrev pub NamesRead : Type 0
+  NamesRead = (r : Run) → NamedBy k (since k r)
+
+  abbrev pub FoundExactly : Type 0
+  FoundExactly = (r : Run) → FoundBy k (since k r)
+
+  abbrev pub NotFoundExactly : Type 0
+  NotFoundExactly = (r : Run) → NotFoundBy k (since k r)
 
   -- None is free exactly when each slot holds a number.
   abbrev pub NoneFreeExactly : Type 0
@@ -227,20 +403,21 @@ module _ (k : Collecting) where
 
   -- The stage is finished exactly when every segment is in.
   abbrev pub FinishedExactly : Type 0
-  FinishedExactly = (r : Run) (number : ℕ) → ((header : ℕ) × (body : ℕ) × (stageFor number (reachedBy k r) ≡ Stage.Finished header body)) ↔ ((f : FitsStored k r number) × Finished f)
+  FinishedExactly = (r : Run) (number : ℕ) → ((header : ℕ) × (body : ℕ) × (stageFor number (reachedBy k r) ≡ Stage.Finished header body)) ↔ ((f : FitsStored (since k r) number) × Finished f)
 
   -- And with the two lengths of the object.
   abbrev pub FinishedLengths : Type 0
-  FinishedLengths = (r : Run) (number : ℕ) (f : FitsStored k r number) → Finished f → stageFor number (reachedBy k r) ≡ Stage.Finished (length (f .header)) (length (f .body))
+  FinishedLengths = (r : Run) (number : ℕ) (f : FitsStored (since k r) number) → Finished f → stageFor number (reachedBy k r) ≡ Stage.Finished (length (f .header)) (length (f .body))
 
-  -- Groups that all come from one cut of one object never conflict, in any order, repeated, mixed with any other calls.
+  -- Where all that is stored under a number since it took its slot comes from one cut of one object, no group of that cut
+  -- conflicts, in any order, repeated, mixed with any other calls.
   abbrev pub OneCutAgrees : Type 0
-  OneCutAgrees = (r : Run) (object : Source (r .start .limit)) (number : ℕ) → Each (From object number) (r .calls)
-      → (g : Passing) → g .carried .number ≡ number → SentBy object (g .carried .part) (segmentOf g) → answerTo k r g ≢ Answer.Conflict (heardOf g)
+  OneCutAgrees = (r : Run) (object : Source (r .start .limit)) (number : ℕ) → StoredFrom object number (since k r)
+      → (g : Passing) → g .carried .number ≡ number → SentBy object (g .carried .part) (segmentOf g) → answerTo k (since k r) g ≢ Answer.Conflict (heardOf g)
 
   -- Once all its segments have come, each with a slot there, it is finished and shown with that header and that body.
   abbrev pub OneCutFinishes : Type 0
-  OneCutFinishes = (r : Run) (object : Source (r .start .limit)) (number : ℕ) → Each (From object number) (r .calls)
+  OneCutFinishes = (r : Run) (object : Source (r .start .limit)) (number : ℕ) → StoredFrom object number (since k r)
       → ((part : Part) (s : Segment) → SentBy object part s → Among s (cameUnder part number (toldBy k r)))
       → (stageFor number (reachedBy k r) ≡ Stage.Finished (length (object .header)) (length (object .body)))
       × (k .shows number Header (reachedBy k r) ≡ object .header) × (k .shows number Body (reachedBy k r) ≡ object .body)
@@ -253,10 +430,15 @@ pub record Promised (k : Collecting) : Type 0 where
   pub repeating : RepeatLeaves k
   pub state : StateExactly k
   pub marked : MarkedExactly k
+  pub limits : LimitsExactly k
+  pub opened : OpenedLeaves k
   pub unopened : UnopenedLeaves k
   pub neverState : NeverState k
   pub undropped : UndroppedLeaves k
   pub stateDrop : StateDropExactly k
+  pub dropKeeps : DropKeepsStores k
+  pub stateAsk : StateAskExactly k
+  pub asking : AskedLeaves k
   pub others : OthersLeave k
   pub shown : ShownJoined k
   pub unshown : UnfinishedUnshown k
@@ -266,11 +448,19 @@ pub record Promised (k : Collecting) : Type 0 where
   pub repeated : RepeatExactly k
   pub complete : CompleteExactly k
   pub storing : StoredExactly k
+  pub lowest : LowestFreeTaken k
   pub unread : UnreadRefused k
   pub dropping : DropExactly k
   pub unheld : UnheldExactly k
   pub noneFree : NoneFreeExactly k
   pub finished : FinishedExactly k
   pub lengths : FinishedLengths k
+  pub notHeld : NotHeldExactly k
+  pub unfinished : UnfinishedExactly k
+  pub located : LocatedExactly k
+  pub reading : ReadExactly k
+  pub named : NamesRead k
+  pub found : FoundExactly k
+  pub notFound : NotFoundExactly k
   pub agrees : OneCutAgrees k
   pub finishes : OneCutFinishes k

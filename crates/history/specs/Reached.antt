@@ -66,20 +66,20 @@ leaves-bounds (drop number) s whole = go (find number s) refl
     go : (found : Found) → find number s ≡ found → SameBounds s (dropping number s .left)
     go Nothing e = rw (none-dropped number s (whole .undamaged) e) (record { limit = refl; count = refl })
     go (At i) e = rw (found-dropped number s (whole .undamaged) i (used-inside s (whole .undamaged) i (found-used s (whole .undamaged) number i e)) e) (record { limit = refl; count = refl })
-leaves-bounds (ask number part) s whole = record { limit = refl; count = refl }
+leaves-bounds (ask question) s whole = record { limit = refl; count = refl }
 
 -- ---- one call
 
 leaves-intact : (call : Call) (s : State) → CallBytes call → Intact s → Intact (leaves defined call s)
 leaves-intact (hand bytes) s y whole = group-intact bytes s y whole
 leaves-intact (drop number) s y whole = drop-intact number s whole
-leaves-intact (ask number part) s y whole = whole
+leaves-intact (ask question) s y whole = whole
 
 leaves-stands : (call : Call) (s : State) (events : List Event) → CallBytes call → Intact s → Stands s events → Stands (leaves defined call s) (event defined call s ∷ events)
 unfolding under
 leaves-stands (hand bytes) s events y whole w = group-stands bytes s events y whole w
 leaves-stands (drop number) s events y whole w = drop-stands number s events whole w
-leaves-stands (ask number part) s events y whole w = w
+leaves-stands (ask question) s events y whole w = w
 
 -- ---- any calls
 
@@ -105,7 +105,7 @@ reached-count start a (call ∷ calls) y = leaves-bounds call (reached defined s
 leaves-others : (number : ℕ) (call : Call) (s : State) → CallBytes call → Elsewhere number call → Intact s → Same number s (leaves defined call s)
 leaves-others number (hand bytes) s y d whole = group-others number bytes s d y whole
 leaves-others number (drop other) s y d whole = drop-others number other s d whole
-leaves-others number (ask other part) s y d whole = same-self number s
+leaves-others number (ask question) s y d whole = same-self number s
 
 pub others-same : (number : ℕ) (calls : List Call) (s : State) → Each CallBytes calls → Each (Elsewhere number) calls → Intact s → Same number s (after defined calls s) × Intact (after defined calls s)
 others-same number [] s y d whole = (same-self number s, whole)

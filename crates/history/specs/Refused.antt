@@ -1,12 +1,14 @@
 -- A refusal leaves every store byte, every mark and every slot's record as they were, in any state, and no count but the
--- refused one rises.
+-- refused one rises; what an opening and a drop leave, in any state.
 use mathlib.Core.Path.{_≡_, refl, ap, _∙_}
 use mathlib.Core.Bool.{Bool, true, false}
+use mathlib.Core.Logic.{_↔_}
 use mathlib.Core.List.{List}
 use Prim.Native.Nat.{ℕ, zero, suc, _≤_}
 use native.Mathlib.Omega.{arith}
-use lib.ListN.{getD}
+use lib.ListN.{length, getD}
 use lib.Seq.{set-getD}
+use Rattle.octets.specs.Octets.{zeros}
 use Rattle.answer.specs.declared.Answer.{Answer}
 use Rattle.answer.specs.declared.Answer.the-variants as Answer
 use Rattle.answer.specs.declared.Heard.{Heard}
@@ -15,12 +17,14 @@ use Rattle.answer.specs.declared.Refusal.{Refusal}
 use Rattle.answer.specs.declared.Refusal.the-variants as Refusal
 use Rattle.answer.specs.Table.{numberOf}
 use Rattle.counts.specs.declared.Counts.{Counts}
-use Rattle.counts.specs.Counted.{oneRepeated, oneRefused, counted}
+use Rattle.counts.specs.Counted.{noneYet, oneRepeated, oneRefused, counted}
 use Rattle.group.specs.declared.Segment.{Segment as Carried}
 use Rattle.group.specs.declared.Reading.{Reading}
 use Rattle.group.specs.declared.Reading.the-variants.{Read, Refused}
 use Rattle.group.specs.Reading.{readingOf}
+use Rattle.cut.specs.Lists.{pick}
 use Rattle.cut.specs.Requirement.{limitLeast, Segment}
+use Rattle.cut.specs.LawsDecision.{false-true}
 use Rattle.gathering.specs.declared.Slot.{Slot}
 use Rattle.gathering.specs.declared.Stage.{Stage}
 use Rattle.gathering.specs.declared.Stage.the-variants as Stage
@@ -30,13 +34,17 @@ use Rattle.gathering.specs.Memory.{segmentAt}
 use Rattle.gathering.specs.Take.{Lent, partsOf, memoryOf, takesIn, partsWith, stageOf, outcomeBy, Taken, unchanged, sameSegment, ifNew, ifHeld, byMark, takeInto}
 use Rattle.slots.specs.declared.Found.{Found}
 use Rattle.slots.specs.declared.Found.the-variants.{Nothing, At}
-use Rattle.slots.specs.Stores.{Stores, freeSlot, freshSlot, slotAt}
+use Rattle.slots.specs.Stores.{freeSlot, freshSlot, slotAt}
 use Rattle.slots.specs.Alone.{fitsAlone}
 use Rattle.slots.specs.Fresh.{fresh-taken}
-use Rattle.collector.specs.Calls.{heardAs, segmentIn, answerAs, allFree}
-use Rattle.history.specs.Slots.{Used}
-use Rattle.history.specs.Call.{State, Reply, taking, dropping, groupAnswer, groupLeaves, dropAnswer, dropLeaves, sound, limitOf, slotOf, lentOf, find, answering, replacing, offering, Came, alone, full, first, more, group-damaged, unread, came, drop-damaged, none-dropped, found-dropped, lent-same, inLimits, opening, opened-none}
-use Rattle.history.specs.Ready.{slots-right, used-inside, found-used, free-marks}
+use Rattle.slots.specs.StateTests.{limits-hold}
+use Rattle.collector.specs.declared.Opening.the-variants as Opening
+use Rattle.collector.specs.Calls.{answeredBy, heardAs, segmentIn, answerAs, dropFound, dropNumber, allFree, openedBy}
+use Rattle.history.specs.Slots.{Used, limits-within}
+use Rattle.history.specs.Call.{State, Reply, taking, dropping, groupAnswer, groupLeaves, dropAnswer, dropLeaves, sound, limitOf, slotOf, lentOf, find, answering, replacing, offering, Came, alone, full, first, more, group-damaged, unread, came, drop-damaged, none-dropped, found-dropped, lent-same, inLimits, opened-all, opened-none}
+use Rattle.history.specs.State.{InOrder}
+use Rattle.history.specs.History.{Start, Within, begun}
+use Rattle.history.specs.Ready.{used-inside, found-used, free-marks}
 
 -- ---- the offer of a segment
 
@@ -216,16 +224,48 @@ pub repeated-group : (group : List ℕ) (s : State) (heard : Heard) → groupAns
     → groupLeaves group s ≡ record { collector = s .collector; counts = oneRepeated (s .counts); stores = s .stores }
 repeated-group group s heard e = ap (λ (t : Reply). t .left) (group-kept group s (rw e tt)) ∙ ap (λ (a : Answer). record { collector = s .collector; counts = counted a (s .counts); stores = s .stores }) e
 
--- ---- a refused opening
+-- ---- a drop
 
--- it leaves the counts and all that is lent, and hands back a state that every call answers with STATE
-pub refused-opening : (limit count : ℕ) (counts : Counts) (stores : Stores) → inLimits limit count stores ≡ false
-    → (opening limit count counts stores .counts ≡ counts) × (opening limit count counts stores .stores ≡ stores) × (sound (opening limit count counts stores) ≡ false)
-refused-opening limit count counts stores e = rw (opened-none limit count counts stores e) (refl, refl, damaged (sound nothing) refl)
+-- it touches no store byte
+pub drop-stores : (number : ℕ) (s : State) → (dropLeaves number s .stores .header ≡ s .stores .header) × (dropLeaves number s .stores .body ≡ s .stores .body)
+unfolding dropping dropNumber
+drop-stores number s = go (sound s) (find number s)
   where
-    nothing : State
-    nothing = record { collector = allFree 0 0; counts = counts; stores = stores }
+    go : (b : Bool) (found : Found) → (pick b (dropFound found number (s .collector) (s .counts) (s .stores)) (answeredBy Answer.State (s .collector) (s .counts) (s .stores)) .stores .header ≡ s .stores .header) × (pick b (dropFound found number (s .collector) (s .counts) (s .stores)) (answeredBy Answer.State (s .collector) (s .counts) (s .stores)) .stores .body ≡ s .stores .body)
+    go false found = (refl, refl)
+    go true Nothing = (refl, refl)
+    go true (At i) = (refl, refl)
 
-    damaged : (b : Bool) → sound nothing ≡ b → sound nothing ≡ false
-    damaged false d = d
-    damaged true d = let h : limitLeast ≤ 0 = slots-right nothing d .limits .least in absurd (omega arith)
+-- ---- an opening
+
+module _ (start : Start) where
+  -- the test of the limits
+  abbrev kept-limits : Bool
+  kept-limits = inLimits (start .limit) (start .count) (start .stores)
+
+  within-kept : Within start → kept-limits ≡ true
+  within-kept w = limits-within (start .limit) (start .count) (length (start .stores .header)) (length (start .stores .body)) (length (start .stores .marks)) w
+
+  kept-within : kept-limits ≡ true → Within start
+  kept-within e = limits-hold (start .limit) (start .count) (length (start .stores .header)) (length (start .stores .body)) (length (start .stores .marks)) e
+
+  not-kept : (b : Bool) → kept-limits ≡ b → ¬ (Within start) → kept-limits ≡ false
+  not-kept false e n = e
+  not-kept true e n = absurd (n (kept-within e))
+
+  -- LIMITS exactly when it is outside them
+  pub limits-exactly : ((begun start .opening ≡ Opening.Refused Answer.Limits) ↔ (¬ (Within start))) × ((begun start .opening ≡ Opening.Open) ↔ Within start)
+  unfolding openedBy
+  limits-exactly = go kept-limits refl
+    where
+      go : (b : Bool) → kept-limits ≡ b → ((begun start .opening ≡ Opening.Refused Answer.Limits) ↔ (¬ (Within start))) × ((begun start .opening ≡ Opening.Open) ↔ Within start)
+      go true e = rw e (((λ d. let z : _≡_ {A = ℕ} 0 1 = cc in absurd (omega arith)), (λ n. absurd (n (kept-within e)))), ((λ d. kept-within e), (λ w. refl)))
+      go false e = rw e (((λ d w. false-true e (within-kept w)), (λ n. refl)), ((λ d. let z : _≡_ {A = ℕ} 0 1 = cc in absurd (omega arith)), (λ w. absurd (false-true e (within-kept w)))))
+
+  pub opened-leaves : Within start
+      → begun start .left ≡ record { collector = allFree (start .limit) (start .count); counts = noneYet; stores = record { header = start .stores .header; body = start .stores .body; marks = zeros (length (start .stores .marks)) } }
+  opened-leaves w = opened-all (start .limit) (start .count) (start .counts) (start .stores) (within-kept w)
+
+  -- a refused one leaves the counts and all that is lent, and hands back a state that every call answers with STATE
+  pub unopened-leaves : ¬ (Within start) → (begun start .left .counts ≡ start .counts) × (begun start .left .stores ≡ start .stores) × (¬ (InOrder (begun start .left)))
+  unopened-leaves n = rw (opened-none (start .limit) (start .count) (start .counts) (start .stores) (not-kept kept-limits refl n)) (refl, refl, (λ w. let h : limitLeast ≤ 0 = w .limits .least in absurd (omega arith)))

@@ -81,7 +81,7 @@ leaves-slots (Call.drop number) s whole = go (find number s) refl
     go : (found : Found) → find number s ≡ found → slots-of (dropping number s .left) ≡ slots-of s
     go Nothing e = rw (none-dropped number s (whole .undamaged) e) refl
     go (At i) e = rw (found-dropped number s (whole .undamaged) i (used-inside s (whole .undamaged) i (found-used s (whole .undamaged) number i e)) e) (length-set (s .collector .slots) i freeSlot)
-leaves-slots (ask number part) s whole = refl
+leaves-slots (ask question) s whole = refl
 
 reached-slots : (start : Start) → Allowed start → (calls : List Call) → Each CallBytes calls → slots-of (reached defined start calls) ≡ slotsMost
 unfolding slots-of

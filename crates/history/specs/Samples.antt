@@ -15,11 +15,13 @@ use Rattle.group.specs.declared.Segment.{Segment as Carried}
 use Rattle.group.specs.declared.Reading.the-variants.{Read}
 use Rattle.group.specs.Reading.{kindOf, checkHolds, sizeWrong, segmentOf, readingOf}
 use Rattle.cut.specs.Lists.{Each, Among, bytes-zeros}
-use Rattle.cut.specs.Requirement.{bodySize, headerSize, Segment}
+use Rattle.cut.specs.Requirement.{bodySize, headerSize, contentType, contentSubType, Segment}
 use Rattle.cut.specs.Decision.{boundsOf, coreFits, room, largest, alone, settle}
 use Rattle.cut.specs.Sums.{possibleIn, suitsIn}
 use Rattle.cut.specs.LawsSegment.{Numbered}
 use Rattle.cut.specs.Finished.{whole-numbers}
+use Rattle.header.specs.Parameters.{lengthAt, parameterAt, within as inHeader, foundAt, turns, parametersFrom, widthFits, allFit, single, count, twice, find as findParameter, fieldsOf, judged, readHeader}
+use Rattle.header.specs.Names.{unslashed, nameMatches}
 use Rattle.gathering.specs.Memory.{segmentAt, settled, put}
 use Rattle.gathering.specs.Take.{partsOf, lentOf, coreIn, takesIn, recordWith, recordWithin, partsWith, stageOf, sameSegment, slotWith, takeInto}
 use Rattle.gathering.specs.Sound.{recordRight, soundParts, soundSlot}
@@ -30,10 +32,11 @@ use Rattle.slots.specs.State.{withinLimits, heldAmong, unlike, distinct, rightS
 use Rattle.slots.specs.Stores.{lentAt, withLent, freeSlot, freshSlot, slotAt}
 use Rattle.slots.specs.Show.{startOf, shownOf}
 use Rattle.slots.specs.Take.{takeAt, takeNew, dropAt}
+use Rattle.names.specs.Finding.{headerIn, nameData, hasName, holderIn, lowestFrom, foundByName}
 use Rattle.collector.specs.Calls.{soundState, segmentIn, takeGroup, dropNumber, openedBy, locate, show}
+use Rattle.questions.specs.Questions.{parameters, name, find as findByName}
 use Rattle.history.specs.Call.{taking, dropping, opening}
 use Rattle.history.specs.History.{Call, hand, CallBytes, Start, Allowed, under}
-use Rattle.history.specs.Promise.{From}
 
 -- ---- the groups
 
@@ -59,7 +62,7 @@ otherNumber = 0x73 ∷ 0x00 ∷ 0x80 ∷ 0x00 ∷ 0x12 ∷ 0x00 ∷ 0x06 ∷ 0x0
 
 -- all that a run is computed with
 unfoldable pub computing : Unit {0}
-unfolding under opening openedBy taking takeGroup dropping dropNumber soundState segmentIn locate show shownOf startOf takeAt takeNew dropAt slotAt freshSlot freeSlot withLent lentAt soundSlots rightFrom rightSlot distinct unlike heldAmong withinLimits freeIn findIn firstFrom holds isFree fitsAlone soundSlot soundParts recordRight takeInto slotWith sameSegment stageOf partsWith recordWithin recordWith takesIn coreIn lentOf partsOf put settled segmentAt suitsIn possibleIn settle alone largest room coreFits boundsOf headerSize bodySize within risen largestOf equal zeros over readingOf kindOf checkHolds sizeWrong segmentOf checkWord divided bitsEntered entered step
+unfolding parameters name findByName nameData hasName headerIn holderIn lowestFrom foundByName readHeader judged fieldsOf findParameter twice count single allFit widthFits parametersFrom turns foundAt inHeader parameterAt lengthAt contentType contentSubType nameMatches unslashed under opening openedBy taking takeGroup dropping dropNumber soundState segmentIn locate show shownOf startOf takeAt takeNew dropAt slotAt freshSlot freeSlot withLent lentAt soundSlots rightFrom rightSlot distinct unlike heldAmong withinLimits freeIn findIn firstFrom holds isFree fitsAlone soundSlot soundParts recordRight takeInto slotWith sameSegment stageOf partsWith recordWithin recordWith takesIn coreIn lentOf partsOf put settled segmentAt suitsIn possibleIn settle alone largest room coreFits boundsOf headerSize bodySize within risen largestOf equal zeros over readingOf kindOf checkHolds sizeWrong segmentOf checkWord divided bitsEntered entered step
 computing = tt
 
 -- ---- a small collector
@@ -103,20 +106,6 @@ reads : (readingOf bodyLast ≡ Read (readAs 5 Body 1 true 4)) × (readingOf bod
 unfolding readingOf kindOf checkHolds sizeWrong segmentOf checkWord divided bitsEntered entered step
 reads = (refl, refl, refl, refl)
 
-from-read : (bytes : List ℕ) (read : Carried) → readingOf bytes ≡ Read read → SentBy object (read .part) (segmentIn bytes read) → From object 5 (hand bytes)
-from-read bytes read e sent carried r n = let same : read ≡ carried = cc in subst (λ (c : Carried). SentBy object (c .part) (segmentIn bytes c)) same sent
-
-from-last : From object 5 (hand bodyLast)
-unfolding object segmentIn
-from-last = from-read bodyLast (readAs 5 Body 1 true 4) (reads .0) (record { starts = omega arith; holds = refl; ends = refl })
-
-from-other : From object 5 (hand otherNumber)
-from-other carried r n = let same : _≡_ {A = ℕ} 6 5 = cc (reads .3) in absurd (omega arith)
-
-pub from-one : Each (From object 5) oneCut
-unfolding object segmentIn
-from-one = (from-read bodyFirst (readAs 5 Body 0 false 16) (reads .1) (record { starts = omega arith; holds = refl; ends = refl }), (from-last, (from-other, (from-read header (readAs 5 Header 0 true 7) (reads .2) (record { starts = omega arith; holds = refl; ends = refl }), (from-last, tt)))))
-
 pub of-bytes-one : Each CallBytes oneCut
 of-bytes-one = (omega arith, (omega arith, (omega arith, (omega arith, (omega arith, tt)))))
 
@@ -128,6 +117,11 @@ bodyHalf = segmentIn bodyFirst (readAs 5 Body 0 false 16)
 
 abbrev bodyRest : Segment
 bodyRest = segmentIn bodyLast (readAs 5 Body 1 true 4)
+
+-- each is one that the object sends
+pub sent-one : SentBy object Header headerWhole × SentBy object Body bodyHalf × SentBy object Body bodyRest
+unfolding object segmentIn
+sent-one = (record { starts = omega arith; holds = refl; ends = refl }, record { starts = omega arith; holds = refl; ends = refl }, record { starts = omega arith; holds = refl; ends = refl })
 
 -- all of them, the last body segment twice
 abbrev pub allSent : Part → List Segment

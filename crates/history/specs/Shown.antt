@@ -24,15 +24,8 @@ use Rattle.slots.specs.Take.{Inside}
 use Rattle.slots.specs.Show.{startOf, shownAs, shownOf}
 use Rattle.collector.specs.Calls.{locatedAs, locate, shownAt, show}
 use Rattle.history.specs.Call.{State, sound, limitOf, slotOf, lentOf, find}
+use Rattle.history.specs.Asking.{showing}
 use Rattle.history.specs.Ready.{used-inside, found-used, found-sound}
-
--- a question: a finished object's header or body
-abbrev pub showing : ℕ → Part → State → List ℕ
-showing number part s = show number part (s .collector) (s .counts) (s .stores)
-
--- it is lent nothing that it could change
-abbrev pub asking : ℕ → Part → State → State
-asking number part s = s
 
 -- the first bytes of a share, as many as the stage says
 abbrev pub frontOf : Part → Stage → Lent → List ℕ

@@ -4,7 +4,7 @@ use mathlib.Core.Path.{_≡_, refl, sym, ap, _∙_, subst}
 use mathlib.Core.Logic.{_≢_}
 use mathlib.Core.Bool.{Bool, true, false}
 use mathlib.Core.List.{List, [], _∷_}
-use Prim.Native.Nat.{ℕ, zero, suc, _+_, _*_, _<_}
+use Prim.Native.Nat.{ℕ, zero, suc, _+_, _-_, _*_, _<_}
 use native.Mathlib.Nat.{zero-add}
 use native.Mathlib.Decide.{ℕ-discrete}
 use native.Mathlib.Omega.{arith}
@@ -75,6 +75,18 @@ unfolding firstFrom
 none-first test first [] f = refl
 none-first test first (slot ∷ l) f = rw (f 0 (omega arith)) (none-first test (suc first) l (λ i h. f (suc i) (omega arith)))
 
+-- none below the first that passes does
+first-below : (test : Slot → Bool) (first i : ℕ) (l : List Slot) → firstFrom test first l ≡ At (first + i) → (j : ℕ) → j < i → test (getD l j freeSlot) ≡ false
+unfolding firstFrom
+first-below test first i [] e = λ j h. let z : _≡_ {A = ℕ} 0 1 = cc in absurd (omega arith)
+first-below test first i (slot ∷ l) e = go (test slot) refl e (first-below test (suc first) (i - 1) l)
+  where
+    go : (b : Bool) → test slot ≡ b → pick b (At first) (firstFrom test (suc first) l) ≡ At (first + i)
+        → (firstFrom test (suc first) l ≡ At (suc first + (i - 1)) → (j : ℕ) → j < i - 1 → test (getD l j freeSlot) ≡ false) → (j : ℕ) → j < i → test (getD (slot ∷ l) j freeSlot) ≡ false
+    go true f e later j h = let same : first ≡ first + i = cc in absurd (omega arith)
+    go false f e later zero h = f
+    go false f e later (suc j) h = let same : first + i ≡ suc first + (i - 1) = omega arith in later (e ∙ ap At same) j (omega arith)
+
 first-same : (test : Slot → Bool) (first i : ℕ) (slot : Slot) (l : List Slot) → test slot ≡ test (getD l i freeSlot) → firstFrom test first (set l i slot) ≡ firstFrom test first l
 unfolding firstFrom
 first-same test first i slot [] e = refl
@@ -90,6 +102,12 @@ module _ (test : Slot → Bool) (count : ℕ) (slots : List Slot) where
       let u : Used count i slots = taken-used count i slots (omega (arith, r .2)) in
       let at : getD (take count slots) i freeSlot ≡ getD slots i freeSlot = getD-take count slots i freeSlot (u .counted) in
       (u, rw at at (rw (← same) at (r .3)))
+
+  pub found-first : (i : ℕ) → firstFrom test 0 (take count slots) ≡ At i → (j : ℕ) → j < i → test (slotAt j slots) ≡ false
+  unfolding slotAt
+  found-first i e j h =
+      let u = found-at i e .0 in
+      rw (getD-take count slots j freeSlot (omega (arith, u .counted))) at (first-below test 0 i (take count slots) (e ∙ ap At (sym (zero-add i))) j h)
 
   pub found-none : firstFrom test 0 (take count slots) ≡ Nothing → (i : ℕ) → Used count i slots → test (slotAt i slots) ≡ false
   unfolding slotAt

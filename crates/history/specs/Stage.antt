@@ -18,7 +18,8 @@ use Rattle.slots.specs.declared.Found.{Found}
 use Rattle.slots.specs.declared.Found.the-variants.{Nothing, At}
 use Rattle.history.specs.Call.{State, sound, limitOf, slotOf, lentOf, find}
 use Rattle.history.specs.Held.{stageAt, stageFor}
-use Rattle.history.specs.Shown.{showing, frontOf, held-shown, unheld-shown}
+use Rattle.history.specs.Asking.{showing}
+use Rattle.history.specs.Shown.{frontOf, held-shown, unheld-shown}
 use Rattle.history.specs.Stands.{StandsFor}
 
 -- where nothing is stored, no object is finished: it has a header

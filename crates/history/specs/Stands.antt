@@ -3,7 +3,7 @@ use mathlib.Core.Path.{_≡_, refl, sym, _∙_, subst}
 use mathlib.Core.Logic.{_≢_}
 use mathlib.Core.Bool.{Bool, true, false}
 use mathlib.Core.List.{List, [], _∷_}
-use Prim.Native.Nat.{ℕ}
+use Prim.Native.Nat.{ℕ, _≤_, _<_}
 use native.Mathlib.Decide.{ℕ-discrete}
 use native.Mathlib.Omega.{arith}
 use lib.Dec.{eqb}
@@ -15,6 +15,7 @@ use Rattle.answer.specs.declared.Answer.the-variants as Answer
 use Rattle.answer.specs.declared.Heard.{Heard}
 use Rattle.answer.specs.declared.Part.{Part}
 use Rattle.answer.specs.declared.Part.the-variants.{Header, Body}
+use Rattle.answer.specs.Table.{numberOf}
 use Rattle.group.specs.declared.Segment.{Segment as Carried}
 use Rattle.group.specs.declared.Reading.{Reading}
 use Rattle.group.specs.declared.Reading.the-variants.{Read, Refused}
@@ -32,14 +33,14 @@ use Rattle.gathering.specs.Step.{Tells, outcome-tells}
 use Rattle.slots.specs.declared.Found.{Found}
 use Rattle.slots.specs.declared.Found.the-variants.{Nothing, At}
 use Rattle.slots.specs.Stores.{freeSlot, freshSlot, slotAt}
-use Rattle.slots.specs.Find.{isFree, holds, findIn}
+use Rattle.slots.specs.Find.{isFree, holds, findIn, freeIn}
 use Rattle.slots.specs.Alone.{fitsAlone}
 use Rattle.slots.specs.Shares.{lent-back}
 use Rattle.collector.specs.Calls.{heardAs, segmentIn, answerAs}
-use Rattle.history.specs.Slots.{held-is, is-held, free-holds, none-found, only-found, slot-here, slot-there, used-before, used-after}
+use Rattle.history.specs.Slots.{held-is, is-held, free-holds, found-first, none-found, only-found, slot-here, slot-there, used-before, used-after}
 use Rattle.history.specs.Call.{State, Reply, taking, dropping, sound, limitOf, InUse, slotOf, lentOf, find, free, answering, replacing, offering, Came, alone, full, first, more, unread, came, none-dropped, found-dropped, cleared}
 use Rattle.history.specs.Held.{Same}
-use Rattle.history.specs.Ready.{slots-right, limit-low, used-inside, used-lent, found-used, found-holds, free-used, free-marks}
+use Rattle.history.specs.Ready.{slots-right, limit-low, used-inside, used-lent, found-used, found-holds, free-used, free-free, free-marks}
 use Rattle.history.specs.Taken.{holds-held, taken-number, fresh-gathers, fresh-added}
 use Rattle.history.specs.Sound.{Intact, lent-is-wide, more-lent, first-lent, segment-bytes, group-intact}
 use Rattle.history.specs.Others.{came-same, drop-others}
@@ -74,7 +75,7 @@ module _ (number : ℕ) (answer : Answer) (i : ℕ) (slot : Slot) (lent : Lent) 
   unfolding t
   lends = lent-back (limitOf s) i lent (s .stores) (lent-is-wide (limitOf s) lent l) (used-inside s good i u)
 
-  replaced-found : holds number slot ≡ true → find number t ≡ At i
+  replaced-found : holds number slot ≡ true → find number (replacing answer i slot lent s .left) ≡ At i
   unfolding t findIn
   replaced-found h = only-found (holds number) (s .collector .count) (t .collector .slots) i v own (λ j x g. slots-right t (whole .undamaged) .once number j i x v g own)
     where
@@ -185,6 +186,25 @@ came-own carried segment s t hs bs y whole whole' w (first i n a f e) =
     let none = w .rest n in
     rw (none .0, none .1, e, r .0) (r .1)
 came-own carried segment s t hs bs y whole whole' w (more i n e) = rw e (more-stands carried segment s i hs bs (takeInto (carried .part) (limitOf s) segment (slotOf i s) (lentOf i s)) refl y whole (rw e at whole') w n)
+
+-- a number that held no slot takes the lowest free one
+pub came-lowest : (carried : Carried) (segment : Segment) (s : State) (t : Reply) → Bytes (segment .bytes) → Intact s → Intact (t .left) → Came carried segment s t → find (carried .number) s ≡ Nothing → numberOf (t .answer) ≤ 1
+    → (i : ℕ) × (find (carried .number) (t .left) ≡ At i) × (isFree (slotOf i s) ≡ true) × ((j : ℕ) → j < i → isFree (slotOf j s) ≡ false)
+unfolding freeIn freshSlot
+came-lowest carried segment s t y whole whole' (alone n a e) none h = absurd (omega (arith, rw e at h))
+came-lowest carried segment s t y whole whole' (full n a f e) none h = absurd (omega (arith, rw e at h))
+came-lowest carried segment s t y whole whole' (more i n e) none h = let z : _≡_ {A = ℕ} 0 1 = cc in absurd (omega arith)
+came-lowest carried segment s t y whole whole' (first i n a f e) none h =
+    let x : Taken = takeInto (carried .part) (limitOf s) segment (freshSlot (carried .number)) (lentOf i s) in
+    let u = free-used s (whole .undamaged) i f in
+    let lends = used-lent s (whole .undamaged) i u (whole .bytes) in
+    let added = fresh-added (carried .part) (limitOf s) (carried .number) segment (lentOf i s) (limit-low s (whole .undamaged)) y lends (free-marks s (whole .undamaged) i f) a in
+    let own : holds (carried .number) (x .slot) ≡ true = is-held (carried .number) (x .slot) (holds-held (limitOf s) (x .slot) (x .lent) (headersWith (carried .part) segment []) (bodiesWith (carried .part) segment []) (added .holds)) (taken-number (carried .part) (limitOf s) segment (freshSlot (carried .number)) (lentOf i s)) in (
+      i,
+      rw e (replaced-found (carried .number) (answerAs (x .outcome) (heardAs carried)) i (x .slot) (x .lent) s (whole .undamaged) u (first-lent s whole (carried .number) i (carried .part) segment y f) (rw e at whole') own),
+      free-free s (whole .undamaged) i f,
+      found-first isFree (s .collector .count) (s .collector .slots) i f,
+    )
 
 -- A GROUP: each slot holds just what was stored, this group counted
 pub group-stands : (bytes : List ℕ) (s : State) (events : List Event) → Bytes bytes → Intact s → Stands s events → Stands (taking bytes s .left) (handed bytes (taking bytes s .answer) ∷ events)

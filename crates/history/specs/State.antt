@@ -2,7 +2,7 @@
 use mathlib.Core.Path.{_≡_, refl, ap}
 use mathlib.Core.Logic.{_≢_, _↔_}
 use mathlib.Core.Bool.{Bool, true, false}
-use mathlib.Core.List.{List}
+use mathlib.Core.List.{List, []}
 use Prim.Native.Nat.{ℕ, _≤_}
 use native.Mathlib.Omega.{arith}
 use lib.ListN.{length, getD}
@@ -11,6 +11,8 @@ use Rattle.octets.specs.Octets.{largestOf}
 use Rattle.octets.specs.Marks.{largest-each}
 use Rattle.answer.specs.declared.Answer.the-variants as Answer
 use Rattle.answer.specs.declared.Heard.{Heard}
+use Rattle.answer.specs.declared.Part.{Part}
+use Rattle.answer.specs.declared.Part.the-variants.{Header}
 use Rattle.counts.specs.Counted.{within}
 use Rattle.group.specs.declared.Segment.{Segment as Carried}
 use Rattle.group.specs.declared.Reading.{Reading}
@@ -18,6 +20,10 @@ use Rattle.group.specs.declared.Reading.the-variants.{Read, Refused}
 use Rattle.group.specs.Reading.{readingOf}
 use Rattle.cut.specs.Requirement.{limitMost, Segment}
 use Rattle.cut.specs.LawsDecision.{true-both}
+use Rattle.header.specs.declared.Reading.{Reading as HeaderReading}
+use Rattle.header.specs.declared.Reading.the-variants as HeaderReading
+use Rattle.header.specs.declared.Refusal.the-variants as HeaderRefusal
+use Rattle.header.specs.Parameters.{readHeader}
 use Rattle.gathering.specs.declared.Slot.{Slot}
 use Rattle.gathering.specs.declared.Stage.{Stage}
 use Rattle.gathering.specs.declared.Stage.the-variants as Stage
@@ -35,9 +41,16 @@ use Rattle.slots.specs.State.{rightSlot, soundSlots}
 use Rattle.slots.specs.StateTests.{Limits}
 use Rattle.collector.specs.declared.Located.{Located}
 use Rattle.collector.specs.declared.Located.the-variants as Located
-use Rattle.collector.specs.Calls.{soundState, heardAs, segmentIn, answerAs, locatedAs, locatedIn, locate}
+use Rattle.names.specs.declared.Holder.{Holder}
+use Rattle.names.specs.declared.Holder.the-variants as Holder
+use Rattle.names.specs.Finding.{nameData, foundByName}
+use Rattle.collector.specs.Calls.{soundState, heardAs, segmentIn, answerAs, locatedAs, locatedIn, locate, show}
+use Rattle.questions.specs.declared.Asked.the-variants as Asked
+use Rattle.questions.specs.declared.Sought.the-variants as Sought
+use Rattle.questions.specs.Questions.{askedAs, askedOf, parameters, name, soughtAs, find as findByName}
 use Rattle.history.specs.Slots.{undamaged-sound}
 use Rattle.history.specs.Call.{State, Reply, taking, dropping, groupAnswer, dropAnswer, sound, limitOf, InUse, slotOf, lentOf, find, Came, alone, full, first, more, group-damaged, unread, came, drop-damaged, none-dropped, found-dropped}
+use Rattle.history.specs.Asking.{locating, showing, telling, naming, finding}
 use Rattle.history.specs.Counts.{Low, low-within}
 use Rattle.history.specs.Ready.{OfBytes, counts-low, slots-right, limit-low, limits-lent, used-inside, used-lent, found-used}
 
@@ -123,18 +136,40 @@ drop-never number s good = go (find number s) refl
     go Nothing e d = let f = none-dropped number s good e in let z : _≡_ {A = ℕ} 0 1 = cc in absurd (omega arith)
     go (At i) e d = let f = found-dropped number s good i (used-inside s good i (found-used s good number i e)) e in let z : _≡_ {A = ℕ} 0 1 = cc in absurd (omega arith)
 
-pub question-never : (number : ℕ) (s : State) → sound s ≡ true → locate number (s .collector) (s .counts) (s .stores) ≢ Located.Refused Answer.State
-unfolding locate
-question-never number s good d = asked (find number s) (rw good at d)
-  where
-    staged : (stage : Stage) (i : ℕ) → locatedAs stage i ≢ Located.Refused Answer.State
-    staged Stage.Free i e = let z : _≡_ {A = ℕ} 0 1 = cc in absurd (omega arith)
-    staged Stage.Gathering i e = let z : _≡_ {A = ℕ} 0 1 = cc in absurd (omega arith)
-    staged (Stage.Finished header body) i e = let z : _≡_ {A = ℕ} 0 1 = cc in absurd (omega arith)
+staged-never : (stage : Stage) (i : ℕ) → locatedAs stage i ≢ Located.Refused Answer.State
+staged-never Stage.Free i e = let z : _≡_ {A = ℕ} 0 1 = cc in absurd (omega arith)
+staged-never Stage.Gathering i e = let z : _≡_ {A = ℕ} 0 1 = cc in absurd (omega arith)
+staged-never (Stage.Finished header body) i e = let z : _≡_ {A = ℕ} 0 1 = cc in absurd (omega arith)
 
-    asked : (found : Found) → locatedIn found (s .collector) ≢ Located.Refused Answer.State
-    asked Nothing e = let z : _≡_ {A = ℕ} 0 1 = cc in absurd (omega arith)
-    asked (At i) e = staged (slotOf i s .stage) i e
+pub located-never : (number : ℕ) (s : State) → sound s ≡ true → locating number s ≢ Located.Refused Answer.State
+unfolding locate
+located-never number s good d = go (find number s) (rw good at d)
+  where
+    go : (found : Found) → locatedIn found (s .collector) ≢ Located.Refused Answer.State
+    go Nothing e = let z : _≡_ {A = ℕ} 0 1 = cc in absurd (omega arith)
+    go (At i) e = staged-never (slotOf i s .stage) i e
+
+read-never : (reading : HeaderReading) → askedAs reading ≢ Asked.Refused Answer.State
+read-never (HeaderReading.Read fields) e = let z : _≡_ {A = ℕ} 0 1 = cc in absurd (omega arith)
+read-never (HeaderReading.Refused HeaderRefusal.Core) e = let z : _≡_ {A = ℕ} 0 1 = cc in absurd (omega arith)
+read-never (HeaderReading.Refused HeaderRefusal.Header) e = let z : _≡_ {A = ℕ} 0 1 = cc in absurd (omega arith)
+read-never (HeaderReading.Refused HeaderRefusal.Duplicate) e = let z : _≡_ {A = ℕ} 0 1 = cc in absurd (omega arith)
+
+asked-never : (l : Located) (header : List ℕ) → l ≢ Located.Refused Answer.State → askedOf l header ≢ Asked.Refused Answer.State
+asked-never (Located.Refused why) header n e = let same : why ≡ Answer.State = cc in n (ap Located.Refused same)
+asked-never (Located.At i) header n e = read-never (readHeader header) e
+
+pub told-never : (number : ℕ) (s : State) → sound s ≡ true → telling number s ≢ Asked.Refused Answer.State
+unfolding parameters
+told-never number s good = asked-never (locating number s) (showing number Header s) (located-never number s good)
+
+sought-never : (holder : Holder) → soughtAs holder ≢ Sought.Refused Answer.State
+sought-never (Holder.Number number) e = let z : _≡_ {A = ℕ} 0 1 = cc in absurd (omega arith)
+sought-never Holder.Nobody e = let z : _≡_ {A = ℕ} 0 1 = cc in absurd (omega arith)
+
+pub found-never : (sought : List ℕ) (s : State) → sound s ≡ true → finding sought s ≢ Sought.Refused Answer.State
+unfolding findByName
+found-never sought s good d = sought-never (foundByName sought (s .collector .count) (s .collector .slots) (s .stores .header)) (rw good at d)
 
 -- ---- STATE exactly when the state is damaged
 
@@ -152,4 +187,36 @@ pub drop-state : (number : ℕ) (s : State) → OfBytes (s .stores) → (dropAns
 drop-state number s y = (
   (λ e w. drop-never number s (in-order-exactly s y .1 w) e),
   (λ n. ap (λ (t : Reply). t .answer) (drop-damaged number s (tested s (sound s) refl y n))),
+)
+
+-- and a question
+located-damaged : (number : ℕ) (s : State) → sound s ≡ false → locating number s ≡ Located.Refused Answer.State
+unfolding locate
+located-damaged number s d = rw d refl
+
+shown-damaged : (number : ℕ) (part : Part) (s : State) → sound s ≡ false → showing number part s ≡ []
+unfolding show
+shown-damaged number part s d = rw (located-damaged number s d) refl
+
+told-damaged : (number : ℕ) (s : State) → sound s ≡ false → telling number s ≡ Asked.Refused Answer.State
+unfolding parameters
+told-damaged number s d = rw (located-damaged number s d) refl
+
+named-damaged : (number : ℕ) (s : State) → sound s ≡ false → naming number s ≡ []
+unfolding name nameData readHeader
+named-damaged number s d = ap nameData (shown-damaged number Header s d)
+
+found-damaged : (sought : List ℕ) (s : State) → sound s ≡ false → finding sought s ≡ Sought.Refused Answer.State
+unfolding findByName
+found-damaged sought s d = rw d refl
+
+pub ask-state : (s : State) → OfBytes (s .stores)
+    → ((number : ℕ) → (locating number s ≡ Located.Refused Answer.State) ↔ (¬ (InOrder s))) × ((number : ℕ) → (telling number s ≡ Asked.Refused Answer.State) ↔ (¬ (InOrder s)))
+    × ((sought : List ℕ) → (finding sought s ≡ Sought.Refused Answer.State) ↔ (¬ (InOrder s)))
+    × (¬ (InOrder s) → (number : ℕ) → ((part : Part) → showing number part s ≡ []) × (naming number s ≡ []))
+ask-state s y = (
+  (λ number. ((λ e w. located-never number s (in-order-exactly s y .1 w) e), (λ n. located-damaged number s (tested s (sound s) refl y n)))),
+  (λ number. ((λ e w. told-never number s (in-order-exactly s y .1 w) e), (λ n. told-damaged number s (tested s (sound s) refl y n)))),
+  (λ sought. ((λ e w. found-never sought s (in-order-exactly s y .1 w) e), (λ n. found-damaged sought s (tested s (sound s) refl y n)))),
+  (λ n number. let d = tested s (sound s) refl y n in ((λ part. shown-damaged number part s d), named-damaged number s d)),
 )

@@ -100,7 +100,7 @@ leaves-tallied : (call : Call) (s : State) (events : List Event) → s .counts �
 unfolding answersFrom
 leaves-tallied (hand bytes) s events e = group-counted bytes s ∙ ap (counted (taking bytes s .answer)) e ∙ tallied-more (taking bytes s .answer) events
 leaves-tallied (drop number) s events e = drop-counted number s ∙ ap (counted (dropping number s .answer)) e ∙ tallied-more (dropping number s .answer) events
-leaves-tallied (ask number part) s events e = e
+leaves-tallied (ask question) s events e = e
 
 -- THE COUNTS over any history
 pub reached-counts : (start : Start) → Allowed start → (calls : List Call) → reached defined start calls .counts ≡ tallied (told defined start calls)

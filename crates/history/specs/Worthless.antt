@@ -34,11 +34,11 @@ use Rattle.slots.specs.declared.Found.{Found}
 use Rattle.slots.specs.declared.Found.the-variants.{Nothing, At}
 use Rattle.collector.specs.Calls.{segmentIn, heardAs, allFree}
 use Rattle.history.specs.Call.{State, find, Reply, taking, dropping, limitOf, slotOf, free, answering}
-use Rattle.history.specs.Shown.{showing, asking}
-use Rattle.history.specs.History.{hand, drop, ask, Collecting, Start, told, under, opened}
+use Rattle.history.specs.Asking.{locating, showing, telling, naming, finding}
+use Rattle.history.specs.History.{Question, hand, drop, ask, Begun, Collecting, Start, told, under, begun, asking, defined}
 use Rattle.history.specs.Stage.{none-finished}
-use Rattle.history.specs.Promise.{Run, reachedBy, toldBy, stored, Passing, heardOf, From, cameUnder, answersFrom, RefusedLeaves, NeverState, OthersLeave, ShownJoined, UnfinishedUnshown, CountsTold, ConflictExactly, FullExactly, RepeatExactly, CompleteExactly, DropExactly, FinishedExactly, OneCutAgrees, OneCutFinishes}
-use Rattle.history.specs.Samples.{computing, small, allowed, bodyLast, readAs, object, oneCut, from-one, of-bytes-one, all-sent}
+use Rattle.history.specs.Promise.{Run, reachedBy, toldBy, stored, Passing, heardOf, since, StoredFrom, cameUnder, answersFrom, RefusedLeaves, NeverState, OthersLeave, ShownJoined, UnfinishedUnshown, CountsTold, ConflictExactly, FullExactly, RepeatExactly, CompleteExactly, DropExactly, FinishedExactly, OneCutAgrees, OneCutFinishes}
+use Rattle.history.specs.Samples.{computing, small, allowed, bodyLast, readAs, object, oneCut, of-bytes-one, sent-one, all-sent}
 
 -- ---- an object of one segment: a header of 7 bytes and no body
 
@@ -127,20 +127,20 @@ later = record { start = used; allowed = record { limits = allowed .limits; byte
 
 -- ---- the collector's own definitions with one piece replaced
 
-abbrev openingBy : (Start → State) → Collecting
-openingBy opens = record { opens = opens; takes = taking; drops = dropping; shows = showing; asks = asking }
+abbrev openingBy : (Start → Begun) → Collecting
+openingBy opens = record { opens = opens; takes = taking; drops = dropping; locates = locating; shows = showing; tells = telling; names = naming; finds = finding; asks = asking }
 
 abbrev takingBy : (List ℕ → State → Reply) → Collecting
-takingBy takes = record { opens = opened; takes = takes; drops = dropping; shows = showing; asks = asking }
+takingBy takes = record { opens = begun; takes = takes; drops = dropping; locates = locating; shows = showing; tells = telling; names = naming; finds = finding; asks = asking }
 
 abbrev droppingBy : (ℕ → State → Reply) → Collecting
-droppingBy drops = record { opens = opened; takes = taking; drops = drops; shows = showing; asks = asking }
+droppingBy drops = record { opens = begun; takes = taking; drops = drops; locates = locating; shows = showing; tells = telling; names = naming; finds = finding; asks = asking }
 
 abbrev showingBy : (ℕ → Part → State → List ℕ) → Collecting
-showingBy shows = record { opens = opened; takes = taking; drops = dropping; shows = shows; asks = asking }
+showingBy shows = record { opens = begun; takes = taking; drops = dropping; locates = locating; shows = shows; tells = telling; names = naming; finds = finding; asks = asking }
 
-abbrev askingBy : (ℕ → Part → State → State) → Collecting
-askingBy asks = record { opens = opened; takes = taking; drops = dropping; shows = showing; asks = asks }
+abbrev askingBy : (Question → State → State) → Collecting
+askingBy asks = record { opens = begun; takes = taking; drops = dropping; locates = locating; shows = showing; tells = telling; names = naming; finds = finding; asks = asks }
 
 -- ---- what cannot be the same
 
@@ -200,15 +200,18 @@ drops-all-breaks p =
     different (find 5 (dropsAll 6 s .left)) (find 5 s) (p one 5 (drop 6 ∷ []) (tt, tt) ((λ e. absurd (omega arith)), tt) .0 .found) refl refl
 
 -- a question that drops what it asks for
-abbrev pub dropsAsked : ℕ → Part → State → State
-dropsAsked number part s = dropping number s .left
+abbrev pub dropsAsked : Question → State → State
+dropsAsked (Question.show number part) s = dropping number s .left
+dropsAsked (Question.parameters number) s = dropping number s .left
+dropsAsked (Question.name number) s = dropping number s .left
+dropsAsked (Question.find sought) s = s
 
 -- nor does a question change anything
 pub drops-asked-breaks : ¬ (OthersLeave (askingBy dropsAsked))
 unfolding computing small
 drops-asked-breaks p =
     let s : State = reachedBy (askingBy dropsAsked) one in
-    different (find 5 (dropsAsked 5 Header s)) (find 5 s) (p one 5 (ask 5 Header ∷ []) (tt, tt) (tt, tt) .0 .found) refl refl
+    different (find 5 (dropsAsked (Question.show 5 Header) s)) (find 5 s) (p one 5 (ask (Question.show 5 Header) ∷ []) (tt, tt) (tt, tt) .0 .found) refl refl
 
 -- ---- demand 2
 
@@ -268,8 +271,8 @@ unfolding computing small answersFrom
 invents-counts-breaks = taken-breaks (takingBy inventsCounts) one 0 1 refl refl (λ e. absurd (omega arith))
 
 -- an opening that leaves the counts as they were
-abbrev pub keepsCounts : Start → State
-keepsCounts start = record { collector = opened start .collector; counts = start .counts; stores = opened start .stores }
+abbrev pub keepsCounts : Start → Begun
+keepsCounts start = record { opening = begun start .opening; left = record { collector = begun start .left .collector; counts = start .counts; stores = begun start .left .stores } }
 
 -- an opening sets them to 0
 pub keeps-counts-breaks : ¬ (CountsTold (openingBy keepsCounts))
@@ -396,10 +399,11 @@ repeatConflicts bytes s = conflictAs (readingOf bytes) bytes s
 -- a group that comes again from the same cut does not conflict
 pub repeat-conflicts-breaks : ¬ (OneCutAgrees (takingBy repeatConflicts))
 unfolding computing small groupFive single
-repeat-conflicts-breaks p = p one single 5 (from, tt) groupFive refl (record { starts = omega arith; holds = refl; ends = refl }) refl
+repeat-conflicts-breaks p = p one single 5 from groupFive refl (record { starts = omega arith; holds = refl; ends = refl }) refl
   where
-    from : From single 5 (hand five)
-    from carried r n = let same : readAs 5 Header 0 true 7 ≡ carried = cc (reads .0) in subst (λ (c : Carried). SentBy single (c .part) (segmentIn five c)) same (record { starts = omega arith; holds = refl; ends = refl })
+    from : StoredFrom single 5 (since (takingBy repeatConflicts) one)
+    from Header = (record { starts = omega arith; holds = refl; ends = refl }, tt)
+    from Body = tt
 
 -- it stores the first group, and afterwards only says so
 abbrev pub storesFirst : List ℕ → State → Reply
@@ -408,8 +412,12 @@ storesFirst bytes s = pick (eqb (s .counts .taken) 0) (taking bytes s) (answerin
 -- once all groups of a cut have come, the object is finished
 pub stores-first-breaks : ¬ (OneCutFinishes (takingBy storesFirst))
 unfolding computing small
-stores-first-breaks p = gathering-unfinished (length (object .header)) (length (object .body)) (p many object 5 from-one all-come .0)
+stores-first-breaks p = gathering-unfinished (length (object .header)) (length (object .body)) (p many object 5 from all-come .0)
   where
+    from : StoredFrom object 5 (since (takingBy storesFirst) many)
+    from Header = (sent-one .0, tt)
+    from Body = (sent-one .1, (sent-one .2, (sent-one .2, tt)))
+
     all-come : (part : Part) (s : Segment) → SentBy object part s → Among s (cameUnder part 5 (told (takingBy storesFirst) small oneCut))
     all-come Header = all-sent Header
     all-come Body = all-sent Body
