@@ -1,16 +1,14 @@
 -- What is answered in a state whose slots hold just what is stored, call by call; then so after any run, and so by the marks
 -- of any state that is not damaged.
-use mathlib.Core.Path.{_≡_, refl, sym, ap, subst, _∙_}
+use mathlib.Core.Path.{_≡_, refl, ap, subst}
 use mathlib.Core.Logic.{_≢_, _↔_}
-use mathlib.Core.Bool.{true, false}
 use mathlib.Core.List.{List, [], _∷_}
-use Prim.Native.Nat.{ℕ, _≤_, _<_}
+use Prim.Native.Nat.{ℕ}
 use native.Mathlib.Omega.{arith}
 use lib.ListN.{length}
 use Rattle.answer.specs.declared.Answer.the-variants as Answer
 use Rattle.answer.specs.declared.Part.{Part}
 use Rattle.answer.specs.declared.Part.the-variants.{Header, Body}
-use Rattle.answer.specs.Table.{numberOf}
 use Rattle.cut.specs.Lists.{Each}
 use Rattle.cut.specs.Requirement.{Segment, Fits, Finished}
 use Rattle.cut.specs.LawsObject.{those}
@@ -20,7 +18,7 @@ use Rattle.gathering.specs.declared.Outcome.the-variants.{Stored, Complete, Rep
 use Rattle.slots.specs.declared.Found.{Found}
 use Rattle.slots.specs.declared.Found.the-variants.{Nothing, At}
 use Rattle.collector.specs.Calls.{answerAs}
-use Rattle.history.specs.Call.{State, Reply, taking, dropAnswer, limitOf, find, free, unread, came, none-dropped, found-dropped}
+use Rattle.history.specs.Call.{State, Reply, taking, dropAnswer, limitOf, find, unread, came, none-dropped, found-dropped}
 use Rattle.history.specs.Asking.{showing}
 use Rattle.history.specs.Ready.{OfBytes, used-inside, found-used}
 use Rattle.history.specs.Held.{stageFor, Same}
@@ -34,7 +32,7 @@ use Rattle.history.specs.Answers.{Meets, Room, came-exactly, came-full, 
 use Rattle.history.specs.Stage.{all-finished, finished-all, finished-shown, unfinished-shown}
 use Rattle.history.specs.Told.{not-held, unfinished, located-exactly, read-exactly, name-finished, name-missing, found-exactly, nobody-exactly}
 use Rattle.history.specs.Room.{unheld-exactly}
-use Rattle.history.specs.Promise.{Run, reachedBy, stored, Passing, segmentOf, heardOf, View, since, byMarks, answerTo, FitsStored, FitsWith, Missing, NotState, ConflictBy, FullBy, RepeatBy, CompleteBy, StoredBy, LowestFreeBy, UnreadBy, DropBy, UnheldBy, NotHeldBy, UnfinishedBy, LocatedBy, ShownBy, UnshownBy, ReadBy, NamedBy, FoundBy, NotFoundBy, AnsweredBy}
+use Rattle.history.specs.Promise.{Run, reachedBy, stored, Passing, segmentOf, heardOf, View, since, byMarks, answerTo, FitsStored, NotState, ConflictBy, FullBy, RepeatBy, CompleteBy, StoredBy, LowestFreeBy, UnreadBy, DropBy, UnheldBy, NotHeldBy, UnfinishedBy, LocatedBy, ShownBy, UnshownBy, ReadBy, NamedBy, FoundBy, NotFoundBy, AnsweredBy}
 
 -- ---- by what is stored
 

@@ -18,6 +18,7 @@ pub mod Answers
 pub mod Stage
 pub mod Told
 pub mod Room
+pub mod Numbers
 pub mod Tally
 pub mod Demands
 pub mod OneCut

@@ -1,7 +1,7 @@
 -- Where all that is stored under a number since it took its slot comes from one cut of one object, groups of that cut never
 -- conflict, in any order, repeated, mixed with any other calls; and once all its segments have come, each with a slot there,
 -- it is finished and shown with that header and that body.
-use mathlib.Core.Path.{_≡_, refl, sym, subst, _∙_}
+use mathlib.Core.Path.{_≡_, refl, sym, subst}
 use mathlib.Core.Logic.{_≢_, _⊎_, inl, inr}
 use mathlib.Core.Bool.{Bool, true, false}
 use mathlib.Core.List.{List, [], _∷_}

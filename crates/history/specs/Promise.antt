@@ -43,7 +43,7 @@ use Rattle.history.specs.Ready.{OfBytes}
 use Rattle.history.specs.State.{InOrder}
 use Rattle.history.specs.Answers.{markedUnder}
 use Rattle.history.specs.Held.{stageFor, SlotFor, Same}
-use Rattle.history.specs.History.{Question, Call, hand, drop, CallBytes, Elsewhere, shown, read, named, found, Event, handed, dropped, asked, Start, Within, Allowed, Collecting, after, reached, told, under, storedUnder}
+use Rattle.history.specs.History.{Question, Call, drop, CallBytes, Elsewhere, shown, read, named, found, Event, handed, dropped, asked, Start, Within, Allowed, Collecting, after, reached, told, under, storedUnder}
 
 -- ---- the words
 

@@ -83,7 +83,7 @@ leaves-slots (Call.drop number) s whole = go (find number s) refl
     go (At i) e = rw (found-dropped number s (whole .undamaged) i (used-inside s (whole .undamaged) i (found-used s (whole .undamaged) number i e)) e) (length-set (s .collector .slots) i freeSlot)
 leaves-slots (ask question) s whole = refl
 
-reached-slots : (start : Start) → Allowed start → (calls : List Call) → Each CallBytes calls → slots-of (reached defined start calls) ≡ slotsMost
+pub reached-slots : (start : Start) → Allowed start → (calls : List Call) → Each CallBytes calls → length (reached defined start calls .collector .slots) ≡ slotsMost
 unfolding slots-of
 reached-slots start a [] y = rw (start-is start a) (length-replicate slotsMost freeSlot)
 reached-slots start a (call ∷ calls) y = leaves-slots call (reached defined start calls) (reached-intact start a calls (y .1)) ∙ reached-slots start a calls (y .1)

@@ -46,6 +46,13 @@ staged-front part Gathering limit i stores inside h = refl
 staged-front Header (Finished header body) limit i stores inside h = start-share headerMost i header (stores .header) (h header body refl .0) (inside .header)
 staged-front Body (Finished header body) limit i stores inside h = start-share limit i body (stores .body) (h header body refl .1) (inside .body)
 
+module _ (number : ℕ) (s : State) (good : sound s ≡ true) where
+  -- a finished object's lengths are within its shares
+  pub held-lengths : (i : ℕ) → find number s ≡ At i → (header body : ℕ) → slotOf i s .stage ≡ Finished header body → (header ≤ headerMost) × (body ≤ limitOf s)
+  held-lengths i e header body f =
+      let parts = sound-slot (limitOf s) (slotOf i s) (lentOf i s) (found-sound s good number i e) .2 in
+      finished-inside (limitOf s) header body (partsOf (slotOf i s) (lentOf i s)) (subst (λ (x : Stage). soundParts (limitOf s) x (partsOf (slotOf i s) (lentOf i s)) ≡ true) f parts)
+
 module _ (number : ℕ) (part : Part) (s : State) (good : sound s ≡ true) where
   -- nothing of a number that holds no slot
   pub unheld-shown : find number s ≡ Nothing → showing number part s ≡ []
@@ -60,14 +67,8 @@ module _ (number : ℕ) (part : Part) (s : State) (good : sound s ≡ true) wher
       inside : Inside (limitOf s) i (s .stores)
       inside = used-inside s good i (found-used s good number i e)
 
-      parts : soundParts (limitOf s) (slotOf i s .stage) (partsOf (slotOf i s) (lentOf i s)) ≡ true
-      parts = sound-slot (limitOf s) (slotOf i s) (lentOf i s) (found-sound s good number i e) .2
-
-      lengths : (header body : ℕ) → slotOf i s .stage ≡ Finished header body → (header ≤ headerMost) × (body ≤ limitOf s)
-      lengths header body f = finished-inside (limitOf s) header body (partsOf (slotOf i s) (lentOf i s)) (subst (λ (x : Stage). soundParts (limitOf s) x (partsOf (slotOf i s) (lentOf i s)) ≡ true) f parts)
-
       front : shownAs part (slotOf i s .stage) (limitOf s) i (s .stores .header) (s .stores .body) ≡ frontOf part (slotOf i s .stage) (lentOf i s)
-      front = staged-front part (slotOf i s .stage) (limitOf s) i (s .stores) inside lengths
+      front = staged-front part (slotOf i s .stage) (limitOf s) i (s .stores) inside (held-lengths number s good i e)
 
       go : (stage : Stage) → slotOf i s .stage ≡ stage → shownAt (locatedAs (slotOf i s .stage) i) part (s .collector) (s .stores) ≡ frontOf part (slotOf i s .stage) (lentOf i s)
       go Free f = rw f refl

@@ -1,7 +1,7 @@
 -- WRONG COLLECTORS, document 01's five worthless ones among them: each is the collector's own definitions with one piece that
 -- is wrong, and is proved to break the promise that shuts it out, by a run that is computed. The edits in refused/ put that
 -- piece into our collector, which is then refused at that promise.
-use mathlib.Core.Path.{_≡_, refl, sym, ap, _∙_, subst}
+use mathlib.Core.Path.{_≡_, refl, sym, ap, _∙_}
 use mathlib.Core.Logic.{_≢_, inl}
 use mathlib.Core.Bool.{true}
 use mathlib.Core.List.{List, [], _∷_}
@@ -19,7 +19,6 @@ use Rattle.answer.specs.declared.Answer.the-variants as Answer
 use Rattle.answer.specs.declared.Refusal.the-variants as Refusal
 use Rattle.counts.specs.declared.Counts.{Counts}
 use Rattle.counts.specs.Counted.{ceiling, noneYet, counted}
-use Rattle.group.specs.declared.Segment.{Segment as Carried}
 use Rattle.group.specs.declared.Reading.the-variants.{Read, Refused}
 use Rattle.group.specs.Reading.{readingOf}
 use Rattle.group.specs.declared.Reading.{Reading}
@@ -35,7 +34,7 @@ use Rattle.slots.specs.declared.Found.the-variants.{Nothing, At}
 use Rattle.collector.specs.Calls.{segmentIn, heardAs, allFree}
 use Rattle.history.specs.Call.{State, find, Reply, taking, dropping, limitOf, slotOf, free, answering}
 use Rattle.history.specs.Asking.{locating, showing, telling, naming, finding}
-use Rattle.history.specs.History.{Question, hand, drop, ask, Begun, Collecting, Start, told, under, begun, asking, defined}
+use Rattle.history.specs.History.{Question, hand, drop, ask, Begun, Collecting, Start, told, under, begun, asking}
 use Rattle.history.specs.Stage.{none-finished}
 use Rattle.history.specs.Promise.{Run, reachedBy, toldBy, stored, Passing, heardOf, since, StoredFrom, cameUnder, answersFrom, RefusedLeaves, NeverState, OthersLeave, ShownJoined, UnfinishedUnshown, CountsTold, ConflictExactly, FullExactly, RepeatExactly, CompleteExactly, DropExactly, FinishedExactly, OneCutAgrees, OneCutFinishes}
 use Rattle.history.specs.Samples.{computing, small, allowed, bodyLast, readAs, object, oneCut, of-bytes-one, sent-one, all-sent}

@@ -1,2 +1,4 @@
 pub mod Exports
 pub mod Laws
+pub mod Heads
+pub mod Reaches

@@ -1,0 +1,99 @@
+-- A head's own calls: any calls of the exported functions after an opening, each handed the words and the lent memory just as
+-- the one before left them. The latest call comes first, as in a history of the collector.
+use mathlib.Core.Path.{_≡_}
+use mathlib.Core.List.{List, [], _∷_}
+use Prim.Native.Nat.{ℕ}
+use lib.ListN.{length}
+use Rattle.answer.specs.declared.Part.the-variants.{Header}
+use Rattle.cut.specs.Lists.{Bytes}
+use Rattle.slots.specs.Stores.{Stores}
+use Rattle.history.specs.Call.{State}
+use Rattle.history.specs.History.{Question, Call, hand, ask, Start, reached}
+use Rattle.history.specs.Ours.{ours}
+use Rattle.words.specs.Layout.{countsFrom}
+use Rattle.yovtirak.specs.Exports.{Called, answerWord, openCall, takeCall, dropCall, Told, placeTold, finishedCall, fieldsTold, readCall, soughtWord, findCall}
+
+-- what a head has in hand between two calls
+pub record Lent : Type 0 where
+  pub state : List ℕ
+  pub counts : List ℕ
+  pub stores : Stores
+
+-- a call, with what is handed to it beside that; `place` and `told` are what a question may write into
+pub data HeadCall : Type 0 where
+  take : (group : List ℕ) → HeadCall
+  drop : (number : ℕ) → HeadCall
+  finished : (number : ℕ) (place : List ℕ) → HeadCall
+  read : (number : ℕ) (told : List ℕ) → HeadCall
+  find : (name : List ℕ) → HeadCall
+
+-- a group is bytes, as all memory is
+abbrev pub GroupBytes : HeadCall → Type 0
+GroupBytes (take group) = Bytes group
+GroupBytes (drop number) = Unit {0}
+GroupBytes (finished number place) = Unit {0}
+GroupBytes (read number told) = Unit {0}
+GroupBytes (find name) = Unit {0}
+
+abbrev pub leftBy : Called → Lent
+leftBy c = record { state = c .state; counts = c .counts; stores = c .stores }
+
+abbrev pub begins : ℕ → ℕ → Lent → Called
+begins limit slots l = openCall limit slots (l .state) (l .counts) (l .stores)
+
+-- what a call leaves; the questions are lent nothing of it that they could change
+abbrev pub leaves : HeadCall → Lent → Lent
+leaves (take group) l = leftBy (takeCall group (l .state) (l .counts) (l .stores))
+leaves (drop number) l = leftBy (dropCall number (l .state) (l .counts) (l .stores))
+leaves (finished number place) l = l
+leaves (read number told) l = l
+leaves (find name) l = l
+
+-- what it returns, and what a question writes
+abbrev pub returns : HeadCall → Lent → Told
+returns (take group) l = record { result = takeCall group (l .state) (l .counts) (l .stores) .result; told = [] }
+returns (drop number) l = record { result = dropCall number (l .state) (l .counts) (l .stores) .result; told = [] }
+returns (finished number place) l = finishedCall number (l .state) (l .counts) (l .stores) place
+returns (read number told) l = readCall number (l .state) (l .counts) (l .stores) told
+returns (find name) l = record { result = findCall name (l .state) (l .counts) (l .stores); told = [] }
+
+-- after an opening and these calls
+abbrev pub after : ℕ → ℕ → Lent → List HeadCall → Lent
+after limit slots l [] = leftBy (begins limit slots l)
+after limit slots l (call ∷ calls) = leaves call (after limit slots l calls)
+
+-- ---- the same calls of the collector
+
+abbrev pub asStart : ℕ → ℕ → Lent → Start
+asStart limit slots l = record { limit = limit; count = slots; counts = countsFrom (l .counts); stores = l .stores }
+
+abbrev pub asCall : HeadCall → Call
+asCall (take group) = hand group
+asCall (drop number) = Call.drop number
+asCall (finished number place) = ask (Question.show number Header)
+asCall (read number told) = ask (Question.parameters number)
+asCall (find name) = ask (Question.find name)
+
+abbrev pub asCalls : List HeadCall → List Call
+asCalls [] = []
+asCalls (call ∷ calls) = asCall call ∷ asCalls calls
+
+-- the state that the same calls of our collector reach
+abbrev pub reachedBy : ℕ → ℕ → Lent → List HeadCall → State
+reachedBy limit slots l calls = reached ours (asStart limit slots l) (asCalls calls)
+
+-- what our collector answers there, in words
+abbrev pub inWords : HeadCall → State → Told
+inWords (take group) s = record { result = answerWord (ours .takes group s .answer); told = [] }
+inWords (drop number) s = record { result = answerWord (ours .drops number s .answer); told = [] }
+inWords (finished number place) s = placeTold (ours .locates number s) (s .collector) place
+inWords (read number told) s = fieldsTold (ours .tells number s) told
+inWords (find name) s = record { result = soughtWord (ours .finds name s); told = [] }
+
+-- what a question writes into is as long as it must be
+abbrev pub Fitting : HeadCall → Type 0
+Fitting (take group) = Unit {0}
+Fitting (drop number) = Unit {0}
+Fitting (finished number place) = length place ≡ 3
+Fitting (read number told) = length told ≡ 7
+Fitting (find name) = Unit {0}
