@@ -14,7 +14,7 @@ use Rattle.group.specs.declared.Kind.the-variants.{Carries, Other}
 use Rattle.group.specs.declared.Segment.{Segment}
 use Rattle.group.specs.declared.Reading.{Reading}
 use Rattle.group.specs.declared.Reading.the-variants.{Read, Refused}
-use Rattle.group.specs.Wire.{crcFlag, segmentFlag, userAccessFlag, typeNumber, lastFlag, segmentNumber, userAccess, transportFlag, lengthIndicator, transportNumber, segmentSize, segmentStart, checkStart, checkField, checkCovers}
+use Rattle.group.specs.Wire.{groupLeast, groupMost, segmentLeast, segmentMost, fullLeast, crcFlag, segmentFlag, userAccessFlag, typeNumber, lastFlag, segmentNumber, userAccess, transportFlag, lengthIndicator, transportNumber, segmentSize, segmentStart, checkStart, checkField, checkCovers}
 
 infixr 1 _if_otherwise_
 -- the refusal where the test holds, and otherwise what follows
@@ -32,7 +32,8 @@ checkHolds group = eqb (checkField group) (checkWord (checkCovers group))
 
 -- a size field is wrong: 0, not equal to the bytes left, over 8,189, or, not last, under 16
 unfoldable pub sizeWrong : ℕ → ℕ → Bool → Bool
-sizeWrong size left last = eqb size 0 || not (eqb size left) || ltb 8189 size || (not last && ltb size 16)
+sizeWrong size left last =
+    ltb size segmentLeast || not (eqb size left) || ltb segmentMost size || (not last && ltb size fullLeast)
 
 -- what a group carries, once it has passed the checks
 unfoldable pub segmentOf : List ℕ → Part → Segment
@@ -54,7 +55,7 @@ carried Other next = Refused Refusal.Kind
 -- byte); ADDRESS; LENGTH (up to the segmentation header); SIZE
 unfoldable pub readingOf : List ℕ → Reading
 readingOf group =
-    Refusal.Length if ltb (length group) 2 || ltb 8215 (length group) otherwise
+    Refusal.Length if ltb (length group) groupLeast || ltb groupMost (length group) otherwise
     Refusal.NoCheck if eqb (crcFlag group) 0 otherwise
     Refusal.Length if ltb (length group) 4 otherwise
     Refusal.BadCheck if not (checkHolds group) otherwise

@@ -9,7 +9,7 @@ use Rattle.answer.specs.declared.Part.{Part}
 use Rattle.answer.specs.declared.Refusal.the-variants as Refusal
 use Rattle.group.specs.declared.Reading.{Reading}
 use Rattle.group.specs.declared.Reading.the-variants.{Read}
-use Rattle.group.specs.Wire.{crcFlag, segmentFlag, userAccessFlag, typeNumber, lastFlag, userAccess, transportFlag, lengthIndicator, segmentSize, segmentStart, checkStart}
+use Rattle.group.specs.Wire.{groupLeast, groupMost, crcFlag, segmentFlag, userAccessFlag, typeNumber, lastFlag, userAccess, transportFlag, lengthIndicator, segmentSize, segmentStart, checkStart}
 use Rattle.group.specs.Reading.{_if_otherwise_, kindOf, checkHolds, sizeWrong, segmentOf, carried, readingOf}
 
 unfoldable pub sessionOf : List ℕ → Part → Reading
@@ -22,7 +22,7 @@ sessionOf group part =
     Read (segmentOf group part)
 
 pub in-two-halves : (group : List ℕ) → readingOf group ≡ (
-    Refusal.Length if ltb (length group) 2 || ltb 8215 (length group) otherwise
+    Refusal.Length if ltb (length group) groupLeast || ltb groupMost (length group) otherwise
     Refusal.NoCheck if eqb (crcFlag group) 0 otherwise
     Refusal.Length if ltb (length group) 4 otherwise
     Refusal.BadCheck if not (checkHolds group) otherwise

@@ -7,7 +7,7 @@ use Prim.Native.Nat.{ℕ, _+_, _-_, _≤_}
 use native.Mathlib.Omega.{arith}
 use lib.ListN.{length, take, drop}
 use lib.Dec.{eqb, ltb}
-use borrow.Author.Tests.{ltb-false, eqb-true, eqb-false, not-false}
+use borrow.Author.Tests.{ltb-false, eqb-true, not-false}
 use Rattle.answer.specs.declared.Part.{Part}
 use Rattle.answer.specs.declared.Refusal.{Refusal}
 use Rattle.group.specs.declared.Kind.{Kind}
@@ -15,14 +15,14 @@ use Rattle.group.specs.declared.Kind.the-variants.{Carries, Other}
 use Rattle.group.specs.declared.Segment.{Segment}
 use Rattle.group.specs.declared.Reading.{Reading}
 use Rattle.group.specs.declared.Reading.the-variants.{Read}
-use Rattle.group.specs.Wire.{byteAt, crcFlag, segmentFlag, userAccessFlag, typeNumber, lastFlag, segmentNumber, userAccess, transportFlag, lengthIndicator, transportNumber, segmentSize, segmentStart, checkStart}
+use Rattle.group.specs.Wire.{groupLeast, groupMost, segmentLeast, segmentMost, fullLeast, checkBytes, byteAt, crcFlag, segmentFlag, userAccessFlag, typeNumber, lastFlag, segmentNumber, userAccess, transportFlag, lengthIndicator, transportNumber, segmentSize, segmentStart, checkStart}
 use Rattle.group.specs.Reading.{_if_otherwise_, kindOf, checkHolds, sizeWrong, segmentOf, carried, readingOf}
 
 -- ---- a group is read exactly when it passes every check
 
 -- what a group has passed that carries a segment of a part
 pub record Passes (group : List ℕ) (part : Part) : Type 0 where
-  pub bounded : (ltb (length group) 2 || ltb 8215 (length group)) ≡ false
+  pub bounded : (ltb (length group) groupLeast || ltb groupMost (length group)) ≡ false
   pub checked : eqb (crcFlag group) 0 ≡ false
   pub headed : ltb (length group) 4 ≡ false
   pub holds : checkHolds group ≡ true
@@ -78,33 +78,33 @@ passes-read group part p = rw (p .bounded, p .checked, p .headed, p .holds, p .k
 -- the segment's bytes: between the segmentation header and the check word, 1 to 8,189 of them, and at least 16 where
 -- the segment is not the last one
 pub record Inside (group : List ℕ) (segment : Segment) : Type 0 where
-  pub ends : segment .start + segment .length + 2 ≡ length group
-  pub some : 1 ≤ segment .length
-  pub most : segment .length ≤ 8189
-  pub enough : segment .last ≡ false → 16 ≤ segment .length
+  pub ends : segment .start + segment .length + checkBytes ≡ length group
+  pub some : segmentLeast ≤ segment .length
+  pub most : segment .length ≤ segmentMost
+  pub enough : segment .last ≡ false → fullLeast ≤ segment .length
 
 either-false : (a b : Bool) → (a || b) ≡ false → (a ≡ false) × (b ≡ false)
 either-false true b e = let z : _≡_ {A = ℕ} 0 1 = cc in absurd (omega arith)
 either-false false b e = (refl, e)
 
-long-enough : (last : Bool) (size : ℕ) → (not last && ltb size 16) ≡ false → last ≡ false → 16 ≤ size
+long-enough : (last : Bool) (size : ℕ) → (not last && ltb size fullLeast) ≡ false → last ≡ false → fullLeast ≤ size
 long-enough true size e f = let z : _≡_ {A = ℕ} 0 1 = cc in absurd (omega arith)
-long-enough false size e f = ltb-false size 16 e
+long-enough false size e f = ltb-false size fullLeast e
 
-size-right : (size left : ℕ) (last : Bool) → sizeWrong size left last ≡ false → (size ≡ left) × (1 ≤ size) × (size ≤ 8189) × (last ≡ false → 16 ≤ size)
+size-right : (size left : ℕ) (last : Bool) → sizeWrong size left last ≡ false → (size ≡ left) × (segmentLeast ≤ size) × (size ≤ segmentMost) × (last ≡ false → fullLeast ≤ size)
 unfolding sizeWrong
 size-right size left last e =
-    let tests = either-false (eqb size 0 || not (eqb size left) || ltb 8189 size) (not last && ltb size 16) e in
-    let most = either-false (eqb size 0 || not (eqb size left)) (ltb 8189 size) (tests .0) in
-    let equal = either-false (eqb size 0) (not (eqb size left)) (most .0) in
-    let some : ¬ (size ≡ 0) = eqb-false size 0 (equal .0) in
-    (eqb-true size left (not-false (eqb size left) (equal .1)), omega arith, ltb-false 8189 size (most .1), long-enough last size (tests .1))
+    let tests = either-false _ (not last && ltb size fullLeast) e in
+    let most = either-false _ (ltb segmentMost size) (tests .0) in
+    let equal = either-false (ltb size segmentLeast) _ (most .0) in
+    let same : size ≡ left = eqb-true size left (not-false (eqb size left) (equal .1)) in
+    (same, ltb-false size _ (equal .0), ltb-false _ size (most .1), long-enough last size (tests .1))
 
 inside-passes : (group : List ℕ) (part : Part) → Passes group part → Inside group (segmentOf group part)
 unfolding segmentOf
 inside-passes group part p =
     let size = size-right (segmentSize group) (checkStart group - segmentStart group) (lastFlag group) (p .sized) in
-    let whole : 2 ≤ length group = ltb-false (length group) 2 (either-false (ltb (length group) 2) (ltb 8215 (length group)) (p .bounded) .0) in
+    let whole : groupLeast ≤ length group = ltb-false (length group) groupLeast (either-false _ _ (p .bounded) .0) in
     let starts : segmentStart group ≤ checkStart group = ltb-false (checkStart group) (segmentStart group) (p .segmented) in
     record { ends = omega (arith, size .0); some = size .1; most = size .2; enough = size .3 }
 

@@ -6,6 +6,28 @@ use Prim.Native.Nat.{ℕ, _+_, _-_, _*_, _/_, _%_}
 use lib.ListN.{length, take, getD}
 use lib.Dec.{eqb}
 
+-- ---- the numbers that bound it
+
+-- a group's bytes
+abbrev pub groupLeast : ℕ
+groupLeast = 2
+
+abbrev pub groupMost : ℕ
+groupMost = 8215
+
+-- a segment's bytes
+abbrev pub segmentLeast : ℕ
+segmentLeast = 1
+
+abbrev pub segmentMost : ℕ
+segmentMost = 8189
+
+-- the bytes of a segment that is not the last, at least
+abbrev pub fullLeast : ℕ
+fullLeast = 16
+
+-- ---- bytes and words
+
 -- the byte at a place, and the two bytes from a place on
 abbrev pub byteAt : List ℕ → ℕ → ℕ
 byteAt group at = getD group at 0
@@ -82,11 +104,14 @@ segmentSize group = wordAt group (segmentationHeader group) % 0x2000
 
 -- ---- the segment, and the check word, which covers everything before it
 
+abbrev pub checkBytes : ℕ
+checkBytes = 2
+
 abbrev pub segmentStart : List ℕ → ℕ
 segmentStart group = segmentationHeader group + 2
 
 abbrev pub checkStart : List ℕ → ℕ
-checkStart group = length group - 2
+checkStart group = length group - checkBytes
 
 abbrev pub checkField : List ℕ → ℕ
 checkField group = wordAt group (checkStart group)

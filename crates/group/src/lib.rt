@@ -6,9 +6,25 @@ use answer::Refusal;
 ghost use mathlib.Core.Path.{_≡_};
 ghost use Prim.Native.Nat.{_+_, _≤_, _<_};
 ghost use lib.ListN.{length};
-ghost use Rattle.group.specs.Wire.{wordAt};
+ghost use Rattle.group.specs.Wire.{checkBytes, wordAt};
 ghost use Rattle.group.specs.Reading.{kindOf, checkHolds, sizeWrong, readingOf};
 ghost use Rattle.group.specs.Session.{sessionOf};
+
+// Bytes of a group.
+pub const GROUP_LEAST: usize = 2;
+
+pub const GROUP_MOST: usize = 8215;
+
+// Bytes of a segment.
+pub const SEGMENT_LEAST: usize = 1;
+
+pub const SEGMENT_MOST: usize = 8189;
+
+// Of a segment that is not the last.
+pub const FULL_LEAST: usize = 16;
+
+// Bytes of the check word, which ends a group.
+const CHECK_BYTES: usize = 2;
 
 // What a group carries.
 pub enum Kind {
@@ -53,10 +69,10 @@ fn word_at(group: &[u8], at: usize) -> u16
 
 // Whether the check word at the end is the one of everything before it.
 fn check_holds(group: &[u8]) -> bool
-    requires { ⌜ 2 ≤ length (now group) ⌝ }
+    requires { ⌜ checkBytes ≤ length (now group) ⌝ }
     ensures { λ r. ⌜ r ≡ checkHolds (now (group .entry)) ⌝ }
 {
-    let end = group.len() - 2;
+    let end = group.len() - CHECK_BYTES;
     word_at(group, end) == crc::check_word(&group[..end])
 }
 
@@ -64,19 +80,19 @@ fn check_holds(group: &[u8]) -> bool
 fn size_wrong(size: usize, left: usize, last: bool) -> bool
     ensures { λ r. ⌜ r ≡ sizeWrong size left last ⌝ }
 {
-    if size == 0 {
+    if size < SEGMENT_LEAST {
         return true;
     }
     if size != left {
         return true;
     }
-    if 8189 < size {
+    if SEGMENT_MOST < size {
         return true;
     }
     if last {
         return false;
     }
-    size < 16
+    size < FULL_LEAST
 }
 
 // The rest of a group whose check word holds and whose part is known.
@@ -91,7 +107,7 @@ fn session(group: &[u8], part: Part) -> Reading
     if flags / 16 % 2 == 0 {
         return Reading::Refused(Refusal::NoSegment);
     }
-    let end = group.len() - 2;
+    let end = group.len() - CHECK_BYTES;
     let field = 2 + (flags / 128) as usize * 2;
     let access = field + 2;
     if end < access + 1 {
@@ -127,10 +143,10 @@ fn session(group: &[u8], part: Part) -> Reading
 pub fn read(group: &[u8]) -> Reading
     ensures { λ r. ⌜ r ≡ readingOf (now (group .entry)) ⌝ }
 {
-    if group.len() < 2 {
+    if group.len() < GROUP_LEAST {
         return Reading::Refused(Refusal::Length);
     }
-    if 8215 < group.len() {
+    if GROUP_MOST < group.len() {
         return Reading::Refused(Refusal::Length);
     }
     let flags = group[0];
