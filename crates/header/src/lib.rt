@@ -8,12 +8,16 @@ ghost use Prim.Native.Nat.{_≤_, _<_};
 ghost use lib.ListN.{length};
 ghost use lib.Dec.{eqb};
 ghost use Rattle.octets.specs.Octets.{both};
+ghost use Rattle.cut.specs.Requirement.{headerLeast};
 ghost use Rattle.header.specs.Parameters.{lengthAt, within, foundAt, widthFits, single, priorityOf, nameOf, fieldsOf, readHeader, nameIn};
 ghost use Rattle.header.specs.Names.{unslashed, nameMatches};
 ghost use Rattle.header.specs.Scan.{either, note, scanHeader, Inside};
 
-// Bytes of the core, before the first parameter.
-pub const CORE: usize = 7;
+// Bytes of the core, before the first parameter: the shortest header is its core.
+pub const CORE: usize = cut::HEADER_LEAST;
+
+// An identifier has 6 bits.
+const IDENTIFIERS: usize = 64;
 
 // One parameter: its identifier, where its data starts in the header, and how many bytes it has.
 pub struct Parameter {
@@ -196,7 +200,7 @@ fn noted(notes: Notes, parameter: Parameter, mark: u8) -> Notes
 fn note_all(header: &[u8]) -> Scan
     ensures { λ r. ⌜ r ≡ scanHeader (now (header .entry)) ⌝ }
 {
-    let mut seen = [0u8; 64];
+    let mut seen = [0u8; IDENTIFIERS];
     let mut notes = Notes {
         repeated: false,
         priority: Found::Nothing,
@@ -243,7 +247,7 @@ fn name_from(found: Found) -> Name
 }
 
 fn fields_of(header: &[u8], notes: Notes) -> Fields
-    requires { ⌜ (7 ≤ length (now header)) × Inside (length (now header)) (notes .priority) ⌝ }
+    requires { ⌜ (headerLeast ≤ length (now header)) × Inside (length (now header)) (notes .priority) ⌝ }
     ensures { λ r. ⌜ r ≡ fieldsOf (now (header .entry)) (notes .priority) (notes .name) ⌝ }
 {
     let priority = notes.priority;
