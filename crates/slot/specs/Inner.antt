@@ -8,7 +8,7 @@ use lib.ListN.{length, take, drop, getD, set}
 use Rattle.octets.specs.Octets.{over, equal, sumOf, largestOf}
 use Rattle.answer.specs.declared.Part.{Part}
 use Rattle.answer.specs.declared.Part.the-variants.{Header, Body}
-use Rattle.cut.specs.Requirement.{headerMost, headerNumbers, bodySize, headerSize}
+use Rattle.cut.specs.Requirement.{headerMost, headerNumbers, bodyNumbers, bodySize, headerSize}
 use Rattle.cut.specs.declared.Record.{Record}
 use Rattle.cut.specs.declared.Core.{Core}
 use Rattle.cut.specs.declared.Core.the-variants.{Unseen, Seen}
@@ -125,7 +125,7 @@ shareOf Body lent = lent .body
 
 -- a segment that fits can be stored: its number has a mark, and its place lies inside the share
 pub record Ready (part : Part) (limit : ℕ) (core : Core) (slot : Slot) (lent : Lent) (last : Bool) (n count : ℕ) : Type 0 where
-  pub marks : length (lent .marks) ≡ 1088
+  pub marks : length (lent .marks) ≡ headerNumbers + bodyNumbers
   pub number : n < numbersOf part
   pub move : CanMove (keptOf part slot) (recordAs part limit core slot (lent .marks) last n count .size) (shareOf part lent)
   pub put : CanPut last (recordAs part limit core slot (lent .marks) last n count .size) n count (shareOf part lent)
@@ -137,7 +137,7 @@ pub record Ready (part : Part) (limit : ℕ) (core : Core) (slot : Slot) (lent :
 pub record Offered (limit : ℕ) (slot : Slot) (lent : Lent) : Type 0 where
   pub header : length (lent .header) ≡ headerMost
   pub body : length (lent .body) ≡ limit
-  pub marks : length (lent .marks) ≡ 1088
+  pub marks : length (lent .marks) ≡ headerNumbers + bodyNumbers
   pub bits : largestOf (lent .marks) ≤ 1
   pub sound : soundParts limit (slot .stage) (partsOf slot lent) ≡ true
 

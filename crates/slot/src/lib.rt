@@ -2,18 +2,20 @@
 // value, its marks and its shares of the stores lent. A segment enters a slot by one function that
 // knows nothing of groups; what it leaves is one definition (specs/Take.antt).
 use answer::Part;
+use cut::BODY_NUMBERS;
 use cut::Bounds;
 use cut::Core;
+use cut::HEADER_NUMBERS;
 use cut::Record;
 use gathering::Outcome;
 use gathering::Slot;
 use gathering::Stage;
 ghost use mathlib.Core.Path.{_≡_};
-ghost use Prim.Native.Nat.{suc, _*_, _≤_, _<_};
+ghost use Prim.Native.Nat.{suc, _+_, _*_, _≤_, _<_};
 ghost use lib.Dec.{eqb, ltb};
 ghost use lib.ListN.{length, drop};
 ghost use Rattle.octets.specs.Octets.{sumOf};
-ghost use Rattle.cut.specs.Requirement.{bodySize, headerSize};
+ghost use Rattle.cut.specs.Requirement.{headerNumbers, bodyNumbers, bodySize, headerSize};
 ghost use Rattle.cut.specs.declared.Core.the-variants.{Seen};
 ghost use Rattle.cut.specs.Lists.{pick};
 ghost use Rattle.cut.specs.Decision.{finished};
@@ -42,12 +44,12 @@ fn kept_of(part: Part, slot: Slot) -> Record
 }
 
 fn marks_of(part: Part, marks: &[u8]) -> &[u8]
-    requires { ⌜ 64 ≤ length (now marks) ⌝ }
+    requires { ⌜ headerNumbers ≤ length (now marks) ⌝ }
     ensures { λ r. ⌜ now r ≡ marksOf part (now (marks .entry)) ⌝ }
 {
     match part {
-        Part::Header => &marks[..64],
-        Part::Body => &marks[64..],
+        Part::Header => &marks[..HEADER_NUMBERS],
+        Part::Body => &marks[HEADER_NUMBERS..],
     }
 }
 
@@ -77,7 +79,7 @@ fn ended(kept: Record) -> u32
 
 // How many of a part's marks are set, where each is 0 or 1.
 fn sum_of(part: Part, marks: &[u8]) -> u32
-    requires { ⌜ length (now marks) ≡ 1088 ⌝ }
+    requires { ⌜ length (now marks) ≡ headerNumbers + bodyNumbers ⌝ }
     ensures { λ r. ⌜ r ≡ sumOf (marksOf part (now (marks .entry))) ⌝ }
 {
     octets::sum(marks_of(part, marks))
@@ -85,7 +87,7 @@ fn sum_of(part: Part, marks: &[u8]) -> u32
 
 // The sum of a part's marks from a number on, where total is that of all: the shorter side is summed.
 fn sum_past(total: u32, from: usize, marks: &[u8]) -> u32
-    requires { ⌜ (total ≡ sumOf (now marks)) × (from ≤ length (now marks)) × (length (now marks) ≤ 1024) ⌝ }
+    requires { ⌜ (total ≡ sumOf (now marks)) × (from ≤ length (now marks)) × (length (now marks) ≤ bodyNumbers) ⌝ }
     ensures { λ r. ⌜ r ≡ sumOf (drop from (now (marks .entry))) ⌝ }
 {
     if from < marks.len() - from {
@@ -102,7 +104,7 @@ fn full_in(kept: Record, total: u32) -> bool
 }
 
 fn possible_in(bounds: Bounds, kept: Record, total: u32, marks: &[u8]) -> bool
-    requires { ⌜ (length (now marks) ≡ bounds .numbers) × (bounds .numbers ≤ 1024) × (total ≡ sumOf (now marks)) ⌝ }
+    requires { ⌜ (length (now marks) ≡ bounds .numbers) × (bounds .numbers ≤ bodyNumbers) × (total ≡ sumOf (now marks)) ⌝ }
     ensures { λ r. ⌜ r ≡ possibleIn bounds kept (now (marks .entry)) ⌝ }
 {
     let ends = ended(kept);
@@ -121,7 +123,7 @@ fn accepts_in(
     total: u32,
     marks: &[u8],
 ) -> bool
-    requires { ⌜ (length (now marks) ≡ bounds .numbers) × (bounds .numbers ≤ 1024) × (total ≡ sumOf (now marks)) ⌝ }
+    requires { ⌜ (length (now marks) ≡ bounds .numbers) × (bounds .numbers ≤ bodyNumbers) × (total ≡ sumOf (now marks)) ⌝ }
     ensures { λ r. ⌜ r ≡ acceptsIn last number bounds kept (now (marks .entry)) ⌝ }
 {
     let room = fitting::room(bounds, kept);
@@ -148,7 +150,7 @@ fn takes(
     number: usize,
     count: usize,
 ) -> bool
-    requires { ⌜ (length (now marks) ≡ 1088) × (number < 32768) ⌝ }
+    requires { ⌜ (length (now marks) ≡ headerNumbers + bodyNumbers) × (number < 32768) ⌝ }
     ensures { λ r. ⌜ r ≡ takesAs part limit core slot (now (marks .entry)) last number count ⌝ }
 {
     let kept = kept_of(part, slot);
@@ -190,7 +192,7 @@ fn record_as(
     number: usize,
     count: usize,
 ) -> Record
-    requires { ⌜ (length (now marks) ≡ 1088) × (number < 32768) ⌝ }
+    requires { ⌜ (length (now marks) ≡ headerNumbers + bodyNumbers) × (number < 32768) ⌝ }
     ensures { λ r. ⌜ r ≡ recordAs part limit core slot (now (marks .entry)) last number count ⌝ }
 {
     let kept = kept_of(part, slot);
@@ -204,7 +206,7 @@ fn record_as(
 
 // The record of a part that gets no segment, within bounds that may have met.
 fn record_still(part: Part, limit: usize, core: Core, slot: Slot, marks: &[u8]) -> Record
-    requires { ⌜ length (now marks) ≡ 1088 ⌝ }
+    requires { ⌜ length (now marks) ≡ headerNumbers + bodyNumbers ⌝ }
     ensures { λ r. ⌜ r ≡ recordStill part limit core slot (now (marks .entry)) ⌝ }
 {
     let kept = kept_of(part, slot);
@@ -263,7 +265,7 @@ fn put_in(old: Record, kept: Record, last: bool, number: usize, bytes: &[u8], sh
 
 // The slot of these records: its stage follows from its marks and from what header segment 0 says.
 fn slot_from(number: u16, header: Record, body: Record, share: &[u8], marks: &[u8]) -> Slot
-    requires { ⌜ length (now marks) ≡ 1088 ⌝ }
+    requires { ⌜ length (now marks) ≡ headerNumbers + bodyNumbers ⌝ }
     ensures { λ r. ⌜ r ≡ slotFrom number header body (now (share .entry)) (now (marks .entry)) ⌝ }
 {
     let core = core_from(marks_of(Part::Header, marks), share);
@@ -387,7 +389,7 @@ fn store_body(
         bytes.len(),
     );
     put_in(old, kept, last, number, bytes, body);
-    marks[64 + number] = 1;
+    marks[HEADER_NUMBERS + number] = 1;
     slot_from(slot.number, kept_header, kept, header, marks)
 }
 
@@ -430,7 +432,7 @@ fn take_header(
     requires { ⌜ Offered limit slot (record { header = now header; body = now body; marks = now marks }) ⌝ }
     ensures { λ r. ⌜ record { outcome = r .outcome; slot = r .slot; lent = record { header = now (header .exit); body = now (body .exit); marks = now (marks .exit) } } ≡ takeInto Part.Header limit (record { number = number; last = last; bytes = now (bytes .entry) }) slot (record { header = now (header .entry); body = now (body .entry); marks = now (marks .entry) }) ⌝ }
 {
-    if 64 <= number {
+    if HEADER_NUMBERS <= number {
         return Took {
             outcome: Outcome::Conflict,
             slot,
@@ -490,13 +492,13 @@ fn take_body(
     requires { ⌜ Offered limit slot (record { header = now header; body = now body; marks = now marks }) ⌝ }
     ensures { λ r. ⌜ record { outcome = r .outcome; slot = r .slot; lent = record { header = now (header .entry); body = now (body .exit); marks = now (marks .exit) } } ≡ takeInto Part.Body limit (record { number = number; last = last; bytes = now (bytes .entry) }) slot (record { header = now (header .entry); body = now (body .entry); marks = now (marks .entry) }) ⌝ }
 {
-    if 1024 <= number {
+    if BODY_NUMBERS <= number {
         return Took {
             outcome: Outcome::Conflict,
             slot,
         };
     }
-    if marks[64 + number] != 0 {
+    if marks[HEADER_NUMBERS + number] != 0 {
         let kept = slot.body;
         if same_in(kept, last, number, bytes, body) {
             return Took {
@@ -579,7 +581,7 @@ fn end_right(end: usize, tail: usize, marks: &[u8]) -> bool
 }
 
 fn record_right(part: Part, limit: usize, core: Core, slot: Slot, total: u32, marks: &[u8]) -> bool
-    requires { ⌜ (length (now marks) ≡ 1088) × (total ≡ sumOf (marksOf part (now marks))) ⌝ }
+    requires { ⌜ (length (now marks) ≡ headerNumbers + bodyNumbers) × (total ≡ sumOf (marksOf part (now marks))) ⌝ }
     ensures { λ r. ⌜ r ≡ rightAs part limit core slot (now (marks .entry)) ⌝ }
 {
     let kept = kept_of(part, slot);
@@ -621,7 +623,7 @@ fn same_stage(a: Stage, b: Stage) -> bool
 }
 
 fn suits_in(limit: usize, core: Core, slot: Slot, headers: u32, bodies: u32, marks: &[u8]) -> bool
-    requires { ⌜ (length (now marks) ≡ 1088) × (headers ≡ sumOf (marksOf Part.Header (now marks))) × (bodies ≡ sumOf (marksOf Part.Body (now marks))) ⌝ }
+    requires { ⌜ (length (now marks) ≡ headerNumbers + bodyNumbers) × (headers ≡ sumOf (marksOf Part.Header (now marks))) × (bodies ≡ sumOf (marksOf Part.Body (now marks))) ⌝ }
     ensures { λ r. ⌜ r ≡ suitsIn limit core (slot .header) (marksOf Part.Header (now (marks .entry))) (slot .body) (marksOf Part.Body (now (marks .entry))) ⌝ }
 {
     let header = slot.header;
@@ -648,7 +650,7 @@ fn suits_in(limit: usize, core: Core, slot: Slot, headers: u32, bodies: u32, mar
 // Whether a held slot is sound: its marks are 0 or 1 and some are set, and its record and its stage are those that the
 // marked segments give, which fit some object and cut.
 pub fn is_sound(slot: Slot, limit: usize, header: &[u8], marks: &[u8]) -> bool
-    requires { ⌜ length (now marks) ≡ 1088 ⌝ }
+    requires { ⌜ length (now marks) ≡ headerNumbers + bodyNumbers ⌝ }
     ensures { λ r. ⌜ r ≡ soundBy limit slot (now (header .entry)) (now (marks .entry)) ⌝ }
 {
     if !marks_right(marks) {
