@@ -10,6 +10,7 @@ use header::Reading;
 ghost use mathlib.Core.Path.{_≡_};
 ghost use Prim.Native.Nat.{_+_, _≤_};
 ghost use lib.ListN.{length};
+ghost use Rattle.slots.specs.Stores.{slotsMost};
 ghost use Rattle.header.specs.Search.{isNamed};
 ghost use Rattle.names.specs.Finding.{headerIn, nameData, lower, foundByName};
 ghost use Rattle.names.specs.Legible.{legible};
@@ -80,8 +81,8 @@ fn lower_of(holder: Holder, number: u16) -> Holder
 
 // The lowest transport number among the finished objects of the first count slots that have a name.
 // No number is lower than 0: once it is found, both loops are left at once.
-pub fn find(asked: &[u8], count: usize, slots: [Slot; 16], store: &[u8]) -> Holder
-    requires { ⌜ count ≤ 16 ⌝ }
+pub fn find(asked: &[u8], count: usize, slots: [Slot; slots::SLOTS_MOST], store: &[u8]) -> Holder
+    requires { ⌜ count ≤ slotsMost ⌝ }
     ensures { λ r. ⌜ r ≡ foundByName (now (asked .entry)) count slots (now (store .entry)) ⌝ }
 {
     let mut holder = Holder::Nobody;

@@ -16,11 +16,12 @@ ghost use Prim.Native.Nat.{_+_, _*_, _≤_, _<_};
 ghost use lib.Dec.{leb};
 ghost use lib.ListN.{length, take, drop, set};
 ghost use mathlib.Core.List.{[]};
+ghost use Rattle.cut.specs.Requirement.{headerMost};
 ghost use Rattle.cut.specs.Decision.{addPart};
 ghost use Rattle.cut.specs.Sums.{acceptsIn};
 ghost use Rattle.gathering.specs.Take.{takeInto};
 ghost use Rattle.slot.specs.Inner.{otherPart, Offered};
-ghost use Rattle.slots.specs.Stores.{noRecord, freeSlot, freshSlot, lentAt};
+ghost use Rattle.slots.specs.Stores.{slotsMost, slotMarks, noRecord, freeSlot, freshSlot, lentAt};
 ghost use Rattle.slots.specs.Find.{isFree, holds, findIn, freeIn};
 ghost use Rattle.slots.specs.Alone.{coreAlone, fitsAlone};
 ghost use Rattle.slots.specs.State.{withinLimits, rightBy, soundSlots};
@@ -28,9 +29,13 @@ ghost use Rattle.slots.specs.Keys.{keyOf, keysOf, unlikeKey, distinctKey
 ghost use Rattle.slots.specs.Show.{startOf, shownOf};
 ghost use Rattle.slots.specs.Take.{placedAt, among, takeAt, takeNew, dropAt, Inside, OfferedAt, OpenAt};
 
+// How many slots a collector may have.
+pub const SLOTS_LEAST: usize = 1;
+
 pub const SLOTS_MOST: usize = 16;
 
-pub const SLOT_MARKS: usize = 1088;
+// Marks of a slot: one for each number of the header and of the body.
+pub const SLOT_MARKS: usize = cut::HEADER_NUMBERS + cut::BODY_NUMBERS;
 
 // Where a slot is found, or that none is.
 pub enum Found {
@@ -61,8 +66,8 @@ pub fn free_slot() -> Slot
 }
 
 // All the slots, with another one in the place of slot i.
-fn with_slot(i: usize, slot: Slot, slots: [Slot; 16]) -> [Slot; 16]
-    requires { ⌜ i < 16 ⌝ }
+fn with_slot(i: usize, slot: Slot, slots: [Slot; SLOTS_MOST]) -> [Slot; SLOTS_MOST]
+    requires { ⌜ i < slotsMost ⌝ }
     ensures { λ r. ⌜ r ≡ set slots i slot ⌝ }
 {
     let mut all = slots;
@@ -103,7 +108,7 @@ fn holds(number: u16, slot: Slot) -> bool
 }
 
 // The lowest of the first count slots that holds a number.
-pub fn find(number: u16, count: usize, slots: [Slot; 16]) -> Found
+pub fn find(number: u16, count: usize, slots: [Slot; SLOTS_MOST]) -> Found
     ensures { λ r. ⌜ r ≡ findIn number count slots ⌝ }
 {
     let mut at = 0;
@@ -121,7 +126,7 @@ pub fn find(number: u16, count: usize, slots: [Slot; 16]) -> Found
 }
 
 // The lowest of the first count slots that is free.
-pub fn free(count: usize, slots: [Slot; 16]) -> Found
+pub fn free(count: usize, slots: [Slot; SLOTS_MOST]) -> Found
     ensures { λ r. ⌜ r ≡ freeIn count slots ⌝ }
 {
     let mut i = 0;
@@ -209,7 +214,7 @@ pub fn within_limits(limit: usize, count: usize, header: usize, body: usize, mar
     if cut::LIMIT_MOST < limit {
         return false;
     }
-    if count < 1 {
+    if count < SLOTS_LEAST {
         return false;
     }
     if SLOTS_MOST < count {
@@ -235,12 +240,12 @@ fn key_of(slot: Slot) -> u32
 }
 
 // The keys of all slots: a search among these copies 64 bytes, and not the slots.
-fn keys_of(slots: [Slot; 16]) -> [u32; 16]
+fn keys_of(slots: [Slot; SLOTS_MOST]) -> [u32; SLOTS_MOST]
     ensures { λ r. ⌜ r ≡ keysOf slots ⌝ }
 {
-    let mut keys: [u32; 16] = [0; 16];
+    let mut keys: [u32; SLOTS_MOST] = [0; SLOTS_MOST];
     let mut i = 0;
-    while i < 16 {
+    while i < SLOTS_MOST {
         let slot = slots[i];
         keys[i] = key_of(slot);
         i += 1;
@@ -249,8 +254,8 @@ fn keys_of(slots: [Slot; 16]) -> [u32; 16]
 }
 
 // Whether a key is 0, or none of the first count keys, from one on, is this one.
-fn is_unlike(key: u32, from: usize, count: usize, keys: [u32; 16]) -> bool
-    requires { ⌜ count ≤ 16 ⌝ }
+fn is_unlike(key: u32, from: usize, count: usize, keys: [u32; SLOTS_MOST]) -> bool
+    requires { ⌜ count ≤ slotsMost ⌝ }
     ensures { λ r. ⌜ r ≡ unlikeKey key (drop from (take count keys)) ⌝ }
 {
     if key == 0 {
@@ -267,8 +272,8 @@ fn is_unlike(key: u32, from: usize, count: usize, keys: [u32; 16]) -> bool
 }
 
 // Whether no two of the first count keys are one, but for 0.
-fn all_distinct(count: usize, keys: [u32; 16]) -> bool
-    requires { ⌜ count ≤ 16 ⌝ }
+fn all_distinct(count: usize, keys: [u32; SLOTS_MOST]) -> bool
+    requires { ⌜ count ≤ slotsMost ⌝ }
     ensures { λ r. ⌜ r ≡ distinctKeys (take count keys) ⌝ }
 {
     let mut i = 0;
@@ -283,8 +288,8 @@ fn all_distinct(count: usize, keys: [u32; 16]) -> bool
 
 // Whether a free slot has no mark set, or a held one is sound.
 fn right_at(limit: usize, i: usize, slot: Slot, header: &[u8], marks: &[u8]) -> bool
-    requires { ⌜ i * 1024 + 1024 ≤ length (now header) ⌝ }
-    requires { ⌜ i * 1088 + 1088 ≤ length (now marks) ⌝ }
+    requires { ⌜ i * headerMost + headerMost ≤ length (now header) ⌝ }
+    requires { ⌜ i * slotMarks + slotMarks ≤ length (now marks) ⌝ }
     ensures { λ r. ⌜ r ≡ rightBy limit i slot (now (header .entry)) (now (marks .entry)) ⌝ }
 {
     let first = i * SLOT_MARKS;
@@ -301,7 +306,7 @@ fn right_at(limit: usize, i: usize, slot: Slot, header: &[u8], marks: &[u8]) -> 
 pub fn sound(
     limit: usize,
     count: usize,
-    slots: [Slot; 16],
+    slots: [Slot; SLOTS_MOST],
     header: &[u8],
     body: &[u8],
     marks: &[u8],
@@ -328,12 +333,12 @@ pub fn sound(
 // What comes of a segment, and all the slots afterwards.
 pub struct TookAt {
     pub outcome: Outcome,
-    pub slots: [Slot; 16],
+    pub slots: [Slot; SLOTS_MOST],
 }
 
 // What a slot has taken, and the slot among the others.
-fn taken_at(i: usize, took: Took, slots: [Slot; 16]) -> TookAt
-    requires { ⌜ i < 16 ⌝ }
+fn taken_at(i: usize, took: Took, slots: [Slot; SLOTS_MOST]) -> TookAt
+    requires { ⌜ i < slotsMost ⌝ }
     ensures { λ r. ⌜ (r .outcome ≡ took .outcome) × (r .slots ≡ set slots i (took .slot)) ⌝ }
 {
     let outcome = took.outcome;
@@ -353,7 +358,7 @@ fn take_into(
     last: bool,
     number: usize,
     bytes: &[u8],
-    slots: [Slot; 16],
+    slots: [Slot; SLOTS_MOST],
     header: &mut [u8],
     body: &mut [u8],
     marks: &mut [u8],
@@ -390,7 +395,7 @@ pub fn take_at(
     last: bool,
     number: usize,
     bytes: &[u8],
-    slots: [Slot; 16],
+    slots: [Slot; SLOTS_MOST],
     header: &mut [u8],
     body: &mut [u8],
     marks: &mut [u8],
@@ -423,7 +428,7 @@ pub fn take_new(
     last: bool,
     number: usize,
     bytes: &[u8],
-    slots: [Slot; 16],
+    slots: [Slot; SLOTS_MOST],
     header: &mut [u8],
     body: &mut [u8],
     marks: &mut [u8],
@@ -448,8 +453,8 @@ pub fn take_new(
 }
 
 // Slot i is dropped: its marks are 0 and it is free; its store bytes stay.
-pub fn drop_at(i: usize, slots: [Slot; 16], marks: &mut [u8]) -> [Slot; 16]
-    requires { ⌜ (i < 16) × (i * 1088 + 1088 ≤ length (now marks)) ⌝ }
+pub fn drop_at(i: usize, slots: [Slot; SLOTS_MOST], marks: &mut [u8]) -> [Slot; SLOTS_MOST]
+    requires { ⌜ (i < slotsMost) × (i * slotMarks + slotMarks ≤ length (now marks)) ⌝ }
     ensures { λ r. ⌜ record { slots = r; marks = now (marks .exit) } ≡ dropAt i slots (now (marks .entry)) ⌝ }
 {
     let start = i * SLOT_MARKS;
