@@ -8,17 +8,22 @@ use counts::Counts;
 use cut::Record;
 use gathering::Slot;
 use gathering::Stage;
+use slots::SLOTS_MOST;
 ghost use mathlib.Core.Path.{_≡_};
 ghost use mathlib.Core.List.{_++_};
 ghost use Prim.Native.Nat.{_+_, _*_, _≤_};
 ghost use lib.ListN.{length, take};
+ghost use Rattle.slots.specs.Stores.{slotsMost};
 ghost use Rattle.words.specs.Layout.{stageTag, headerWord, bodyWord, five, slotWords, slotsWords, wordsOf, countWords, stageFrom, stageAt, numberFrom, recordAt, slotIn, slotsFrom, collectorFrom, countsFrom, slotReadable, readableFrom, readable};
 
-// Words of a state: the limit, the number of slots, and those of sixteen slots.
-pub const STATE: usize = 162;
+// Words before those of the slots: the limit and the number of slots.
+const BEFORE_SLOTS: usize = 2;
 
 // Words of a slot.
 pub const SLOT: usize = 10;
+
+// Words of a state: the limit, the number of slots, and those of all the slots.
+pub const STATE: usize = BEFORE_SLOTS + SLOTS_MOST * SLOT;
 
 // Words of the counts.
 pub const COUNTS: usize = 5;
@@ -131,7 +136,7 @@ fn all_readable(words: &[u64], count: usize) -> bool
     ensures { λ r. ⌜ r ≡ readableFrom (now (words .entry)) count 2 ⌝ }
 {
     let mut i = 0;
-    let mut at = 2;
+    let mut at = BEFORE_SLOTS;
     while i < count {
         if !slot_readable(words, at) {
             return false;
@@ -149,23 +154,23 @@ pub fn readable(words: &[u64]) -> bool
     if words.len() != STATE {
         return false;
     }
-    let count = words[1];
-    if 16 < count {
+    let count = words[1] as usize;
+    if SLOTS_MOST < count {
         return false;
     }
-    all_readable(words, count as usize)
+    all_readable(words, count)
 }
 
 // The slots that the words of a state hold.
-fn slots_from(words: &[u64]) -> [Slot; 16]
+fn slots_from(words: &[u64]) -> [Slot; SLOTS_MOST]
     requires { ⌜ length (now words) ≡ 162 ⌝ }
-    ensures { λ r. ⌜ r ≡ slotsFrom (now (words .entry)) 16 2 ⌝ }
+    ensures { λ r. ⌜ r ≡ slotsFrom (now (words .entry)) slotsMost 2 ⌝ }
 {
     let free = slots::free_slot();
-    let mut slots = [free; 16];
+    let mut slots = [free; SLOTS_MOST];
     let mut i = 0;
-    let mut at = 2;
-    while i < 16 {
+    let mut at = BEFORE_SLOTS;
+    while i < SLOTS_MOST {
         let slot = slot_at(words, at);
         slots[i] = slot;
         at += SLOT;
@@ -215,7 +220,7 @@ fn put_slot(words: &mut [u64], slot: Slot)
         header.size as u64,
     );
     put_five(
-        &mut words[5..10],
+        &mut words[5..SLOT],
         header.end as u64,
         header.tail as u64,
         body.size as u64,
@@ -224,13 +229,13 @@ fn put_slot(words: &mut [u64], slot: Slot)
     );
 }
 
-fn put_slots(words: &mut [u64], slots: [Slot; 16])
+fn put_slots(words: &mut [u64], slots: [Slot; SLOTS_MOST])
     requires { ⌜ length (now words) ≡ 162 ⌝ }
     ensures { λ r. ⌜ now (words .exit) ≡ take 2 (now (words .entry)) ++ slotsWords slots ⌝ }
 {
     let mut i = 0;
-    let mut at = 2;
-    while i < 16 {
+    let mut at = BEFORE_SLOTS;
+    while i < SLOTS_MOST {
         let end = at + SLOT;
         put_slot(&mut words[at..end], slots[i]);
         at = end;
