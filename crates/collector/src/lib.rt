@@ -1,7 +1,7 @@
 // The collector (document 01): several objects gathered at once, by value, over stores, marks and
-// counts that the caller lends. Its limits are the type's constants, and opening is a function of
-// the type. Every call, a question too, checks all that it is given before anything else, the counts
-// among it; what it answers and all that it leaves is one definition (specs/Calls.antt).
+// counts that the caller lends. Its limits are the type's constants (specs/Bounds.antt), and opening
+// is a function of the type. Every call, a question too, checks all that it is given before anything
+// else, the counts among it; what it answers and all that it leaves is one definition (specs/Calls.antt).
 use answer::Answer;
 use answer::Heard;
 use answer::Part;
@@ -20,13 +20,32 @@ ghost use Rattle.slots.specs.Find.{findIn};
 ghost use Rattle.slots.specs.Show.{shownOf};
 ghost use Rattle.slots.specs.State.{soundSlots};
 ghost use Rattle.slots.specs.Stores.{slotAt};
+ghost use Rattle.collector.specs.Bounds.{bounds};
 ghost use Rattle.collector.specs.Calls.{Answered, soundState, heardAs, answerAs, refusalOf, intoHeld, takeGroup, dropNumber, openedBy, locatedAs, locate, show};
 
 // A collector: the limit on a body, how many slots it has, and the slots.
 pub struct Collector {
     pub limit: usize,
     pub count: usize,
-    pub slots: [Slot; 16],
+    pub slots: [Slot; Collector::SLOTS_MOST],
+}
+
+// The bounds of the type.
+pub struct BoundingNumbers {
+    pub group_least: usize,
+    pub group_most: usize,
+    pub segment_least: usize,
+    pub segment_most: usize,
+    pub full_least: usize,
+    pub header_least: usize,
+    pub header_most: usize,
+    pub limit_least: usize,
+    pub limit_most: usize,
+    pub header_numbers: usize,
+    pub body_numbers: usize,
+    pub slots_least: usize,
+    pub slots_most: usize,
+    pub slot_marks: usize,
 }
 
 // Whether a collector is open, or why it is not.
@@ -108,36 +127,58 @@ fn refusal_of(reading: Reading) -> Refusal
 }
 
 impl Collector {
-    // Document 01, "Numbers that bound it".
-    pub const GROUP_LEAST: usize = 2;
+    // Document 01, "Numbers that bound it": each is the one that the crate below it goes by.
+    pub const GROUP_LEAST: usize = group::GROUP_LEAST;
 
-    pub const GROUP_MOST: usize = 8215;
+    pub const GROUP_MOST: usize = group::GROUP_MOST;
 
-    pub const SEGMENT_LEAST: usize = 1;
+    pub const SEGMENT_LEAST: usize = group::SEGMENT_LEAST;
 
-    pub const SEGMENT_MOST: usize = 8189;
+    pub const SEGMENT_MOST: usize = group::SEGMENT_MOST;
 
     // Of a segment that is not the last.
-    pub const FULL_LEAST: usize = 16;
+    pub const FULL_LEAST: usize = group::FULL_LEAST;
 
-    pub const HEADER_LEAST: usize = 7;
+    pub const HEADER_LEAST: usize = cut::HEADER_LEAST;
 
-    pub const HEADER_MOST: usize = 1024;
+    pub const HEADER_MOST: usize = cut::HEADER_MOST;
 
-    pub const LIMIT_LEAST: usize = 1024;
+    pub const LIMIT_LEAST: usize = cut::LIMIT_LEAST;
 
-    pub const LIMIT_MOST: usize = 1048576;
+    pub const LIMIT_MOST: usize = cut::LIMIT_MOST;
 
-    pub const HEADER_NUMBERS: usize = 64;
+    pub const HEADER_NUMBERS: usize = cut::HEADER_NUMBERS;
 
-    pub const BODY_NUMBERS: usize = 1024;
+    pub const BODY_NUMBERS: usize = cut::BODY_NUMBERS;
 
-    pub const SLOTS_LEAST: usize = 1;
+    pub const SLOTS_LEAST: usize = slots::SLOTS_LEAST;
 
-    pub const SLOTS_MOST: usize = 16;
+    pub const SLOTS_MOST: usize = slots::SLOTS_MOST;
 
     // Marks of a slot: one for each number of the header and of the body.
-    pub const SLOT_MARKS: usize = 1088;
+    pub const SLOT_MARKS: usize = slots::SLOT_MARKS;
+
+    // All of them: that they are the requirement's own is proved of this.
+    pub fn bounds() -> BoundingNumbers
+        ensures { λ r. ⌜ r ≡ bounds ⌝ }
+    {
+        BoundingNumbers {
+            group_least: Collector::GROUP_LEAST,
+            group_most: Collector::GROUP_MOST,
+            segment_least: Collector::SEGMENT_LEAST,
+            segment_most: Collector::SEGMENT_MOST,
+            full_least: Collector::FULL_LEAST,
+            header_least: Collector::HEADER_LEAST,
+            header_most: Collector::HEADER_MOST,
+            limit_least: Collector::LIMIT_LEAST,
+            limit_most: Collector::LIMIT_MOST,
+            header_numbers: Collector::HEADER_NUMBERS,
+            body_numbers: Collector::BODY_NUMBERS,
+            slots_least: Collector::SLOTS_LEAST,
+            slots_most: Collector::SLOTS_MOST,
+            slot_marks: Collector::SLOT_MARKS,
+        }
+    }
 
     // Opens a collector over lent memory, by value: all marks and counts are 0. Outside the bounds,
     // or with a wrong lent length, it answers LIMITS and nothing changes.
@@ -156,7 +197,7 @@ impl Collector {
             let none = Collector {
                 limit: 0,
                 count: 0,
-                slots: [free; 16],
+                slots: [free; Collector::SLOTS_MOST],
             };
             let opened = Opened {
                 opening: Opening::Refused(Answer::Limits),
@@ -168,7 +209,7 @@ impl Collector {
         let fresh = Collector {
             limit,
             count,
-            slots: [free; 16],
+            slots: [free; Collector::SLOTS_MOST],
         };
         let opened = Opened {
             opening: Opening::Open,
@@ -209,7 +250,7 @@ impl Collector {
         let Found::At(i) = slots::find(number, self.count, slots) else {
             return Located::Refused(Answer::NotHeld);
         };
-        if 16 <= i {
+        if Collector::SLOTS_MOST <= i {
             return Located::Refused(Answer::NotHeld);
         }
         let slot = slots[i];
@@ -221,7 +262,7 @@ impl Collector {
     pub fn shown_at<'a>(self, part: Part, i: usize, header: &'a [u8], body: &'a [u8]) -> &'a [u8]
         ensures { λ r. ⌜ now r ≡ shownOf part i (self .limit) (slotAt i (self .slots)) (now (header .entry)) (now (body .entry)) ⌝ }
     {
-        if 16 <= i {
+        if Collector::SLOTS_MOST <= i {
             return &header[..0];
         }
         let slots = self.slots;
