@@ -61,6 +61,11 @@ pub struct Name {
     pub length: usize,
 }
 
+// The numbers of the two answers that can be given before there is a collector.
+pub const LIMITS: u8 = 25;
+
+pub const STATE: u8 = 26;
+
 fn refusal_number(refusal: Refusal) -> u8
     ensures { λ r. ⌜ r ≡ numberOf (Answer.Refused refusal) ⌝ }
 {
@@ -93,8 +98,8 @@ pub fn number_of(answer: Answer) -> u8
         Answer::Duplicate => 22,
         Answer::Core => 23,
         Answer::NotFound => 24,
-        Answer::Limits => 25,
-        Answer::State => 26,
+        Answer::Limits => LIMITS,
+        Answer::State => STATE,
     }
 }
 

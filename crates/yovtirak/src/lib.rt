@@ -25,6 +25,11 @@ ghost use Rattle.slots.specs.Stores.{slotAt};
 ghost use Rattle.words.specs.Layout.{wordsOf, countWords};
 ghost use Rattle.yovtirak.specs.Exports.{openingWord, isOpen, openCall, partWord, heardWord, returnedWord, answerWord, changes, takeCall, dropCall, refusedWord, placeWords, finishedCall, priorityWord, nameStart, nameLength, fieldWords, unreadWord, readCall, soughtWord, findCall};
 
+// The answers that are given of wrong words, before there is a collector.
+const LIMITS: u64 = answer::LIMITS as u64;
+
+const STATE: u64 = answer::STATE as u64;
+
 fn part_word(part: Part) -> u64
     ensures { λ r. ⌜ r ≡ partWord part ⌝ }
 {
@@ -161,11 +166,11 @@ pub extern "C" fn yovtirak_open(
 ) -> u64
     ensures { λ r. ⌜ record { result = r; state = now (state .exit); counts = now (counts .exit); stores = record { header = now (header .entry); body = now (body .entry); marks = now (marks .exit) } } ≡ openCall limit slots (now (state .entry)) (now (counts .entry)) (record { header = now (header .entry); body = now (body .entry); marks = now (marks .entry) }) ⌝ }
 {
-    if state.len() != 162 {
-        return 25;
+    if state.len() != words::STATE {
+        return LIMITS;
     }
-    if counts.len() != 5 {
-        return 25;
+    if counts.len() != words::COUNTS {
+        return LIMITS;
     }
     let before = words::counts_from(counts);
     let opened = Collector::opened(limit, slots, before, header, body, marks);
@@ -189,11 +194,11 @@ pub extern "C" fn yovtirak_take(
 ) -> u64
     ensures { λ r. ⌜ record { result = r; state = now (state .exit); counts = now (counts .exit); stores = record { header = now (header .exit); body = now (body .exit); marks = now (marks .exit) } } ≡ takeCall (now (group .entry)) (now (state .entry)) (now (counts .entry)) (record { header = now (header .entry); body = now (body .entry); marks = now (marks .entry) }) ⌝ }
 {
-    if counts.len() != 5 {
-        return 26;
+    if counts.len() != words::COUNTS {
+        return STATE;
     }
     if !words::readable(state) {
-        return 26;
+        return STATE;
     }
     let collector = words::collector_from(state);
     let before = words::counts_from(counts);
@@ -213,11 +218,11 @@ pub extern "C" fn yovtirak_drop(
 ) -> u64
     ensures { λ r. ⌜ record { result = r; state = now (state .exit); counts = now (counts .exit); stores = record { header = now (header .entry); body = now (body .entry); marks = now (marks .exit) } } ≡ dropCall number (now (state .entry)) (now (counts .entry)) (record { header = now (header .entry); body = now (body .entry); marks = now (marks .entry) }) ⌝ }
 {
-    if counts.len() != 5 {
-        return 26;
+    if counts.len() != words::COUNTS {
+        return STATE;
     }
     if !words::readable(state) {
-        return 26;
+        return STATE;
     }
     let collector = words::collector_from(state);
     let before = words::counts_from(counts);
@@ -225,10 +230,10 @@ pub extern "C" fn yovtirak_drop(
     leave(state, counts, after)
 }
 
-fn stage_at(slots: [Slot; 16], i: usize) -> Stage
+fn stage_at(slots: [Slot; Collector::SLOTS_MOST], i: usize) -> Stage
     ensures { λ r. ⌜ r ≡ slotAt i slots .stage ⌝ }
 {
-    if 16 <= i {
+    if Collector::SLOTS_MOST <= i {
         return Stage::Free;
     }
     let slot = slots[i];
@@ -259,13 +264,13 @@ pub extern "C" fn yovtirak_finished(
     ensures { λ r. ⌜ record { result = r; told = now (place .exit) } ≡ finishedCall number (now (state .entry)) (now (counts .entry)) (record { header = now (header .entry); body = now (body .entry); marks = now (marks .entry) }) (now (place .entry)) ⌝ }
 {
     if place.len() != 3 {
-        return 26;
+        return STATE;
     }
-    if counts.len() != 5 {
-        return 26;
+    if counts.len() != words::COUNTS {
+        return STATE;
     }
     if !words::readable(state) {
-        return 26;
+        return STATE;
     }
     let collector = words::collector_from(state);
     let located = collector.locate(words::counts_from(counts), number, header, body, marks);
@@ -342,13 +347,13 @@ pub extern "C" fn yovtirak_read<'a>(
     ensures { λ r. ⌜ record { result = r; told = now (told .exit) } ≡ readCall number (now (state .entry)) (now (counts .entry)) (record { header = now (header .entry); body = now (body .entry); marks = now (marks .entry) }) (now (told .entry)) ⌝ }
 {
     if told.len() != 7 {
-        return 26;
+        return STATE;
     }
-    if counts.len() != 5 {
-        return 26;
+    if counts.len() != words::COUNTS {
+        return STATE;
     }
     if !words::readable(state) {
-        return 26;
+        return STATE;
     }
     let collector = words::collector_from(state);
     let asked = questions::parameters(
@@ -387,11 +392,11 @@ pub extern "C" fn yovtirak_find(
 ) -> u64
     ensures { λ r. ⌜ r ≡ findCall (now (name .entry)) (now (state .entry)) (now (counts .entry)) (record { header = now (header .entry); body = now (body .entry); marks = now (marks .entry) }) ⌝ }
 {
-    if counts.len() != 5 {
-        return 26;
+    if counts.len() != words::COUNTS {
+        return STATE;
     }
     if !words::readable(state) {
-        return 26;
+        return STATE;
     }
     let collector = words::collector_from(state);
     sought_word(questions::find(
