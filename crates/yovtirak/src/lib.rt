@@ -273,7 +273,8 @@ pub extern "C" fn yovtirak_finished(
         return STATE;
     }
     let collector = words::collector_from(state);
-    let located = collector.locate(words::counts_from(counts), number, header, body, marks);
+    let counted = words::counts_from(counts);
+    let located = collector.locate(counted, number, header, body, marks);
     let Located::At(i) = located else {
         return refused_word(located);
     };
@@ -356,14 +357,8 @@ pub extern "C" fn yovtirak_read<'a>(
         return STATE;
     }
     let collector = words::collector_from(state);
-    let asked = questions::parameters(
-        collector,
-        words::counts_from(counts),
-        number,
-        header,
-        body,
-        marks,
-    );
+    let counted = words::counts_from(counts);
+    let asked = questions::parameters(collector, counted, number, header, body, marks);
     let Asked::Fields(fields) = asked else {
         return unread_word(asked);
     };
@@ -399,12 +394,6 @@ pub extern "C" fn yovtirak_find(
         return STATE;
     }
     let collector = words::collector_from(state);
-    sought_word(questions::find(
-        collector,
-        words::counts_from(counts),
-        name,
-        header,
-        body,
-        marks,
-    ))
+    let counted = words::counts_from(counts);
+    sought_word(questions::find(collector, counted, name, header, body, marks))
 }
