@@ -46,6 +46,20 @@ pub struct Counts {
 }
 
 impl Counts {
+    /// The counts that words hold, if there are five of them.
+    pub fn of(words: &[u32]) -> Option<Counts> {
+        let &[taken, repeated, refused, completed, dropped] = words else {
+            return None;
+        };
+        Some(Counts {
+            taken,
+            repeated,
+            refused,
+            completed,
+            dropped,
+        })
+    }
+
     /// In the order in which the listing prints them.
     pub fn in_order(&self) -> [u32; 5] {
         [

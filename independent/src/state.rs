@@ -5,12 +5,14 @@
 //! transport number, the stage and, for each part, the segment size where it is known, the last
 //! segment's number and its length. The marked segments are read back from these and the stores;
 //! a sound state is one whose segments fit an object and a cut and give just these numbers again.
+//! `Handed` answers every call on a state from outside, questions too: STATE comes before all else.
 
-use crate::answer::Answer;
+use crate::answer::{Answer, Reply};
 use crate::collector::{
     Collector, Counts, Held, Memory, Stage, HEADER_SHARE, MARKS_SHARE, MOST_COUNTED, SLOTS,
 };
 use crate::group::Part;
+use crate::header::Reading;
 use crate::object::{self, Piece, BODY_LIMITS, HEADER_SEGMENTS};
 
 /// What is kept of one part; 0 stands for what isn't known.
@@ -111,6 +113,58 @@ impl State {
             && object::fits(self.limit, &held.header, &held.body)
             && record_of(&held) == *record;
         sound.then_some(Some(held))
+    }
+}
+
+/// A state, stores, marks and counts that are handed in with every call.
+pub struct Handed(Result<Collector, Answer>);
+
+impl Handed {
+    /// Any state, if the words that were lent hold one, and any number of counts.
+    pub fn of(state: Option<&State>, memory: &Memory, counts: &[u32]) -> Handed {
+        let whole = state.zip(Counts::of(counts)).ok_or(Answer::State);
+        Handed(whole.and_then(|(state, counts)| state.resume(memory.clone(), counts)))
+    }
+
+    /// The collector that goes on from it, if it is sound.
+    pub fn collector(&self) -> Option<&Collector> {
+        self.0.as_ref().ok()
+    }
+
+    pub fn take(&mut self, group: &[u8]) -> Reply {
+        match &mut self.0 {
+            Ok(collector) => collector.take(group),
+            Err(answer) => Reply::bare(*answer),
+        }
+    }
+
+    pub fn drop_number(&mut self, transport: u16) -> Reply {
+        match &mut self.0 {
+            Ok(collector) => collector.drop_number(transport),
+            Err(answer) => Reply::bare(*answer),
+        }
+    }
+
+    pub fn show(&self, transport: u16, part: Part) -> Result<&[u8], Answer> {
+        self.sound()?.show(transport, part)
+    }
+
+    pub fn read_header(&self, transport: u16) -> Result<Reading, Answer> {
+        self.sound()?.read_header(transport)
+    }
+
+    pub fn find(&self, name: &[u8]) -> Result<u16, Answer> {
+        self.sound()?.find(name)
+    }
+
+    fn sound(&self) -> Result<&Collector, Answer> {
+        self.0.as_ref().map_err(|answer| *answer)
+    }
+}
+
+impl From<Collector> for Handed {
+    fn from(collector: Collector) -> Handed {
+        Handed(Ok(collector))
     }
 }
 
@@ -261,6 +315,49 @@ mod tests {
             }
         }));
         assert!(damaged(|_, _, counts| counts.dropped = 2_147_483_648));
+    }
+
+    /// Every call is answered with STATE, whatever is damaged: a count, or how many there are, too.
+    #[test]
+    fn a_damaged_state_to_every_call() {
+        let collector = example();
+        let state = State::of(&collector);
+        let sound = collector.counts.in_order();
+        let answers = |mut handed: Handed| {
+            let number = 5;
+            [
+                handed.show(number, Part::Header).err(),
+                handed.show(number, Part::Body).err(),
+                handed.read_header(number).err(),
+                handed.find(b"a").err(),
+                Some(handed.take(&[]).answer),
+                Some(handed.drop_number(number).answer),
+            ]
+        };
+        let asked = |state, counts: &[u32]| answers(Handed::of(state, &collector.memory, counts));
+        let found = [
+            None,
+            None,
+            None,
+            Some(Answer::NotFound),
+            Some(Answer::Length),
+            Some(Answer::Dropped),
+        ];
+        assert_eq!(asked(Some(&state), &sound), found);
+        let damaged = [Some(Answer::State); 6];
+        assert_eq!(asked(None, &sound), damaged);
+        assert_eq!(asked(Some(&state), &sound[..4]), damaged);
+        assert_eq!(asked(Some(&state), &[&sound[..], &[0]].concat()), damaged);
+        for count in 0..sound.len() {
+            let mut counts = sound;
+            counts[count] = 2_147_483_647;
+            assert_eq!(asked(Some(&state), &counts), found);
+            counts[count] = 2_147_483_648;
+            assert_eq!(asked(Some(&state), &counts), damaged);
+        }
+        let mut other = state.clone();
+        other.slots[1].transport = state.slots[0].transport;
+        assert_eq!(asked(Some(&other), &sound), damaged);
     }
 
     /// What plays no part, and damage that only turns one sound state into another.
