@@ -9,7 +9,9 @@ use independent::collector::{Collector, Counts, Memory, MOST_COUNTED};
 use independent::group::Part;
 use independent::random::histories::{calls, Call};
 use independent::random::Random;
+use independent::state::Handed;
 use std::collections::BTreeMap;
+use yovtirak::lent::{COUNTS, STATE_WORDS};
 
 const SEED: u64 = 300_401;
 const HISTORIES: u64 = 2_000;
@@ -48,30 +50,27 @@ fn told(tally: &mut Tally, what: &'static str) -> Result<(), String> {
 /// One call of both.
 pub fn call(
     lent: &mut Lent,
-    collector: &mut Collector,
+    handed: &mut Handed,
     call: &Call,
     tally: &mut Tally,
 ) -> Result<(), String> {
     let answer = match call {
         Call::Take(group) => {
-            let (ours, theirs) = (lent.take(group), collector.take(group));
+            let (ours, theirs) = (lent.take(group), handed.take(group));
             if ours != theirs {
                 return Err(differ("a group", ours, theirs));
             }
             theirs.answer
         }
         Call::Drop(transport) => {
-            let (ours, theirs) = (lent.drop(*transport), collector.drop_number(*transport));
+            let (ours, theirs) = (lent.drop(*transport), handed.drop_number(*transport));
             if ours != theirs {
                 return Err(differ("a drop", ours, theirs));
             }
             theirs.answer
         }
         Call::Show(transport, part) => {
-            let (ours, theirs) = (
-                lent.show(*transport, *part),
-                collector.show(*transport, *part),
-            );
+            let (ours, theirs) = (lent.show(*transport, *part), handed.show(*transport, *part));
             if ours != theirs {
                 return Err(differ("a shown part", ours, theirs));
             }
@@ -81,7 +80,7 @@ pub fn call(
             }
         }
         Call::ReadHeader(transport) => {
-            let (ours, theirs) = (lent.read(*transport), collector.read_header(*transport));
+            let (ours, theirs) = (lent.read(*transport), handed.read_header(*transport));
             if ours != theirs {
                 return Err(differ("a header", ours, theirs));
             }
@@ -91,7 +90,7 @@ pub fn call(
             }
         }
         Call::Find(name) => {
-            let (ours, theirs) = (lent.find(name), collector.find(name));
+            let (ours, theirs) = (lent.find(name), handed.find(name));
             if ours != theirs {
                 return Err(differ("a name", ours, theirs));
             }
@@ -130,23 +129,33 @@ pub fn same(lent: &Lent, collector: &Collector, with_stores: bool) -> Result<(),
     Ok(())
 }
 
+fn collector_of(handed: &Handed) -> &Collector {
+    handed
+        .collector()
+        .expect("a state that calls lead to is sound")
+}
+
 fn history(random: &mut Random, tally: &mut Tally) -> Result<(), String> {
     let limit = random.one_of(&LIMITS);
     let slots = random.within(1, 16);
-    let memory = Memory::filled(limit, slots, random.byte());
-    let mut lent = Lent::open(limit, slots, memory.clone()).map_err(|why| format!("{why:?}"))?;
+    let before = random.byte();
+    let memory = Memory::filled(limit, slots, before);
+    let opened = Lent::unopened(memory.clone(), before).open(limit, slots);
+    let mut lent = opened.map_err(|why| format!("{why:?}"))?;
     let mut collector = Collector::open(limit, slots, memory).map_err(|why| format!("{why:?}"))?;
+    same(&lent, &collector, true)?;
     if random.once_in(5) {
         collector.counts = counts_near_the_most(random);
         lent.counts = collector.counts.in_order().to_vec();
     }
+    let mut handed = Handed::from(collector);
     let small = slots * (limit + 1_024) <= SMALL;
     for (number, each) in calls(random, limit, slots, CALLS).iter().enumerate() {
-        call(&mut lent, &mut collector, each, tally)
-            .and_then(|()| same(&lent, &collector, small))
+        call(&mut lent, &mut handed, each, tally)
+            .and_then(|()| same(&lent, collector_of(&handed), small))
             .map_err(|said| format!("limit {limit}, {slots} slots, call {number}: {said}"))?;
     }
-    same(&lent, &collector, true)
+    same(&lent, collector_of(&handed), true)
 }
 
 /// Openings in and out of the bounds, with right and wrong lent lengths: both open or answer LIMITS.
@@ -156,15 +165,24 @@ fn openings() -> Result<usize, String> {
     for _ in 0..2_000 {
         let limit = random.one_of(&[0, 1_023, 1_024, 2_048, 1_048_577, usize::MAX]);
         let slots = random.within(0, 17);
-        let mut memory = Memory::filled(limit.min(2_048), slots, random.byte());
-        match random.within(0, 5) {
-            0 => memory.header_store.push(0),
-            1 => memory.body_store.push(0),
-            2 => memory.marks.push(0),
+        let before = random.byte();
+        let memory = Memory::filled(limit.min(2_048), slots, before);
+        let mut lent = Lent::unopened(memory, before);
+        match random.within(0, 9) {
+            0 => lent.memory.header_store.push(0),
+            1 => lent.memory.body_store.push(0),
+            2 => lent.memory.marks.push(0),
+            3 => lent.state.push(0),
+            4 => lent.counts.truncate(4),
             _ => (),
         }
-        let ours = Lent::open(limit, slots, memory.clone()).map(|lent| lent.memory);
-        let theirs = Collector::open(limit, slots, memory).map(|collector| collector.memory);
+        let right = lent.state.len() == STATE_WORDS && lent.counts.len() == COUNTS;
+        let memory = lent.memory.clone();
+        let ours = lent.open(limit, slots).map(|lent| lent.memory);
+        let theirs = match Collector::open(limit, slots, memory) {
+            Ok(collector) if right => Ok(collector.memory),
+            _ => Err(Answer::Limits),
+        };
         if ours != theirs {
             return Err(format!(
                 "an opening with limit {limit} and {slots} slots differs"

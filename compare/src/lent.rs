@@ -8,6 +8,9 @@ use independent::object::Core;
 use independent::state::{PartRecord, StageRecord, State};
 use yovtirak::lent::{self, COUNTS, FIELD_WORDS, PLACE_WORDS, STATE_WORDS};
 
+/// In the words of a question before it is asked: a refusal must leave it there.
+pub const UNTOLD: u64 = 0x5A5A_5A5A_5A5A_5A5A;
+
 pub struct Lent {
     pub state: Vec<u64>,
     pub counts: Vec<u32>,
@@ -40,26 +43,37 @@ fn reply_of(word: u64) -> Reply {
 }
 
 impl Lent {
-    pub fn open(limit: usize, slots: usize, mut memory: Memory) -> Result<Lent, Answer> {
-        let mut state = vec![0; STATE_WORDS];
-        let mut counts = vec![0; COUNTS];
+    /// Memory, and words of the state and counts that are each made of this byte.
+    pub fn unopened(memory: Memory, byte: u8) -> Lent {
+        Lent {
+            state: vec![u64::from_ne_bytes([byte; 8]); STATE_WORDS],
+            counts: vec![u32::from_ne_bytes([byte; 4]); COUNTS],
+            memory,
+        }
+    }
+
+    /// Opens a collector; a refusal must change nothing.
+    pub fn open(mut self, limit: usize, slots: usize) -> Result<Lent, Answer> {
+        let before = (
+            self.state.clone(),
+            self.counts.clone(),
+            self.memory.marks.clone(),
+        );
         let said = lent::open(
             limit,
             slots,
-            &mut state,
-            &mut counts,
-            &memory.header_store,
-            &memory.body_store,
-            &mut memory.marks,
+            &mut self.state,
+            &mut self.counts,
+            &self.memory.header_store,
+            &self.memory.body_store,
+            &mut self.memory.marks,
         );
         if said != 0 {
+            let after = (self.state, self.counts, self.memory.marks);
+            assert_eq!(after, before, "a refused opening changes something");
             return Err(answer_of(said));
         }
-        Ok(Lent {
-            state,
-            counts,
-            memory,
-        })
+        Ok(self)
     }
 
     pub fn take(&mut self, group: &[u8]) -> Reply {
@@ -84,17 +98,24 @@ impl Lent {
         ))
     }
 
-    pub fn show(&self, transport: u16, part: Part) -> Result<&[u8], Answer> {
-        let mut place = [0; PLACE_WORDS];
-        let said = lent::finished(
+    /// Where a finished object is, told in words of any number.
+    pub fn finished(&self, transport: u16, place: &mut [u64]) -> u64 {
+        lent::finished(
             &self.state,
+            &self.counts,
             transport,
             &self.memory.header_store,
             &self.memory.body_store,
             &self.memory.marks,
-            &mut place,
-        );
+            place,
+        )
+    }
+
+    pub fn show(&self, transport: u16, part: Part) -> Result<&[u8], Answer> {
+        let mut place = [UNTOLD; PLACE_WORDS];
+        let said = self.finished(transport, &mut place);
         if said != 0 {
+            assert_eq!(place, [UNTOLD; PLACE_WORDS], "a refusal tells a place");
             return Err(answer_of(said));
         }
         let [slot, header, body] = place.map(|word| word as usize);
@@ -104,18 +125,24 @@ impl Lent {
         })
     }
 
-    /// What a finished object's header says.
-    pub fn read(&self, transport: u16) -> Result<Reading, Answer> {
-        let mut told = [0; FIELD_WORDS];
-        let said = lent::read(
+    /// What a finished object's header says, told in words of any number.
+    pub fn parameters(&self, transport: u16, told: &mut [u64]) -> u64 {
+        lent::read(
             &self.state,
+            &self.counts,
             transport,
             &self.memory.header_store,
             &self.memory.body_store,
             &self.memory.marks,
-            &mut told,
-        );
+            told,
+        )
+    }
+
+    pub fn read(&self, transport: u16) -> Result<Reading, Answer> {
+        let mut told = [UNTOLD; FIELD_WORDS];
+        let said = self.parameters(transport, &mut told);
         if said != 0 {
+            assert_eq!(told, [UNTOLD; FIELD_WORDS], "a refusal tells parameters");
             return Err(answer_of(said));
         }
         let [body_size, header_size, content_type, content_sub_type, priority, start, length] =
@@ -135,6 +162,7 @@ impl Lent {
     pub fn find(&self, name: &[u8]) -> Result<u16, Answer> {
         let said = lent::find(
             &self.state,
+            &self.counts,
             name,
             &self.memory.header_store,
             &self.memory.body_store,

@@ -44,8 +44,10 @@ fn header(random: &mut Random) -> Vec<u8> {
 /// order is not that of the numbers.
 fn filled(random: &mut Random) -> Result<(Lent, Collector), String> {
     let slots = random.within(2, 16);
-    let memory = Memory::filled(LIMIT, slots, random.byte());
-    let mut lent = Lent::open(LIMIT, slots, memory.clone()).map_err(|why| format!("{why:?}"))?;
+    let before = random.byte();
+    let memory = Memory::filled(LIMIT, slots, before);
+    let opened = Lent::unopened(memory.clone(), before).open(LIMIT, slots);
+    let mut lent = opened.map_err(|why| format!("{why:?}"))?;
     let mut collector = Collector::open(LIMIT, slots, memory).map_err(|why| format!("{why:?}"))?;
     for _ in 0..slots + slots / 2 {
         let transport = random.within(0, 2 * slots) as u16;

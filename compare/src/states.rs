@@ -4,14 +4,15 @@
 //! calls from it, as if its marked segments had been stored; where it is damaged nothing may change.
 
 use crate::collectors::{call, same, Tally};
-use crate::lent::{state_of, words, Lent};
+use crate::lent::{state_of, words, Lent, UNTOLD};
 use independent::answer::{Answer, Reply};
 use independent::collector::{Collector, Counts, Memory, MOST_COUNTED};
 use independent::group::{Fields, Part};
 use independent::object::Core;
 use independent::random::histories::{calls, Call};
-use independent::random::{damage, Random};
-use independent::state::{StageRecord, State};
+use independent::random::{damage, headers, Random};
+use independent::state::{Handed, StageRecord, State};
+use yovtirak::lent::{FIELD_WORDS, PLACE_WORDS};
 
 const SEED: u64 = 301_234_000;
 const HISTORIES: u64 = 500;
@@ -23,6 +24,7 @@ const AFTER: usize = 6;
 struct Seen {
     sound: usize,
     damaged: usize,
+    asked: usize,
     words: usize,
     each: usize,
 }
@@ -56,12 +58,22 @@ fn lent_of(state: &State, memory: &Memory, counts: &Counts) -> Lent {
     }
 }
 
-/// STATE, and not a byte, a mark, a word or a count is another one.
+/// Every call on a state that is damaged: STATE, and not a byte, a mark, a word or a count is another
+/// one, nor a word of what a question would tell.
 fn refused(lent: &mut Lent) -> Result<(), String> {
     let before = (lent.state.clone(), lent.counts.clone(), lent.memory.clone());
     let said = [lent.take(&[]), lent.drop(5)];
     if said != [Reply::bare(Answer::State); 2] {
         return Err(format!("{said:?}, not STATE"));
+    }
+    let asked = [
+        lent.show(5, Part::Header).err(),
+        lent.show(5, Part::Body).err(),
+        lent.read(5).err(),
+        lent.find(b"a").err(),
+    ];
+    if asked != [Some(Answer::State); 4] {
+        return Err(format!("{asked:?}, not STATE, to questions"));
     }
     if before.0 != lent.state || before.1 != lent.counts || before.2 != lent.memory {
         return Err("STATE changed something".to_string());
@@ -69,7 +81,7 @@ fn refused(lent: &mut Lent) -> Result<(), String> {
     Ok(())
 }
 
-/// One thing changed, and both verdicts.
+/// One thing changed, and both verdicts, to questions first and then to calls of any kind.
 fn one_damage(
     random: &mut Random,
     collector: &Collector,
@@ -81,19 +93,46 @@ fn one_damage(
     let mut counts = collector.counts;
     damage::one_thing(random, &mut state, &mut memory, &mut counts);
     let mut lent = lent_of(&state, &memory, &counts);
-    match state.resume(memory, counts) {
-        Err(_) => {
+    let mut handed = Handed::of(Some(&state), &memory, &counts.in_order());
+    for question in questions(random, collector) {
+        call(&mut lent, &mut handed, &question, tally)?;
+        seen.asked += 1;
+    }
+    for each in calls(random, collector.limit(), collector.slots().len(), AFTER) {
+        call(&mut lent, &mut handed, &each, tally)?;
+    }
+    match handed.collector() {
+        None => {
             seen.damaged += 1;
+            if lent.state != words(&state) || lent.counts != counts.in_order() {
+                return Err("STATE changed a word or a count".to_string());
+            }
+            if lent.memory != memory {
+                return Err("STATE changed a byte".to_string());
+            }
             refused(&mut lent)
         }
-        Ok(mut resumed) => {
+        Some(resumed) => {
             seen.sound += 1;
-            for each in calls(random, state.limit, state.count, AFTER) {
-                call(&mut lent, &mut resumed, &each, tally)?;
-            }
-            same_after(&lent, &resumed, &state)
+            same_after(&lent, resumed, &state)
         }
     }
+}
+
+/// All questions about a number that was held, finished or not, or about any; and a name.
+fn questions(random: &mut Random, collector: &Collector) -> Vec<Call> {
+    let held: Vec<_> = collector.slots().iter().flatten().collect();
+    let transport = if held.is_empty() || random.once_in(5) {
+        random.word() as u16
+    } else {
+        held[random.within(0, held.len() - 1)].transport
+    };
+    vec![
+        Call::Show(transport, Part::Header),
+        Call::Show(transport, Part::Body),
+        Call::ReadHeader(transport),
+        Call::Find(headers::name(random)),
+    ]
 }
 
 /// Both went on alike. A free slot's leftovers play no part, so the records are compared by what the
@@ -120,7 +159,7 @@ fn one_word(random: &mut Random, collector: &Collector, seen: &mut Seen) -> Resu
     let mut lent = lent_of(&state, &collector.memory, &collector.counts);
     let slot = random.within(0, 15);
     let held = slot < state.count && state.slots[slot].stage != StageRecord::Free;
-    let damaged = match random.within(0, 3) {
+    let damaged = match random.within(0, 5) {
         0 => {
             lent.state[2 + 10 * slot] += 65_536 << random.within(0, 40);
             held
@@ -133,6 +172,14 @@ fn one_word(random: &mut Random, collector: &Collector, seen: &mut Seen) -> Resu
             lent.state.push(0);
             true
         }
+        3 => {
+            lent.state.pop();
+            true
+        }
+        4 => {
+            lent.counts.push(0);
+            true
+        }
         _ => {
             lent.counts.pop();
             true
@@ -142,6 +189,15 @@ fn one_word(random: &mut Random, collector: &Collector, seen: &mut Seen) -> Resu
     if damaged {
         return refused(&mut lent);
     }
+    for held in collector.slots().iter().flatten() {
+        let transport = held.transport;
+        let shown = [Part::Header, Part::Body].map(|part| collector.show(transport, part));
+        let alike = [Part::Header, Part::Body].map(|part| lent.show(transport, part)) == shown
+            && lent.read(transport) == collector.read_header(transport);
+        if !alike {
+            return Err(format!("{transport:04x} by a word that plays no part"));
+        }
+    }
     match lent.take(&[]) {
         said if said == Reply::bare(Answer::Length) => Ok(()),
         said => Err(format!(
@@ -150,7 +206,7 @@ fn one_word(random: &mut Random, collector: &Collector, seen: &mut Seen) -> Resu
     }
 }
 
-/// A collector of two slots: 5 finished, 9 with a last body segment whose place isn't known, and a
+/// A collector of two slots: 5 finished and named `a`, 9 with a last body segment whose place isn't known, and a
 /// header segment that is not the last.
 fn two_slots() -> Collector {
     let limit = 1_024;
@@ -165,9 +221,10 @@ fn two_slots() -> Collector {
         };
         core.bytes().to_vec()
     };
+    let named = [core(20, 11), vec![0xCC, 2, 0x40, b'a']].concat();
     let longer = [core(130, 20), vec![0x4A, 5, 0, 0, 0, 0, 0, 0, 0]].concat();
     for (transport, part, number, last, bytes) in [
-        (5, Part::Header, 0, true, core(20, 7)),
+        (5, Part::Header, 0, true, named),
         (5, Part::Body, 0, false, vec![1; 16]),
         (5, Part::Body, 1, true, vec![2; 4]),
         (9, Part::Body, 3, true, vec![3; 10]),
@@ -179,27 +236,53 @@ fn two_slots() -> Collector {
     collector
 }
 
-/// The independent verdict on words, and the proved one.
+/// The independent verdict on words, and the proved one, to questions and to a group.
 fn verdict(lent: &mut Lent, seen: &mut Seen) -> Result<(), String> {
-    let sound = state_of(&lent.state).is_some_and(|state| {
-        let [taken, repeated, refused, completed, dropped] = lent.counts[..] else {
-            return false;
-        };
-        let counts = Counts {
-            taken,
-            repeated,
-            refused,
-            completed,
-            dropped,
-        };
-        state.resume(lent.memory.clone(), counts).is_ok()
-    });
-    seen.each += 1;
-    match lent.take(&[]).answer {
-        Answer::Length if sound => Ok(()),
-        Answer::State if !sound => Ok(()),
-        said => Err(format!("{said:?} where the state is sound: {sound}")),
+    let state = state_of(&lent.state);
+    let mut handed = Handed::of(state.as_ref(), &lent.memory, &lent.counts);
+    for transport in [5, 9] {
+        for part in [Part::Header, Part::Body] {
+            if lent.show(transport, part) != handed.show(transport, part) {
+                return Err(format!("{part:?} of {transport} differs"));
+            }
+        }
+        if lent.read(transport) != handed.read_header(transport) {
+            return Err(format!("what the header of {transport} says differs"));
+        }
     }
+    let (ours, theirs) = (lent.find(b"a"), handed.find(b"a"));
+    if ours != theirs {
+        return Err(format!("a name: {ours:?}, not {theirs:?}"));
+    }
+    seen.each += 1;
+    let (ours, theirs) = (lent.take(&[]), handed.take(&[]));
+    if ours != theirs {
+        return Err(format!("{ours:?}, not {theirs:?}"));
+    }
+    Ok(())
+}
+
+/// Words of the wrong number to tell something in: STATE, and nothing is told.
+fn told_elsewhere() -> Result<usize, String> {
+    let collector = two_slots();
+    let lent = lent_of(&State::of(&collector), &collector.memory, &collector.counts);
+    let lengths = 0..12;
+    for length in lengths.clone() {
+        let (mut place, mut told) = (vec![UNTOLD; length], vec![UNTOLD; length]);
+        let said = [
+            (PLACE_WORDS, lent.finished(5, &mut place), place),
+            (FIELD_WORDS, lent.parameters(5, &mut told), told),
+        ];
+        for (right, said, words) in said {
+            let expected = if length == right { 0 } else { 26 };
+            let untold = words.iter().filter(|&&word| word == UNTOLD).count();
+            let left = if length == right { 0 } else { length };
+            if (said, untold) != (expected, left) {
+                return Err(format!("{said} and {untold} words left of {length}"));
+            }
+        }
+    }
+    Ok(2 * lengths.len())
 }
 
 /// Every word, count, mark and byte of a state in turn, each made several others.
@@ -270,6 +353,7 @@ fn everything(seen: &mut Seen) -> Result<(), String> {
 pub fn run() -> Result<String, String> {
     let mut seen = Seen::default();
     everything(&mut seen)?;
+    let told = told_elsewhere()?;
     let mut tally = Tally::new();
     for number in 0..HISTORIES {
         let random = &mut Random::from_seed(SEED + number);
@@ -286,6 +370,7 @@ pub fn run() -> Result<String, String> {
     let Seen {
         sound,
         damaged,
+        asked,
         words,
         each,
     } = seen;
@@ -293,7 +378,7 @@ pub fn run() -> Result<String, String> {
         return Err(format!("only {sound} sound and {damaged} damaged"));
     }
     Ok(format!(
-        "{} states with one thing changed, {damaged} damaged and {sound} sound, {words} with a word that holds nothing of its kind, and every word, count, mark and byte of one in turn, {each} states; after the sound ones {tally:?}",
+        "{} states with one thing changed, {damaged} damaged and {sound} sound, {asked} questions asked of them, {words} with a word that holds nothing of its kind, every word, count, mark and byte of one in turn, {each} states, and {told} lengths of what is told; answers {tally:?}",
         sound + damaged
     ))
 }

@@ -62,6 +62,8 @@ mod linked {
         pub fn yovtirak_finished(
             state: *const u64,
             state_words: usize,
+            counts: *const u32,
+            counts_words: usize,
             number: u16,
             header: *const u8,
             header_bytes: usize,
@@ -75,6 +77,8 @@ mod linked {
         pub fn yovtirak_read(
             state: *const u64,
             state_words: usize,
+            counts: *const u32,
+            counts_words: usize,
             number: u16,
             header: *const u8,
             header_bytes: usize,
@@ -88,6 +92,8 @@ mod linked {
         pub fn yovtirak_find(
             state: *const u64,
             state_words: usize,
+            counts: *const u32,
+            counts_words: usize,
             name: *const u8,
             name_bytes: usize,
             header: *const u8,
@@ -188,6 +194,7 @@ pub fn drop(
 /// Where a finished object is: 0 and `place` told, or the number of the answer that says why not.
 pub fn finished(
     state: &[u64],
+    counts: &[u32],
     number: u16,
     header: &[u8],
     body: &[u8],
@@ -198,6 +205,8 @@ pub fn finished(
         linked::yovtirak_finished(
             state.as_ptr(),
             state.len(),
+            counts.as_ptr(),
+            counts.len(),
             number,
             header.as_ptr(),
             header.len(),
@@ -215,6 +224,7 @@ pub fn finished(
 /// why not.
 pub fn read(
     state: &[u64],
+    counts: &[u32],
     number: u16,
     header: &[u8],
     body: &[u8],
@@ -225,6 +235,8 @@ pub fn read(
         linked::yovtirak_read(
             state.as_ptr(),
             state.len(),
+            counts.as_ptr(),
+            counts.len(),
             number,
             header.as_ptr(),
             header.len(),
@@ -240,11 +252,20 @@ pub fn read(
 
 /// The finished object that has a name: a word with its transport number, or the number of the
 /// answer that says why there is none.
-pub fn find(state: &[u64], name: &[u8], header: &[u8], body: &[u8], marks: &[u8]) -> u64 {
+pub fn find(
+    state: &[u64],
+    counts: &[u32],
+    name: &[u8],
+    header: &[u8],
+    body: &[u8],
+    marks: &[u8],
+) -> u64 {
     unsafe {
         linked::yovtirak_find(
             state.as_ptr(),
             state.len(),
+            counts.as_ptr(),
+            counts.len(),
             name.as_ptr(),
             name.len(),
             header.as_ptr(),

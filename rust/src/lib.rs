@@ -18,6 +18,7 @@
 //! assert_eq!(reply.segment.unwrap().number, 5);
 //! assert_eq!(collector.header(5).unwrap(), &group[9..16]);
 //! assert_eq!(collector.body(5).unwrap(), &[]);
+//! assert_eq!(collector.find(b"logo.png"), Err(Answer::NotFound));
 //! assert_eq!(collector.counts().completed, 1);
 //! ```
 
@@ -130,6 +131,7 @@ impl Collector {
         let mut told = [0; FIELD_WORDS];
         let said = lent::read(
             &self.state,
+            &self.counts,
             number,
             &self.header,
             &self.body,
@@ -155,7 +157,14 @@ impl Collector {
     /// The lowest transport number among the finished objects of this name, which comes without a
     /// character set byte; one leading slash on either side plays no part.
     pub fn find(&self, name: &[u8]) -> Result<u16, Answer> {
-        let said = lent::find(&self.state, name, &self.header, &self.body, &self.marks);
+        let said = lent::find(
+            &self.state,
+            &self.counts,
+            name,
+            &self.header,
+            &self.body,
+            &self.marks,
+        );
         match said & 0xFF {
             0 => Ok((said >> 16) as u16),
             refused => Err(Answer::of(refused)),
@@ -178,6 +187,7 @@ impl Collector {
         let mut place = [0; PLACE_WORDS];
         match lent::finished(
             &self.state,
+            &self.counts,
             number,
             &self.header,
             &self.body,
