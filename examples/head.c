@@ -1,22 +1,56 @@
-/* A receiving head: reads groups from standard input, collects them, and writes each object to a
- * folder when it is complete, once.
+/* A receiving head that keeps a record of what was aired: it reads groups from standard input,
+ * collects them, and writes each object to a folder when it is complete, once for each airing.
  *
  *     head FOLDER < GROUPS
  *
- * A group comes as its length, two bytes, the higher first, and its bytes. An object is written as
- * NUMBER-NAME, its body, and NUMBER-NAME.header, where NUMBER is its transport number in four
- * hexadecimal digits and NAME its ContentName with every other character than letters, digits, dots
- * and hyphens as an underscore, or `unnamed`. Where no slot is free for a new number, the one
- * that was heard longest ago is dropped. */
+ * A group comes as its length, two bytes, the higher first, and its bytes.
+ *
+ * An airing begins when an object is complete under a transport number and the one that was written
+ * last under that number is another one, or there is none. It lasts until another object is
+ * complete under the number: while a station repeats an object that is one airing, also where its
+ * slot went to another number in between, where its segments were cut anew, and where the head was
+ * stopped and started again with the same folder. Whether two objects are one is told by their
+ * headers and bodies, byte for byte, the earlier one's being read from the folder. Not counted are
+ * objects of which some segment never came, or came only after the object was dropped; so an object
+ * that comes back after a part of another one is still the same airing. Nor are objects whose body
+ * is longer than LIMIT, nor how often an object was repeated.
+ *
+ * An airing is written as NUMBER-AIRING-NAME.body and NUMBER-AIRING-NAME.header: the transport
+ * number in four hexadecimal digits, how many airings there were under it with this one, and
+ * ContentName with every other character than letters, digits, dots and hyphens as an underscore,
+ * up to NAME_MOST of them, or `unnamed`. Each is written under another name and then renamed, the
+ * header last: a file is whole, and a header has its body beside it. One head at a time writes to a
+ * folder.
+ *
+ * What is dropped: a finished object, by the first group that conflicts with it, which is then
+ * taken again as the first of a new one; an unfinished one, by the CONFLICTS-th group that
+ * conflicts with it while no new segment of it comes, as the station sends another object by then,
+ * and that group is taken again likewise; and where a new number finds no free slot, the finished
+ * object that was heard longest ago or, where none is finished, the unfinished one.
+ *
+ * At the end a line tells how many groups were taken, repeated and refused, and how many objects
+ * were complete, written and dropped unfinished. A group is counted once, by the last answer to it:
+ * where it is taken again after a drop, the refusal before the drop is not counted. An object that
+ * came back within its airing is complete again, and not written again.
+ *
+ * Input that ends inside a group, or can't be read, and an object that can't be written end the
+ * head with a message and status 1. */
+#define _POSIX_C_SOURCE 200809L
+
 #include "yovtirak.h"
 
 #include <ctype.h>
+#include <dirent.h>
+#include <errno.h>
 #include <stdio.h>
 #include <string.h>
 
 #define SLOTS 4
 #define LIMIT 65536
+#define CONFLICTS 8
 #define NAME_MOST 100
+#define PATH_MOST 4096
+#define AIRINGS_MOST 999999999u /* nine digits */
 
 static uint64_t state[YOVTIRAK_STATE_WORDS];
 static uint32_t counts[YOVTIRAK_COUNT_WORDS];
@@ -24,48 +58,115 @@ static uint8_t header_store[YOVTIRAK_HEADER_STORE(SLOTS)];
 static uint8_t body_store[YOVTIRAK_BODY_STORE(LIMIT, SLOTS)];
 static uint8_t marks[YOVTIRAK_MARKS(SLOTS)];
 
-/* The numbers that are held, the one that was heard longest ago first. */
-static uint16_t held[SLOTS];
+static const struct yovtirak_lent lent = {
+    .limit = LIMIT,
+    .slots = SLOTS,
+    .state = state,
+    .state_words = YOVTIRAK_STATE_WORDS,
+    .counts = counts,
+    .counts_words = YOVTIRAK_COUNT_WORDS,
+    .header_store = header_store,
+    .header_bytes = sizeof header_store,
+    .body_store = body_store,
+    .body_bytes = sizeof body_store,
+    .marks = marks,
+    .marks_bytes = sizeof marks,
+};
+
+/* What the collector holds, the object that was heard longest ago first. */
+static struct held {
+    uint16_t number;
+    int finished;
+    unsigned conflicts; /* since its newest segment */
+} held[SLOTS];
 static size_t held_count;
 
-static uint64_t take(const uint8_t *group, size_t length) {
-    return yovtirak_take(state, YOVTIRAK_STATE_WORDS, counts, YOVTIRAK_COUNT_WORDS, group, length,
-                         header_store, sizeof header_store, body_store, sizeof body_store, marks,
-                         sizeof marks);
+/* What the line at the end tells. */
+static struct {
+    unsigned long long taken, repeated, refused;
+    unsigned long long complete, written, dropped_unfinished;
+} tally;
+
+/* Airings in the folder, of each transport number. */
+static uint32_t airings[65536];
+static const char *folder;
+
+/* Why the head ends before its input does, if it does. */
+static const char *problem;
+
+/* ---- what is held */
+
+/* Where a number stands among those that are held; past them where it is not. */
+static size_t place_of(uint16_t number) {
+    size_t place = 0;
+    while (place < held_count && held[place].number != number)
+        place++;
+    return place;
 }
 
-/* A number is not held any more. */
-static void forget(uint16_t number) {
-    size_t left = 0;
-    for (size_t i = 0; i < held_count; i++)
-        if (held[i] != number)
-            held[left++] = held[i];
-    held_count = left;
+static void forget(size_t place) {
+    held_count--;
+    memmove(held + place, held + place + 1, (held_count - place) * sizeof *held);
 }
 
-/* A number that holds a slot is heard. */
-static void hear(uint16_t number) {
-    forget(number);
-    held[held_count++] = number;
+/* A segment of an object was stored or repeated: of all it was heard last. */
+static void hear(const struct yovtirak_reply *reply) {
+    struct held heard = {reply->number, 0, 0};
+    size_t place = place_of(reply->number);
+    if (place < held_count) {
+        heard = held[place];
+        forget(place);
+    }
+    if (reply->answer == YOVTIRAK_COMPLETE)
+        heard.finished = 1;
+    if (reply->answer != YOVTIRAK_REPEAT)
+        heard.conflicts = 0;
+    held[held_count++] = heard;
 }
 
-/* Drops the number that was heard longest ago. */
-static void drop_oldest(void) {
-    yovtirak_drop(state, YOVTIRAK_STATE_WORDS, counts, YOVTIRAK_COUNT_WORDS, held[0], header_store,
-                  sizeof header_store, body_store, sizeof body_store, marks, sizeof marks);
-    forget(held[0]);
+static void drop(size_t place) {
+    if (!held[place].finished)
+        tally.dropped_unfinished++;
+    yovtirak_drop_object(&lent, held[place].number);
+    forget(place);
 }
+
+/* Whether what is held under a number gives way to a group that conflicts with it. */
+static int gives_way(size_t place) {
+    return held[place].finished || ++held[place].conflicts == CONFLICTS;
+}
+
+/* The first finished object, or the first one of all. */
+static size_t next_to_go(void) {
+    for (size_t place = 0; place < held_count; place++)
+        if (held[place].finished)
+            return place;
+    return 0;
+}
+
+/* Takes a group, if need be again after a drop. */
+static struct yovtirak_reply take(const uint8_t *group, size_t length) {
+    struct yovtirak_reply reply = yovtirak_take_group(&lent, group, length);
+    size_t place = place_of(reply.number);
+    if (reply.answer == YOVTIRAK_CONFLICT && place < held_count && gives_way(place))
+        drop(place);
+    else if (reply.answer == YOVTIRAK_FULL)
+        drop(next_to_go());
+    else
+        return reply;
+    return yovtirak_take_group(&lent, group, length);
+}
+
+/* ---- the folder */
 
 /* An object's name, safe in a folder. */
 static void safe_name(uint16_t number, const uint8_t *header, char name[NAME_MOST + 1]) {
-    uint64_t told[YOVTIRAK_FIELD_WORDS];
+    struct yovtirak_parameters said;
     size_t length = 0;
-    if (yovtirak_read(state, YOVTIRAK_STATE_WORDS, number, header_store, sizeof header_store,
-                      body_store, sizeof body_store, marks, sizeof marks, told,
-                      YOVTIRAK_FIELD_WORDS) == 0)
+    if (yovtirak_read_parameters(&lent, number, &said) == YOVTIRAK_READ)
         /* The first byte is the character set. */
-        for (uint64_t i = 1; i < told[6] && length < NAME_MOST; i++) {
-            unsigned char letter = header[told[5] + i];
+        for (size_t i = 1; i < said.name_bytes && length < NAME_MOST; i++) {
+            unsigned char letter = header[said.name_start + i];
             int plain = letter < 128 && (isalnum(letter) || letter == '.' || letter == '-');
             name[length++] = plain ? (char)letter : '_';
         }
@@ -74,12 +175,35 @@ static void safe_name(uint16_t number, const uint8_t *header, char name[NAME_MOS
         strcpy(name, "unnamed");
 }
 
-static int write_file(const char *folder, uint16_t number, const char *name, const char *ending,
-                      const uint8_t *bytes, uint64_t length) {
-    char path[4096];
-    int written = snprintf(path, sizeof path, "%s/%04x-%s%s", folder, number, name, ending);
-    if (written < 0 || (size_t)written >= sizeof path)
+/* The path of an airing's body or header; 0 where it is too long. */
+static int path_of(char path[PATH_MOST], uint16_t number, uint32_t airing, const char *name,
+                   const char *ending) {
+    int length = snprintf(path, PATH_MOST, "%s/%04x-%lu-%s%s", folder, (unsigned)number,
+                          (unsigned long)airing, name, ending);
+    return length > 0 && length < PATH_MOST;
+}
+
+/* Whether a file is there and has these bytes and no others. */
+static int has_bytes(const char *path, const uint8_t *bytes, size_t length) {
+    uint8_t read[4096];
+    size_t done = 0;
+    int same = 1;
+    FILE *file = fopen(path, "rb");
+    if (!file)
         return 0;
+    while (same) {
+        size_t got = fread(read, 1, sizeof read, file);
+        if (got == 0)
+            break;
+        same = got <= length - done && memcmp(read, bytes + done, got) == 0;
+        done += got;
+    }
+    same = same && done == length && !ferror(file);
+    fclose(file);
+    return same;
+}
+
+static int write_bytes(const char *path, const uint8_t *bytes, size_t length) {
     FILE *file = fopen(path, "wb");
     if (!file)
         return 0;
@@ -87,51 +211,145 @@ static int write_file(const char *folder, uint16_t number, const char *name, con
     return fclose(file) == 0 && whole;
 }
 
-/* Writes a finished object's body and header. */
-static int write_object(const char *folder, uint16_t number) {
-    uint64_t place[YOVTIRAK_PLACE_WORDS];
-    if (yovtirak_finished(state, YOVTIRAK_STATE_WORDS, number, header_store, sizeof header_store,
-                          body_store, sizeof body_store, marks, sizeof marks, place,
-                          YOVTIRAK_PLACE_WORDS) != 0)
+/* Writes both files under names that no airing has, and renames them. */
+static int write_airing(const struct yovtirak_object *object, const char *body,
+                        const char *header) {
+    char new_body[PATH_MOST], new_header[PATH_MOST];
+    int length = snprintf(new_body, PATH_MOST, "%s/unfinished.body", folder);
+    if (length < 0 || length >= PATH_MOST)
         return 0;
-    const uint8_t *header = header_store + place[0] * YOVTIRAK_HEADER_SHARE;
-    const uint8_t *body = body_store + place[0] * LIMIT;
-    char name[NAME_MOST + 1];
-    safe_name(number, header, name);
-    return write_file(folder, number, name, "", body, place[2]) &&
-           write_file(folder, number, name, ".header", header, place[1]);
+    length = snprintf(new_header, PATH_MOST, "%s/unfinished.header", folder);
+    if (length < 0 || length >= PATH_MOST)
+        return 0;
+    if (write_bytes(new_body, object->body, object->body_bytes) &&
+        write_bytes(new_header, object->header, object->header_bytes) &&
+        rename(new_body, body) == 0 && rename(new_header, header) == 0)
+        return 1;
+    remove(new_body);
+    remove(new_header);
+    return 0;
+}
+
+/* Writes a finished object, unless it is the one that was written last under its number. */
+static int record(uint16_t number) {
+    char name[NAME_MOST + 1], body[PATH_MOST], header[PATH_MOST];
+    struct yovtirak_object object;
+    if (yovtirak_show_object(&lent, number, &object) != YOVTIRAK_SHOWN)
+        return 0;
+    safe_name(number, object.header, name);
+    uint32_t airing = airings[number];
+    if (airing > 0) {
+        if (!path_of(body, number, airing, name, ".body") ||
+            !path_of(header, number, airing, name, ".header"))
+            return 0;
+        if (has_bytes(header, object.header, object.header_bytes) &&
+            has_bytes(body, object.body, object.body_bytes))
+            return 1;
+    }
+    airing++;
+    if (airing > AIRINGS_MOST || !path_of(body, number, airing, name, ".body") ||
+        !path_of(header, number, airing, name, ".header") || !write_airing(&object, body, header))
+        return 0;
+    airings[number] = airing;
+    tally.written++;
+    return 1;
+}
+
+/* Counts the airings that the folder has: those whose header is there. */
+static int count_airings(void) {
+    static const char ending[] = ".header";
+    DIR *files = opendir(folder);
+    if (!files)
+        return 0;
+    for (;;) {
+        errno = 0;
+        const struct dirent *file = readdir(files);
+        if (!file)
+            break;
+        unsigned number, airing;
+        char start[32];
+        size_t length = strlen(file->d_name);
+        if (length < strlen(ending) || strcmp(file->d_name + length - strlen(ending), ending) != 0)
+            continue;
+        if (sscanf(file->d_name, "%4x-%9u-", &number, &airing) != 2 || number > 0xFFFF)
+            continue;
+        snprintf(start, sizeof start, "%04x-%u-", number, airing);
+        if (strncmp(file->d_name, start, strlen(start)) == 0 && airing > airings[number])
+            airings[number] = airing;
+    }
+    int whole = errno == 0;
+    return closedir(files) == 0 && whole;
+}
+
+/* ---- the groups */
+
+static uint8_t group[65535];
+static size_t group_bytes;
+
+/* Reads the next group; 0 where there is none, or only a part of one. */
+static int read_group(void) {
+    uint8_t prefix[2];
+    size_t got = fread(prefix, 1, sizeof prefix, stdin);
+    if (got == sizeof prefix) {
+        group_bytes = (size_t)prefix[0] << 8 | prefix[1];
+        if (fread(group, 1, group_bytes, stdin) == group_bytes)
+            return 1;
+        problem = "the input ends inside a group";
+    } else if (got > 0) {
+        problem = "the input ends inside a group's length";
+    }
+    if (ferror(stdin))
+        problem = "the input can't be read";
+    return 0;
+}
+
+/* Does all there is to do with the group that was read. */
+static void collect(void) {
+    struct yovtirak_reply reply = take(group, group_bytes);
+    switch (reply.answer) {
+    case YOVTIRAK_COMPLETE:
+        tally.taken++;
+        tally.complete++;
+        hear(&reply);
+        if (!record(reply.number))
+            problem = "an object can't be written";
+        break;
+    case YOVTIRAK_STORED:
+        tally.taken++;
+        hear(&reply);
+        break;
+    case YOVTIRAK_REPEAT:
+        tally.repeated++;
+        hear(&reply);
+        break;
+    case YOVTIRAK_STATE:
+        problem = "the collector's memory is damaged";
+        break;
+    default:
+        tally.refused++;
+    }
 }
 
 int main(int count, char **words) {
-    static uint8_t group[65535];
-    uint8_t prefix[2];
     if (count != 2) {
         fprintf(stderr, "usage: head FOLDER < GROUPS\n");
         return 2;
     }
-    if (yovtirak_open(LIMIT, SLOTS, state, YOVTIRAK_STATE_WORDS, counts, YOVTIRAK_COUNT_WORDS,
-                      header_store, sizeof header_store, body_store, sizeof body_store, marks,
-                      sizeof marks) != 0)
-        return 1;
-    while (fread(prefix, 1, 2, stdin) == 2) {
-        size_t length = (size_t)prefix[0] << 8 | prefix[1];
-        if (fread(group, 1, length, stdin) != length)
-            break;
-        uint64_t word = take(group, length);
-        if (yovtirak_answer_of(word) == YOVTIRAK_FULL) {
-            drop_oldest();
-            word = take(group, length);
-        }
-        uint16_t number = yovtirak_number_of(word);
-        if (yovtirak_answer_of(word) <= YOVTIRAK_REPEAT)
-            hear(number);
-        if (yovtirak_answer_of(word) == YOVTIRAK_COMPLETE && !write_object(words[1], number)) {
-            fprintf(stderr, "head: object %04x can't be written\n", number);
-            return 1;
-        }
-    }
-    for (size_t which = 0; which < YOVTIRAK_COUNT_WORDS; which++)
-        printf("%u ", yovtirak_count(counts, YOVTIRAK_COUNT_WORDS, which));
-    printf("\n");
-    return 0;
+    folder = words[1];
+    if (yovtirak_open_collector(&lent) != YOVTIRAK_OPENED)
+        problem = "the collector can't be opened";
+    else if (!count_airings())
+        problem = "the folder can't be read";
+    while (!problem && read_group())
+        collect();
+    printf("groups: %llu taken, %llu repeated, %llu refused; ", tally.taken, tally.repeated,
+           tally.refused);
+    printf("objects: %llu complete, %llu written, %llu dropped unfinished\n", tally.complete,
+           tally.written, tally.dropped_unfinished);
+    if (fflush(stdout) != 0 && !problem)
+        problem = "the counts can't be written";
+    if (!problem)
+        return 0;
+    fprintf(stderr, "head: %s\n", problem);
+    return 1;
 }

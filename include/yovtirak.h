@@ -2,14 +2,47 @@
  *
  * MSC data groups go in one at a time; header and body segments of up to 16 objects are gathered at
  * once; finished objects can be shown, read and found by name. All memory is the caller's, the
- * state too: nothing is allocated and nothing is kept between calls, so calls on separate states
- * may run in separate threads.
+ * state and the counts too: nothing is allocated and nothing is kept between calls.
  *
- * Any bytes may be handed in. A call never writes outside what is lent to it, always returns, and
- * changes nothing that it refuses. Each slice is a pointer and the number of its elements; a
- * pointer of no elements is not looked at.
+ *     struct yovtirak_lent lent = { .. };                 what is lent, with its lengths
+ *     yovtirak_open_collector(&lent);                     opens a collector over it
+ *     yovtirak_take_group(&lent, group, bytes);           takes a group
+ *     yovtirak_show_object(&lent, number, &object);       tells where a finished object stands,
+ *     yovtirak_read_parameters(&lent, number, &said);     what its header says,
+ *     yovtirak_find_object(&lent, name, bytes, &number);  and whose a name is
+ *     yovtirak_drop_object(&lent, number);                drops an object
  *
- * Link with target/staticlib/libyovtirak.a, which `rt staticlib yovtirak` writes.
+ * These are inline functions, at the end of this file. Each calls the exported function that stands
+ * before them, which has a pointer and a length for each thing lent. examples/head.c is a whole
+ * head that uses them.
+ *
+ * What the caller sees to:
+ *
+ * - Each pointer is to as many elements as its length says, aligned as its type is: the state's
+ *   words to 8 bytes, the counts to 4, bytes anyhow. A pointer of no elements is not looked at.
+ * - No two things lent to one call overlap, the group or the name and what is told among them.
+ * - Nothing needs initialising before an opening, not even the state.
+ * - A call that opens, takes or drops is alone with what is lent. Questions (show, read, find)
+ *   write only what they tell, so that several may run at once on one state; calls on separate
+ *   memory may run at any time.
+ * - The thread has YOVTIRAK_STACK_BYTES of stack.
+ *
+ * What every call sees to, whatever bytes and words it is handed:
+ *
+ * - It returns, and writes nothing but what is lent to it to be written.
+ * - What it refuses changes nothing, but for one count: a group that is refused (10 to 18) is
+ *   counted as refused. STATE, LIMITS and the refusals of drops and questions change nothing.
+ * - A damaged state and a wrong lent length are both STATE, to every call but an opening, which
+ *   answers a wrong length with LIMITS. The state's words, the counts, the marks, the lengths and
+ *   the two sizes in the core of each header are looked at.
+ * - No sum of the stored bytes is kept. A byte of a body, or of a header but those two sizes, that
+ *   is changed from outside goes unseen, and is shown as it then is.
+ * - Words of the state that play no part (a free slot's but its stage, the two lengths of a slot
+ *   that is not finished, and all of slots past the number of slots) may be written anew with
+ *   STORED, COMPLETE and DROPPED, and by an opening.
+ *
+ * Link with target/staticlib/libyovtirak.a, which `rt staticlib yovtirak` writes: code for x86-64
+ * and its System V calls. Of other libraries it needs `memcpy` and `memset`, and nothing else.
  */
 #ifndef YOVTIRAK_H
 #define YOVTIRAK_H
@@ -38,19 +71,41 @@ extern "C" {
 /* Words of 64 bits of a state: the limit, the number of slots, and for each of 16 slots its
  * transport number, its stage (0 free, 1 gathering, 2 finished), the lengths of a finished header
  * and body, and for the header and then the body the segment size, 1 + the number of the last
- * segment and its length, 0 where that is not known. Words that are no sound state of the lent
- * memory are answered with STATE. */
+ * segment and its length, 0 where that is not known. They may be saved, and lent again with the
+ * counts, stores and marks as they were saved. */
 #define YOVTIRAK_STATE_WORDS 162u
 
-/* The five counts, words of 32 bits. Each is the number of such answers since opening and stays at
- * 2147483647. */
+/* The five counts, words of 32 bits, which the caller reads where they are. Each is the number of
+ * such answers since opening and stays at 2147483647; STATE and the answers to questions are not
+ * counted. */
 #define YOVTIRAK_COUNT_WORDS 5u
 enum yovtirak_counted {
-    YOVTIRAK_COUNT_TAKEN,     /* STORED and COMPLETE */
-    YOVTIRAK_COUNT_REPEATED,  /* REPEAT */
-    YOVTIRAK_COUNT_REFUSED,   /* 10 to 18 */
-    YOVTIRAK_COUNT_COMPLETED, /* COMPLETE */
-    YOVTIRAK_COUNT_DROPPED    /* DROPPED */
+    YOVTIRAK_COUNT_TAKEN = 0,     /* STORED and COMPLETE */
+    YOVTIRAK_COUNT_REPEATED = 1,  /* REPEAT */
+    YOVTIRAK_COUNT_REFUSED = 2,   /* 10 to 18 */
+    YOVTIRAK_COUNT_COMPLETED = 3, /* COMPLETE */
+    YOVTIRAK_COUNT_DROPPED = 4    /* DROPPED */
+};
+
+/* Any call can be made on a thread with so many bytes of stack, where the system and the caller
+ * take no more than a quarter of them. */
+#define YOVTIRAK_STACK_BYTES 16384u
+
+/* All that is lent, and how much of it. The limit and the number of slots are read at an opening;
+ * later calls find them in the state. */
+struct yovtirak_lent {
+    size_t limit; /* the most bytes of a body */
+    size_t slots; /* objects gathered at once */
+    uint64_t *state;
+    size_t state_words; /* YOVTIRAK_STATE_WORDS */
+    uint32_t *counts;
+    size_t counts_words; /* YOVTIRAK_COUNT_WORDS */
+    uint8_t *header_store;
+    size_t header_bytes; /* YOVTIRAK_HEADER_STORE(slots) */
+    uint8_t *body_store;
+    size_t body_bytes; /* YOVTIRAK_BODY_STORE(limit, slots) */
+    uint8_t *marks;
+    size_t marks_bytes; /* YOVTIRAK_MARKS(slots) */
 };
 
 /* ---- what comes back */
@@ -73,76 +128,203 @@ enum yovtirak_answer {
     YOVTIRAK_UNFINISHED = 20, /* the object is not finished */
     YOVTIRAK_HEADER = 21,     /* the header's parameter list is broken */
     YOVTIRAK_DUPLICATE = 22,  /* a single parameter comes twice */
-    YOVTIRAK_CORE = 23,       /* a finished header of fewer than 7 bytes */
-    YOVTIRAK_NOTFOUND = 24,   /* no finished object has the name */
-    YOVTIRAK_LIMITS = 25,     /* opening outside the bounds, or a lent length is wrong */
-    YOVTIRAK_STATE = 26       /* the state is damaged, or a lent length is wrong */
+    YOVTIRAK_CORE = 23,     /* a finished header of fewer than 7 bytes, which no sound state has */
+    YOVTIRAK_NOTFOUND = 24, /* no finished object has the name */
+    YOVTIRAK_LIMITS = 25,   /* opening outside the bounds, or a lent length is wrong */
+    YOVTIRAK_STATE = 26,    /* the state is damaged, or a lent length is wrong */
+
+    /* 0 where a call stores nothing */
+    YOVTIRAK_OPENED = 0, /* the collector is open */
+    YOVTIRAK_SHOWN = 0,  /* the object is finished, and where it stands is told */
+    YOVTIRAK_READ = 0,   /* its header's parameters are told */
+    YOVTIRAK_FOUND = 0   /* a finished object has the name, and its number is told */
 };
 
-/* A call's word: the answer and, with answers 0 to 3, 17 and 18, what is returned with it. */
-static inline enum yovtirak_answer yovtirak_answer_of(uint64_t word) {
-    return (enum yovtirak_answer)(word & 0xFF);
-}
-/* The transport number, with 0 to 3, 17 and 18, and with a name that is found. */
-static inline uint16_t yovtirak_number_of(uint64_t word) { return (uint16_t)(word >> 16); }
-/* 0 for a segment of the header and 1 of the body, with 0 to 2, 17 and 18. */
-static inline int yovtirak_part_of(uint64_t word) { return (int)(word >> 8 & 0xFF); }
-/* The segment's number, with 0 to 2, 17 and 18. */
-static inline uint16_t yovtirak_segment_of(uint64_t word) { return (uint16_t)(word >> 32); }
+enum yovtirak_part { YOVTIRAK_PART_HEADER = 0, YOVTIRAK_PART_BODY = 1 };
 
-/* ---- the calls */
+/* What a group or a drop is answered. */
+struct yovtirak_reply {
+    enum yovtirak_answer answer;
+    uint16_t number; /* the transport number, with 0 to 3, CONFLICT and FULL; else 0 */
+    /* with 0 to 2, CONFLICT and FULL; else 0 */
+    enum yovtirak_part part;
+    uint16_t segment;
+};
 
-/* Opens a collector for bodies of up to `limit` bytes with so many slots: all marks and counts are
- * 0, and no store is touched. Returns 0, or LIMITS (25), and then nothing is changed. */
+/* A finished object where it stands in the lent stores. It stays there, byte for byte, until its
+ * number is dropped or a collector is opened over the same memory, whatever other groups come. */
+struct yovtirak_object {
+    const uint8_t *header;
+    size_t header_bytes; /* 7 to 1,024 */
+    const uint8_t *body;
+    size_t body_bytes; /* 0 to the limit */
+};
+
+/* What a finished object's header says. */
+#define YOVTIRAK_NO_PRIORITY 256u
+struct yovtirak_parameters {
+    uint32_t body_size;
+    uint16_t header_size;
+    uint8_t content_type;
+    uint16_t content_sub_type;
+    uint16_t priority; /* 0 to 255, or YOVTIRAK_NO_PRIORITY */
+    /* The data of ContentName: where it starts in the header, and how many bytes it has, the
+     * character set byte first; 0 bytes where there is no name. */
+    size_t name_start;
+    size_t name_bytes;
+};
+
+/* ---- the exported functions: each slice is a pointer and the number of its elements */
+
 uint64_t yovtirak_open(size_t limit, size_t slots, uint64_t *state, size_t state_words,
                        uint32_t *counts, size_t counts_words, const uint8_t *header,
                        size_t header_bytes, const uint8_t *body, size_t body_bytes, uint8_t *marks,
                        size_t marks_bytes);
 
-/* Takes one group, of any bytes and any length. */
+/* The word of a group's or a drop's answer: see yovtirak_reply_of. */
 uint64_t yovtirak_take(uint64_t *state, size_t state_words, uint32_t *counts, size_t counts_words,
                        const uint8_t *group, size_t group_bytes, uint8_t *header,
                        size_t header_bytes, uint8_t *body, size_t body_bytes, uint8_t *marks,
                        size_t marks_bytes);
 
-/* Drops a transport number: DROPPED, NOTHELD or STATE. Its slot is free again; store bytes stay. */
 uint64_t yovtirak_drop(uint64_t *state, size_t state_words, uint32_t *counts, size_t counts_words,
                        uint16_t number, const uint8_t *header, size_t header_bytes,
                        const uint8_t *body, size_t body_bytes, uint8_t *marks, size_t marks_bytes);
 
-/* Where a finished object is. Returns 0 and tells its slot, the length of its header and that of
- * its body in `place`, 3 words; or STATE, NOTHELD or UNFINISHED, and `place` stays as it is. The
- * header is the first bytes of `header + slot * YOVTIRAK_HEADER_SHARE`, the body of `body + slot *
- * limit`. */
+/* Tells the slot, the length of the header and that of the body. The header begins at `header +
+ * slot
+ * * YOVTIRAK_HEADER_SHARE`, the body at `body + slot * limit`. */
 #define YOVTIRAK_PLACE_WORDS 3u
-uint64_t yovtirak_finished(const uint64_t *state, size_t state_words, uint16_t number,
-                           const uint8_t *header, size_t header_bytes, const uint8_t *body,
-                           size_t body_bytes, const uint8_t *marks, size_t marks_bytes,
-                           uint64_t *place, size_t place_words);
+uint64_t yovtirak_finished(const uint64_t *state, size_t state_words, const uint32_t *counts,
+                           size_t counts_words, uint16_t number, const uint8_t *header,
+                           size_t header_bytes, const uint8_t *body, size_t body_bytes,
+                           const uint8_t *marks, size_t marks_bytes, uint64_t *place,
+                           size_t place_words);
 
-/* What a finished object's header says. Returns 0 and tells 7 words: BodySize, HeaderSize,
- * ContentType, ContentSubType, Priority (256 where there is none), where the data of ContentName
- * starts in the header, and how many bytes it has (0 where there is none), the character set byte
- * first; or STATE, NOTHELD, UNFINISHED, CORE, HEADER or DUPLICATE, and `told` stays as it is. */
+/* Tells the seven of `struct yovtirak_parameters`, in its order. */
 #define YOVTIRAK_FIELD_WORDS 7u
-uint64_t yovtirak_read(const uint64_t *state, size_t state_words, uint16_t number,
+uint64_t yovtirak_read(const uint64_t *state, size_t state_words, const uint32_t *counts,
+                       size_t counts_words, uint16_t number, const uint8_t *header,
+                       size_t header_bytes, const uint8_t *body, size_t body_bytes,
+                       const uint8_t *marks, size_t marks_bytes, uint64_t *told, size_t told_words);
+
+/* The word has the answer and, where it is FOUND, the transport number times 65536, so that the
+ * whole word is 0 only where number 0 is found. */
+uint64_t yovtirak_find(const uint64_t *state, size_t state_words, const uint32_t *counts,
+                       size_t counts_words, const uint8_t *name, size_t name_bytes,
                        const uint8_t *header, size_t header_bytes, const uint8_t *body,
-                       size_t body_bytes, const uint8_t *marks, size_t marks_bytes, uint64_t *told,
-                       size_t told_words);
-
-/* The lowest transport number among the finished objects of this name, which comes without a
- * character set byte; one leading slash on either side plays no part. The word's answer is 0 and
- * its number the transport number; or the answer is NOTFOUND or STATE. */
-uint64_t yovtirak_find(const uint64_t *state, size_t state_words, const uint8_t *name,
-                       size_t name_bytes, const uint8_t *header, size_t header_bytes,
-                       const uint8_t *body, size_t body_bytes, const uint8_t *marks,
-                       size_t marks_bytes);
-
-/* One of the five counts; 0 where `which` is none of them. */
-uint32_t yovtirak_count(const uint32_t *counts, size_t counts_words, size_t which);
+                       size_t body_bytes, const uint8_t *marks, size_t marks_bytes);
 
 #ifdef __cplusplus
 }
 #endif
+
+/* What a word says: the answer in its low byte, then the part, the transport number and the
+ * segment's number. */
+static inline struct yovtirak_reply yovtirak_reply_of(uint64_t word) {
+    struct yovtirak_reply reply;
+    reply.answer = (enum yovtirak_answer)(word & 0xFF);
+    reply.number = (uint16_t)(word >> 16);
+    reply.part = (enum yovtirak_part)(word >> 8 & 0xFF);
+    reply.segment = (uint16_t)(word >> 32);
+    return reply;
+}
+
+/* ---- the calls on what is lent */
+
+/* Opens a collector for bodies of up to `limit` bytes with so many slots: all marks and counts are
+ * 0, and no store is touched. OPENED or LIMITS. */
+static inline enum yovtirak_answer yovtirak_open_collector(const struct yovtirak_lent *lent) {
+    return (enum yovtirak_answer)yovtirak_open(
+        lent->limit, lent->slots, lent->state, lent->state_words, lent->counts, lent->counts_words,
+        lent->header_store, lent->header_bytes, lent->body_store, lent->body_bytes, lent->marks,
+        lent->marks_bytes);
+}
+
+/* Takes one group, of any bytes and any length. STORED, COMPLETE or REPEAT; LENGTH, NOCHECK,
+ * BADCHECK, KIND, NOSEGMENT, ADDRESS, SIZE, CONFLICT or FULL; or STATE. */
+static inline struct yovtirak_reply yovtirak_take_group(const struct yovtirak_lent *lent,
+                                                        const uint8_t *group, size_t group_bytes) {
+    return yovtirak_reply_of(yovtirak_take(lent->state, lent->state_words, lent->counts,
+                                           lent->counts_words, group, group_bytes,
+                                           lent->header_store, lent->header_bytes, lent->body_store,
+                                           lent->body_bytes, lent->marks, lent->marks_bytes));
+}
+
+/* Drops what is held under a transport number, finished or not: its slot is free again, and store
+ * bytes stay until another number takes it. DROPPED, NOTHELD or STATE. */
+static inline struct yovtirak_reply yovtirak_drop_object(const struct yovtirak_lent *lent,
+                                                         uint16_t number) {
+    return yovtirak_reply_of(yovtirak_drop(lent->state, lent->state_words, lent->counts,
+                                           lent->counts_words, number, lent->header_store,
+                                           lent->header_bytes, lent->body_store, lent->body_bytes,
+                                           lent->marks, lent->marks_bytes));
+}
+
+/* Tells where a finished object stands. SHOWN; or STATE, NOTHELD or UNFINISHED, and `object` stays
+ * as it is. */
+static inline enum yovtirak_answer yovtirak_show_object(const struct yovtirak_lent *lent,
+                                                        uint16_t number,
+                                                        struct yovtirak_object *object) {
+    uint64_t place[YOVTIRAK_PLACE_WORDS] = {0, 0, 0};
+    const enum yovtirak_answer answer = (enum yovtirak_answer)yovtirak_finished(
+        lent->state, lent->state_words, lent->counts, lent->counts_words, number,
+        lent->header_store, lent->header_bytes, lent->body_store, lent->body_bytes, lent->marks,
+        lent->marks_bytes, place, YOVTIRAK_PLACE_WORDS);
+    if (answer == YOVTIRAK_SHOWN) {
+        object->header = lent->header_store + place[0] * YOVTIRAK_HEADER_SHARE;
+        object->header_bytes = place[1];
+        /* A sound state's first word is the limit. */
+        object->body = lent->body_store + place[0] * lent->state[0];
+        object->body_bytes = place[2];
+    }
+    return answer;
+}
+
+/* Tells what a finished object's header says. READ; or STATE, NOTHELD, UNFINISHED, HEADER or
+ * DUPLICATE, and `said` stays as it is. */
+static inline enum yovtirak_answer yovtirak_read_parameters(const struct yovtirak_lent *lent,
+                                                            uint16_t number,
+                                                            struct yovtirak_parameters *said) {
+    uint64_t told[YOVTIRAK_FIELD_WORDS] = {0, 0, 0, 0, 0, 0, 0};
+    const enum yovtirak_answer answer = (enum yovtirak_answer)yovtirak_read(
+        lent->state, lent->state_words, lent->counts, lent->counts_words, number,
+        lent->header_store, lent->header_bytes, lent->body_store, lent->body_bytes, lent->marks,
+        lent->marks_bytes, told, YOVTIRAK_FIELD_WORDS);
+    if (answer == YOVTIRAK_READ) {
+        said->body_size = (uint32_t)told[0];
+        said->header_size = (uint16_t)told[1];
+        said->content_type = (uint8_t)told[2];
+        said->content_sub_type = (uint16_t)told[3];
+        said->priority = (uint16_t)told[4];
+        said->name_start = told[5];
+        said->name_bytes = told[6];
+    }
+    return answer;
+}
+
+/* Tells the lowest transport number among the finished objects of this name, which comes without a
+ * character set byte; one leading slash on either side plays no part. Objects without a name, and
+ * those whose headers are answered with HEADER or DUPLICATE, are passed over. FOUND; or STATE or
+ * NOTFOUND, and `number` stays as it is. Number 0 is a number like any other:
+ *
+ *     static const uint8_t name[] = {'l', 'o', 'g', 'o', '.', 'p', 'n', 'g'};
+ *     struct yovtirak_object object;
+ *     uint16_t number;
+ *     if (yovtirak_find_object(&lent, name, sizeof name, &number) == YOVTIRAK_FOUND &&
+ *         yovtirak_show_object(&lent, number, &object) == YOVTIRAK_SHOWN)
+ *         fwrite(object.body, 1, object.body_bytes, stdout);
+ */
+static inline enum yovtirak_answer yovtirak_find_object(const struct yovtirak_lent *lent,
+                                                        const uint8_t *name, size_t name_bytes,
+                                                        uint16_t *number) {
+    const struct yovtirak_reply reply = yovtirak_reply_of(
+        yovtirak_find(lent->state, lent->state_words, lent->counts, lent->counts_words, name,
+                      name_bytes, lent->header_store, lent->header_bytes, lent->body_store,
+                      lent->body_bytes, lent->marks, lent->marks_bytes));
+    if (reply.answer == YOVTIRAK_FOUND)
+        *number = reply.number;
+    return reply.answer;
+}
 
 #endif
