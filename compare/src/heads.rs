@@ -1,159 +1,340 @@
-//! The example of a head, built in C: a stream of groups with repeats and damage, objects that follow
-//! one another under one number and more numbers than slots, and the files that it writes compared
-//! with what was sent.
+//! The example of a head, built in C: streams of groups whose airings are plain from how they were
+//! sent, random ones whose airings follow from the policy over the independent collector, and input
+//! that ends too soon. The files that the head writes, the line that it ends with and its status are
+//! compared.
 
-use independent::group::{Fields, Part};
-use independent::object::{cut, Core, CORE_LENGTH};
-use independent::random::{groups, Random};
-use std::collections::BTreeMap;
-use std::fs;
-use std::io::Write;
-use std::path::PathBuf;
-use std::process::{Command, Stdio};
+mod record;
+mod streams;
+
+use independent::random::histories::{calls, Call};
+use independent::random::Random;
+use record::{files, Aired, Files, Record, Tally, LIMIT, SLOTS};
+use std::fs::{self, File};
+use std::io::{ErrorKind, Write};
+use std::path::{Path, PathBuf};
+use std::process::{Command, Output, Stdio};
 
 const SEED: u64 = 65_536;
-const OBJECTS: u16 = 120;
+/// So many streams of each sort.
+const EACH: u64 = 12;
+const CUT: u64 = 12;
+const HISTORIES: u64 = 40;
+const CALLS: usize = 250;
 
-struct Object {
-    number: u16,
-    file: String,
-    header: Vec<u8>,
-    body: Vec<u8>,
+/// A head, and a folder of its own.
+struct Head {
+    top: PathBuf,
+    folder: PathBuf,
 }
 
-/// An object whose name is or is not safe as a file's.
-fn object(random: &mut Random, number: u16) -> Object {
-    let (name, safe): (&[u8], &str) = random.one_of(&[
-        (b"logo.png" as &[u8], "logo.png"),
-        (b"news/../card 1", "news_.._card_1"),
-        (b"\xc3\xa9t\xc3\xa9", "__t__"),
-        (b"", "unnamed"),
-    ]);
-    let body_length = random.one_of(&[0, 1, 16, 900, 20_000, 65_536]);
-    let mut header = vec![0; CORE_LENGTH];
-    if !name.is_empty() {
-        header.extend([0xCC, name.len() as u8 + 1, 0xF0]);
-        header.extend(name);
-    }
-    let core = Core {
-        body_size: body_length,
-        header_size: header.len(),
-        content_type: 2,
-        content_subtype: 1,
-    };
-    header[..CORE_LENGTH].copy_from_slice(&core.bytes());
-    Object {
-        number,
-        file: format!("{number:04x}-{safe}"),
-        header,
-        body: random.bytes(body_length),
-    }
+fn said(error: std::io::Error) -> String {
+    error.to_string()
 }
 
-/// The object's groups, shuffled, some of them twice, with damaged ones between.
-fn groups_of(random: &mut Random, object: &Object) -> Vec<Vec<u8>> {
-    let header = cut(&object.header, 16).into_iter();
-    let body = cut(&object.body, random.one_of(&[64, 500, 8_189])).into_iter();
-    let mut pieces: Vec<_> = header
-        .map(|piece| (Part::Header, piece))
-        .chain(body.map(|piece| (Part::Body, piece)))
-        .collect();
-    random.shuffle(&mut pieces);
-    let mut sent = Vec::new();
-    for (part, piece) in pieces {
-        let group =
-            Fields::of_segment(object.number, part, piece.number, piece.last, &piece.bytes).whole();
-        if random.once_in(4) {
-            let mut spoilt = group.clone();
-            let place = random.within(0, spoilt.len() - 1);
-            spoilt[place] ^= 1 << random.within(0, 7);
-            sent.push(spoilt);
-        }
-        if random.once_in(10) {
-            sent.push(groups::one_field_wrong(random));
-        }
-        sent.push(group.clone());
-        if random.once_in(3) {
-            sent.push(group);
-        }
+impl Head {
+    fn new() -> Head {
+        let top = PathBuf::from(env!("CARGO_MANIFEST_DIR")).join("..");
+        let folder = top.join("target/head_objects");
+        Head { top, folder }
     }
-    sent
-}
 
-/// Three objects at a time, their groups interleaved.
-fn stream(random: &mut Random, objects: &[Object]) -> Vec<u8> {
-    let mut stream = Vec::new();
-    for three in objects.chunks(3) {
-        let mut queues: Vec<_> = three
-            .iter()
-            .map(|object| groups_of(random, object).into_iter())
-            .collect();
-        while !queues.is_empty() {
-            let place = random.within(0, queues.len() - 1);
-            match queues[place].next() {
-                Some(group) => {
-                    stream.extend((group.len() as u16).to_be_bytes());
-                    stream.extend(group);
-                }
-                None => {
-                    queues.remove(place);
-                }
+    fn clear(&self) -> Result<(), String> {
+        if self.folder.exists() {
+            fs::remove_dir_all(&self.folder).map_err(said)?;
+        }
+        fs::create_dir_all(&self.folder).map_err(said)
+    }
+
+    fn command(&self, folder: &Path) -> Command {
+        let mut command = Command::new(self.top.join("machine"));
+        command.arg("run").arg(self.top.join("target/head"));
+        command.arg(folder);
+        command.stdout(Stdio::piped()).stderr(Stdio::piped());
+        command
+    }
+
+    fn run(&self, input: &[u8]) -> Result<Output, String> {
+        let mut command = self.command(&self.folder);
+        let mut child = command.stdin(Stdio::piped()).spawn().map_err(said)?;
+        let mut stdin = child.stdin.take().expect("standard input is piped");
+        match stdin.write_all(input) {
+            // A head that ends before its input does reads no more of it.
+            Err(error) if error.kind() != ErrorKind::BrokenPipe => return Err(said(error)),
+            _ => (),
+        }
+        drop(stdin);
+        child.wait_with_output().map_err(said)
+    }
+
+    /// The folder has these files and no others.
+    fn has(&self, expected: &Files) -> Result<(), String> {
+        let mut written = 0;
+        for entry in fs::read_dir(&self.folder).map_err(said)? {
+            let entry = entry.map_err(said)?;
+            let name = entry.file_name().to_string_lossy().into_owned();
+            match expected.get(&name) {
+                Some(sent) if *sent == fs::read(entry.path()).map_err(said)? => written += 1,
+                Some(_) => return Err(format!("{name} is not what was sent")),
+                None => return Err(format!("{name} was never aired")),
             }
         }
+        if written != expected.len() {
+            return Err(format!("{written} files, not {}", expected.len()));
+        }
+        Ok(())
     }
-    stream
+}
+
+/// What a head is to say at the end: its line, and why it ended too soon.
+fn ended(output: &Output, tally: &Tally, problem: Option<&str>) -> Result<(), String> {
+    let line = String::from_utf8_lossy(&output.stdout);
+    if line != tally.line() {
+        return Err(format!("{line:?}, not {:?}", tally.line()));
+    }
+    let message = String::from_utf8_lossy(&output.stderr);
+    let expected = problem.map_or(String::new(), |problem| format!("head: {problem}\n"));
+    if message != expected {
+        return Err(format!("{message:?}, not {expected:?}"));
+    }
+    let status = output.status.code();
+    if status != Some(i32::from(problem.is_some())) {
+        return Err(format!("status {status:?}"));
+    }
+    Ok(())
+}
+
+fn encoded(groups: &[Vec<u8>]) -> Vec<u8> {
+    let mut input = Vec::new();
+    for group in groups {
+        input.extend((group.len() as u16).to_be_bytes());
+        input.extend(group);
+    }
+    input
+}
+
+/// How many streams of a sort ran, with how much in them.
+struct Seen {
+    sort: &'static str,
+    streams: u64,
+    groups: usize,
+    airings: usize,
+    again: usize,
+    lost: usize,
+}
+
+impl Seen {
+    fn of(sort: &'static str) -> Seen {
+        Seen {
+            sort,
+            streams: 0,
+            groups: 0,
+            airings: 0,
+            again: 0,
+            lost: 0,
+        }
+    }
+
+    fn count(&mut self, groups: usize, tally: &Tally) {
+        self.streams += 1;
+        self.groups += groups;
+        self.airings += tally.written;
+        self.again += tally.complete - tally.written;
+        self.lost += tally.dropped_unfinished;
+    }
+
+    fn told(&self) -> String {
+        let Seen {
+            sort,
+            streams,
+            groups,
+            airings,
+            again,
+            lost,
+        } = self;
+        format!("{streams} {sort} ({groups} groups, {airings} airings, {again} complete again, {lost} lost)")
+    }
+}
+
+/// Runs a head on whole groups: its files are those of what was aired, which is what the policy makes
+/// of the groups, too.
+fn whole(
+    head: &Head,
+    groups: &[Vec<u8>],
+    aired: Option<&[Aired]>,
+    seen: &mut Seen,
+) -> Result<(), String> {
+    let record = Record::of(groups);
+    let by_policy = files(&record.aired);
+    let expected = aired.map_or(by_policy.clone(), files);
+    if expected != by_policy {
+        return Err("the policy makes something else of what was sent".to_string());
+    }
+    head.clear()?;
+    let output = head.run(&encoded(groups))?;
+    ended(&output, &record.tally, None)?;
+    head.has(&expected)?;
+    seen.count(groups.len(), &record.tally);
+    Ok(())
+}
+
+/// A stream that is cut: between two groups, inside a length or inside a group. What was complete
+/// before the cut is in the folder, and nothing else.
+fn cut(head: &Head, random: &mut Random, seen: &mut [Seen; 3]) -> Result<(), String> {
+    let (stream, complete) = streams::fresh(random);
+    let left = random.within(0, stream.groups.len() - 1);
+    let (before, after) = stream.groups.split_at(left);
+    let mut input = encoded(before);
+    let next = encoded(&after[..1]);
+    let place = random.within(0, 2);
+    let problem = match place {
+        0 => None,
+        1 => {
+            input.push(next[0]);
+            Some("the input ends inside a group's length")
+        }
+        _ => {
+            input.extend(&next[..random.within(2, next.len() - 1)]);
+            Some("the input ends inside a group")
+        }
+    };
+    let was_complete = complete.iter().map(|&last| last < left);
+    let aired: Vec<_> = stream.aired.into_iter().zip(was_complete).collect();
+    let aired: Vec<_> = aired
+        .into_iter()
+        .filter_map(|(each, complete)| complete.then_some(each))
+        .collect();
+    let tally = Record::of(before).tally;
+    head.clear()?;
+    let output = head.run(&input)?;
+    ended(&output, &tally, problem)?;
+    head.has(&files(&aired))?;
+    seen[place].count(left, &tally);
+    Ok(())
+}
+
+/// A head that is stopped and started again in the midst of a stream goes on with the record.
+fn restarted(head: &Head, random: &mut Random, seen: &mut Seen) -> Result<(), String> {
+    let (parts, aired) = streams::crowded(random);
+    let stop = random.within(1, parts.len() - 1);
+    head.clear()?;
+    let mut recorded = Vec::new();
+    for part in [&parts[..stop], &parts[stop..]] {
+        let groups = part.concat();
+        let output = head.run(&encoded(&groups))?;
+        let record = Record::after(recorded, &groups);
+        ended(&output, &record.tally, None)?;
+        seen.count(groups.len(), &record.tally);
+        recorded = record.aired;
+    }
+    if files(&recorded) != files(&aired) {
+        return Err("the policy makes something else of what was sent".to_string());
+    }
+    head.has(&files(&aired))
+}
+
+/// The groups of a random history, whatever they are.
+fn any_groups(random: &mut Random) -> Vec<Vec<u8>> {
+    let calls = calls(random, LIMIT, SLOTS, CALLS);
+    let groups = calls.into_iter().filter_map(|call| match call {
+        Call::Take(group) => Some(group),
+        _ => None,
+    });
+    groups.collect()
+}
+
+/// What is no stream, no folder or no place to write: a message and a status.
+fn problems(head: &Head) -> Result<usize, String> {
+    let nothing = Tally::default();
+    head.clear()?;
+    let mut directory = head.command(&head.folder);
+    directory.stdin(File::open(&head.folder).map_err(said)?);
+    let output = directory.output().map_err(said)?;
+    ended(&output, &nothing, Some("the input can't be read"))?;
+
+    let mut nowhere = head.command(&head.folder.join("nowhere"));
+    let output = nowhere.stdin(Stdio::null()).output().map_err(said)?;
+    ended(&output, &nothing, Some("the folder can't be read"))?;
+
+    // A folder that is not empty stands where the head would write a file first.
+    let random = &mut Random::from_seed(SEED);
+    let (stream, complete) = streams::fresh(random);
+    let first = complete.into_iter().min().expect("there is an object");
+    let tally = Record::of(&stream.groups[..=first]).tally;
+    for place in ["unfinished.body", "unfinished.header"] {
+        head.clear()?;
+        fs::create_dir_all(head.folder.join(place).join("taken")).map_err(said)?;
+        let output = head.run(&encoded(&stream.groups))?;
+        let tally = Tally {
+            written: 0,
+            ..tally
+        };
+        ended(&output, &tally, Some("an object can't be written"))?;
+        // Not even the half of the object that could be written is there.
+        fs::remove_dir_all(head.folder.join(place)).map_err(said)?;
+        head.has(&Files::new())?;
+    }
+    Ok(4)
 }
 
 pub fn run() -> Result<String, String> {
-    let top = PathBuf::from(env!("CARGO_MANIFEST_DIR")).join("..");
-    let folder = top.join("target/head_objects");
-    let said = |error: std::io::Error| error.to_string();
-    if folder.exists() {
-        fs::remove_dir_all(&folder).map_err(said)?;
-    }
-    fs::create_dir_all(&folder).map_err(said)?;
-    let random = &mut Random::from_seed(SEED);
-    let objects: Vec<_> = (0..OBJECTS).map(|each| object(random, each * 7)).collect();
-    let stream = stream(random, &objects);
-
-    let mut child = Command::new(top.join("machine"))
-        .arg("run")
-        .arg(top.join("target/head"))
-        .arg(&folder)
-        .stdin(Stdio::piped())
-        .stdout(Stdio::piped())
-        .spawn()
-        .map_err(said)?;
-    let mut stdin = child.stdin.take().expect("standard input is piped");
-    stdin.write_all(&stream).map_err(said)?;
-    drop(stdin);
-    let output = child.wait_with_output().map_err(said)?;
-    if !output.status.success() {
-        return Err("the head failed".to_string());
-    }
-
-    let mut sent: BTreeMap<String, &[u8]> = BTreeMap::new();
-    for object in &objects {
-        sent.insert(object.file.clone(), &object.body);
-        sent.insert(format!("{}.header", object.file), &object.header);
-    }
-    let mut written = 0;
-    for entry in fs::read_dir(&folder).map_err(said)? {
-        let entry = entry.map_err(said)?;
-        let name = entry.file_name().to_string_lossy().into_owned();
-        let bytes = fs::read(entry.path()).map_err(said)?;
-        match sent.get(&name) {
-            Some(sent) if *sent == bytes => written += 1,
-            Some(_) => return Err(format!("{name} is not what was sent")),
-            None => return Err(format!("{name} was never sent")),
+    let head = Head::new();
+    let mut told = Vec::new();
+    let sorts: [(&str, fn(&mut Random) -> streams::Stream); 6] = [
+        ("of new numbers", |random| streams::fresh(random).0),
+        ("of numbers used again", streams::reused),
+        ("of more numbers than slots", |random| {
+            let (parts, aired) = streams::crowded(random);
+            let groups = parts.concat();
+            streams::Stream { groups, aired }
+        }),
+        ("with a slow object", streams::patient),
+        ("of more unfinished objects than slots", streams::lost),
+        ("with conflicts before the end", streams::in_the_way),
+    ];
+    for (sort, made) in sorts
+        .into_iter()
+        .chain([("with a stray group", streams::strayed as _)])
+    {
+        let mut seen = Seen::of(sort);
+        for number in 0..EACH {
+            let stream = made(&mut Random::from_seed(SEED + number));
+            whole(&head, &stream.groups, Some(&stream.aired), &mut seen)
+                .map_err(|said| format!("stream {number} {sort}: {said}"))?;
         }
+        told.push(seen.told());
     }
-    if written != sent.len() {
-        return Err(format!("{written} files of {} sent", sent.len()));
+    let mut restarts = Seen::of("halves of streams that a head was stopped and started again in");
+    for number in 0..EACH {
+        restarted(&head, &mut Random::from_seed(SEED + number), &mut restarts)
+            .map_err(|said| format!("stream {number} with a restart: {said}"))?;
     }
-    let counts = String::from_utf8_lossy(&output.stdout).trim().to_string();
+    let mut histories = Seen::of("of any groups");
+    for number in 0..HISTORIES {
+        let groups = any_groups(&mut Random::from_seed(SEED + number));
+        whole(&head, &groups, None, &mut histories)
+            .map_err(|said| format!("stream {number} of any groups: {said}"))?;
+    }
+    let mut cuts = [
+        "cut between groups",
+        "cut inside a length",
+        "cut inside a group",
+    ]
+    .map(Seen::of);
+    let mut number = 0;
+    while cuts.iter().any(|seen| seen.streams < CUT) {
+        cut(&head, &mut Random::from_seed(SEED + number), &mut cuts)
+            .map_err(|said| format!("stream {number} that is cut: {said}"))?;
+        number += 1;
+    }
+    told.extend(
+        [&restarts, &histories]
+            .into_iter()
+            .chain(&cuts)
+            .map(Seen::told),
+    );
+    let problems = problems(&head)?;
     Ok(format!(
-        "{OBJECTS} objects in {} bytes of groups, {written} files compared; counts {counts}",
-        stream.len()
+        "streams: {}; and {problems} without input, folder or place to write",
+        told.join(", ")
     ))
 }
