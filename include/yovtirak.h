@@ -87,9 +87,10 @@ enum yovtirak_counted {
     YOVTIRAK_COUNT_DROPPED = 4    /* DROPPED */
 };
 
-/* Any call can be made on a thread with so many bytes of stack, where the system and the caller
- * take no more than a quarter of them. */
+/* Any call can be made on a thread with so many bytes of stack, of which the system and the caller
+ * take no more than the margin. */
 #define YOVTIRAK_STACK_BYTES 16384u
+#define YOVTIRAK_STACK_MARGIN 6144u
 
 /* All that is lent, and how much of it. The limit and the number of slots are read at an opening;
  * later calls find them in the state. */
