@@ -1,7 +1,8 @@
-//! Damaged states: the proved collector's STATE against the independent verdict. Each state comes of
-//! a history of calls and has one thing changed: a field of a record, a mark, a store byte, a length,
-//! a count, or a word that holds none of these. Where both find it sound they go on with the same
-//! calls from it, as if its marked segments had been stored; where it is damaged nothing may change.
+//! Damaged states: the proved collector's STATE against the independent verdict, to groups, drops and
+//! questions alike. Each state comes of a history of calls and has one thing changed: a field of a
+//! record, a mark, a store byte, a length, a count, or a word that holds none of these. Where both find
+//! it sound they go on with the same calls from it, as if its marked segments had been stored; where it
+//! is damaged nothing may change.
 
 use crate::collectors::{call, same, Tally};
 use crate::lent::{state_of, words, Lent, UNTOLD};
@@ -378,7 +379,9 @@ pub fn run() -> Result<String, String> {
         return Err(format!("only {sound} sound and {damaged} damaged"));
     }
     Ok(format!(
-        "{} states with one thing changed, {damaged} damaged and {sound} sound, {asked} questions asked of them, {words} with a word that holds nothing of its kind, every word, count, mark and byte of one in turn, {each} states, and {told} lengths of what is told; answers {tally:?}",
+        "{} states with one thing changed, {damaged} damaged and {sound} sound, {asked} questions \
+         asked of them, {words} with a word that holds nothing of its kind, every word, count, mark \
+         and byte of one in turn, {each} states, and {told} lengths of what is told; answers {tally:?}",
         sound + damaged
     ))
 }
