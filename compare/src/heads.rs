@@ -232,6 +232,39 @@ fn restarted(head: &Head, random: &mut Random, seen: &mut Seen) -> Result<(), St
     head.has(&files(&aired))
 }
 
+/// A file that is cut short from outside is not the object: when it comes again it is written again.
+fn spoilt(head: &Head, random: &mut Random, seen: &mut Seen) -> Result<(), String> {
+    let (stream, _) = streams::fresh(random);
+    let mut expected = files(&stream.aired);
+    let bodies: Vec<_> = stream
+        .aired
+        .iter()
+        .filter(|each| !each.body.is_empty())
+        .collect();
+    let Some(again) = bodies.get(random.within(0, bodies.len().max(1) - 1)) else {
+        return Ok(());
+    };
+    head.clear()?;
+    let input = encoded(&stream.groups);
+    let tally = Record::of(&stream.groups).tally;
+    ended(&head.run(&input)?, &tally, None)?;
+    let twice = files(&[(*again).clone(), (*again).clone()]);
+    // The first of its four files, by their names: the body of the first airing.
+    let short = twice.keys().next().cloned().expect("an airing has files");
+    let bytes = &again.body[..random.within(0, again.body.len() - 1)];
+    fs::write(head.folder.join(&short), bytes).map_err(said)?;
+    let tally = Tally {
+        written: 1,
+        ..tally
+    };
+    ended(&head.run(&input)?, &tally, None)?;
+    expected.extend(twice);
+    expected.insert(short, bytes.to_vec());
+    head.has(&expected)?;
+    seen.count(stream.groups.len(), &tally);
+    Ok(())
+}
+
 /// The groups of a random history, whatever they are.
 fn any_groups(random: &mut Random) -> Vec<Vec<u8>> {
     let calls = calls(random, LIMIT, SLOTS, CALLS);
@@ -308,6 +341,15 @@ pub fn run() -> Result<String, String> {
         restarted(&head, &mut Random::from_seed(SEED + number), &mut restarts)
             .map_err(|said| format!("stream {number} with a restart: {said}"))?;
     }
+    let mut spoilt_files = Seen::of("sent again after a file was cut short");
+    for number in 0..EACH {
+        spoilt(
+            &head,
+            &mut Random::from_seed(SEED + number),
+            &mut spoilt_files,
+        )
+        .map_err(|said| format!("stream {number} with a spoilt file: {said}"))?;
+    }
     let mut histories = Seen::of("of any groups");
     for number in 0..HISTORIES {
         let groups = any_groups(&mut Random::from_seed(SEED + number));
@@ -327,7 +369,7 @@ pub fn run() -> Result<String, String> {
         number += 1;
     }
     told.extend(
-        [&restarts, &histories]
+        [&restarts, &spoilt_files, &histories]
             .into_iter()
             .chain(&cuts)
             .map(Seen::told),
