@@ -129,10 +129,10 @@ enum yovtirak_answer {
     YOVTIRAK_UNFINISHED = 20, /* the object is not finished */
     YOVTIRAK_HEADER = 21,     /* the header's parameter list is broken */
     YOVTIRAK_DUPLICATE = 22,  /* a single parameter comes twice */
-    YOVTIRAK_CORE = 23,     /* a finished header of fewer than 7 bytes, which no sound state has */
-    YOVTIRAK_NOTFOUND = 24, /* no finished object has the name */
-    YOVTIRAK_LIMITS = 25,   /* opening outside the bounds, or a lent length is wrong */
-    YOVTIRAK_STATE = 26,    /* the state is damaged, or a lent length is wrong */
+    YOVTIRAK_CORE = 23,       /* a finished header of fewer than 7 bytes */
+    YOVTIRAK_NOTFOUND = 24,   /* no finished object has the name */
+    YOVTIRAK_LIMITS = 25,     /* opening outside the bounds, or a lent length is wrong */
+    YOVTIRAK_STATE = 26,      /* the state is damaged, or a lent length is wrong */
 
     /* 0 where a call stores nothing */
     YOVTIRAK_OPENED = 0, /* the collector is open */
@@ -192,9 +192,8 @@ uint64_t yovtirak_drop(uint64_t *state, size_t state_words, uint32_t *counts, si
                        uint16_t number, const uint8_t *header, size_t header_bytes,
                        const uint8_t *body, size_t body_bytes, uint8_t *marks, size_t marks_bytes);
 
-/* Tells the slot, the length of the header and that of the body. The header begins at `header +
- * slot
- * * YOVTIRAK_HEADER_SHARE`, the body at `body + slot * limit`. */
+/* Tells the slot, the length of the header and that of the body. Each begins the slot's share of
+ * its store: shares have YOVTIRAK_HEADER_SHARE bytes in the one, and `limit` bytes in the other. */
 #define YOVTIRAK_PLACE_WORDS 3u
 uint64_t yovtirak_finished(const uint64_t *state, size_t state_words, const uint32_t *counts,
                            size_t counts_words, uint16_t number, const uint8_t *header,
@@ -282,7 +281,7 @@ static inline enum yovtirak_answer yovtirak_show_object(const struct yovtirak_le
     return answer;
 }
 
-/* Tells what a finished object's header says. READ; or STATE, NOTHELD, UNFINISHED, HEADER or
+/* Tells what a finished object's header says. READ; or STATE, NOTHELD, UNFINISHED, CORE, HEADER or
  * DUPLICATE, and `said` stays as it is. */
 static inline enum yovtirak_answer yovtirak_read_parameters(const struct yovtirak_lent *lent,
                                                             uint16_t number,

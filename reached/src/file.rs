@@ -50,8 +50,6 @@ pub struct Import {
 pub struct File {
     pub entries: BTreeMap<String, Entry>,
     pub imports: Vec<Import>,
-    /// How many lines it has.
-    pub length: usize,
 }
 
 /// The lines of a comment that stands right above a line.

@@ -68,8 +68,8 @@ fn print_names(reached: &Reached) {
 fn print_counts(table: &Table) {
     for (path, row) in &table.rows {
         println!(
-            "{path}: {} definitions, {} of {} lines",
-            row.definitions, row.lines, row.length
+            "{path}: {} definitions, {} lines",
+            row.definitions, row.lines
         );
     }
     for (name, all) in [
@@ -77,8 +77,8 @@ fn print_counts(table: &Table) {
         ("the promises' own words", table.words),
     ] {
         println!(
-            "{name}: {} definitions, {} lines, in files of {}",
-            all.definitions, all.lines, all.length
+            "{name}: {} definitions, {} lines",
+            all.definitions, all.lines
         );
     }
 }

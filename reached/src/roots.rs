@@ -4,7 +4,7 @@
 use crate::repository::{Item, Repository};
 
 /// What is promised. Of a file with no names behind it all that stands in it, of another what is named.
-const PROMISED: [(&str, &[&str]); 6] = [
+const PROMISED: [(&str, &[&str]); 7] = [
     ("crates/collector/specs/Outcome.antt", &[]),
     ("crates/history/specs/Promise.antt", &[]),
     ("crates/history/specs/Ours.antt", &[]),
@@ -12,6 +12,15 @@ const PROMISED: [(&str, &[&str]); 6] = [
     (
         "crates/questions/specs/Theorems.antt",
         &["name-told", "find-lowest", "find-nobody"],
+    ),
+    (
+        "crates/yovtirak/specs/Reaches.antt",
+        &[
+            "words-reached",
+            "returned-reached",
+            "counts-reached",
+            "finished-there",
+        ],
     ),
     ("crates/listing/specs/Theorems.antt", &["lines-done"]),
 ];

@@ -120,10 +120,7 @@ fn before_body(lines: &[&str]) -> Option<(String, usize)> {
 
 pub fn parse(text: &str) -> Result<File, String> {
     let lines: Vec<&str> = text.lines().collect();
-    let mut file = File {
-        length: lines.len(),
-        ..File::default()
-    };
+    let mut file = File::default();
     for (at, line) in lines.iter().enumerate() {
         let number = at + 1;
         let bare = line.trim_start();

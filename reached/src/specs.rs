@@ -210,14 +210,9 @@ impl Parser<'_> {
 }
 
 pub fn parse(text: &str) -> Result<File, String> {
-    let lines: Vec<&str> = text.lines().collect();
-    let length = lines.len();
     let mut parser = Parser {
-        lines,
-        file: File {
-            length,
-            ..File::default()
-        },
+        lines: text.lines().collect(),
+        file: File::default(),
     };
     parser.block(&tokens(text), &Around::default())?;
     Ok(parser.file)

@@ -16,13 +16,11 @@ pub struct Counted {
     pub definitions: usize,
     /// The lines of these definitions, with the comments right above them.
     pub lines: usize,
-    /// The lines of the file.
-    pub length: usize,
 }
 
 impl Counted {
     fn cells(self) -> String {
-        format!("{} | {} | {}", self.definitions, self.lines, self.length)
+        format!("{} | {}", self.definitions, self.lines)
     }
 }
 
@@ -44,7 +42,6 @@ pub fn counted(
         let counted = Counted {
             definitions,
             lines: lines.len(),
-            length: repository.files[path].length,
         };
         (path.to_string(), counted)
     };
@@ -63,7 +60,6 @@ pub fn sum(rows: &[(String, Counted)]) -> Counted {
         .fold(Counted::default(), |sum, (_, row)| Counted {
             definitions: sum.definitions + row.definitions,
             lines: sum.lines + row.lines,
-            length: sum.length + row.length,
         })
 }
 
@@ -76,8 +72,8 @@ pub struct Table {
 
 fn head() -> [String; 2] {
     [
-        "| File | What it says | Definitions | Lines | Of |".into(),
-        "|---|---|---|---|---|".into(),
+        "| File | What it says | Definitions | Lines |".into(),
+        "|---|---|---|---|".into(),
     ]
 }
 

@@ -3,17 +3,10 @@
 use reached::table::{Counted, Table, END, START};
 
 fn table() -> Table {
-    let row = |definitions, lines, length| Counted {
-        definitions,
-        lines,
-        length,
-    };
+    let row = |definitions, lines| Counted { definitions, lines };
     Table {
-        rows: vec![
-            ("a/One".into(), row(2, 10, 20)),
-            ("b/Two".into(), row(1, 5, 70)),
-        ],
-        words: row(1, 4, 20),
+        rows: vec![("a/One".into(), row(2, 10)), ("b/Two".into(), row(1, 5))],
+        words: row(1, 4),
     }
 }
 
@@ -22,12 +15,12 @@ fn document(rows: &str) -> String {
 }
 
 const RIGHT: &str = "\
-| File | What it says | Definitions | Lines | Of |
-|---|---|---|---|---|
-| `a/One` | the first | 2 | 10 | 20 |
-| `b/Two` | the other | 1 | 5 | 70 |
-| *all* | | 3 | 15 | 90 |
-| *the promises* | theirs | 1 | 4 | 20 |";
+| File | What it says | Definitions | Lines |
+|---|---|---|---|
+| `a/One` | the first | 2 | 10 |
+| `b/Two` | the other | 1 | 5 |
+| *all* | | 3 | 15 |
+| *the promises* | theirs | 1 | 4 |";
 
 #[test]
 fn a_table_that_is_right_passes() {
@@ -41,11 +34,8 @@ fn a_number_a_row_or_a_place_that_is_wrong_is_said() {
     let right = RIGHT.replace("| *all* | |", "| *all* | both |");
     let wrong = [
         right.replace("| 2 | 10 |", "| 2 | 11 |"),
-        right.replace("| `b/Two` | the other | 1 | 5 | 70 |\n", ""),
-        right.replace(
-            "| `b/Two` ",
-            "| `c/Three` | gone | 1 | 5 | 70 |\n| `b/Two` ",
-        ),
+        right.replace("| `b/Two` | the other | 1 | 5 |\n", ""),
+        right.replace("| `b/Two` ", "| `c/Three` | gone | 1 | 5 |\n| `b/Two` "),
         right.replace("| *all* | both | 3 ", "| *all* | both | 4 "),
     ];
     for rows in wrong {
@@ -64,7 +54,7 @@ fn a_number_a_row_or_a_place_that_is_wrong_is_said() {
 fn a_row_without_words_is_said() {
     let new = document("");
     let written = table().written(&new).unwrap();
-    assert!(written.contains("| `a/One` | ? | 2 | 10 | 20 |"));
+    assert!(written.contains("| `a/One` | ? | 2 | 10 |"));
     assert_eq!(table().differences(&written).unwrap().len(), 4);
     assert!(table().differences("no table").is_err());
 }
