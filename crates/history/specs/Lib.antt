@@ -23,6 +23,7 @@ pub mod Tally
 pub mod Demands
 pub mod OneCut
 pub mod Samples
+pub mod Trials
 pub mod Worthless
 pub mod Ours
 pub mod Promises

@@ -65,7 +65,7 @@ unfoldable pub computing : Unit {0}
 unfolding parameters name findByName nameData hasName headerIn holderIn lowestFrom foundByName readHeader judged fieldsOf findParameter twice count single allFit widthFits parametersFrom turns foundAt inHeader parameterAt lengthAt contentType contentSubType nameMatches unslashed under opening openedBy taking takeGroup dropping dropNumber soundState segmentIn locate show shownOf startOf takeAt takeNew dropAt slotAt freshSlot freeSlot withLent lentAt soundSlots rightFrom rightSlot distinct unlike heldAmong withinLimits freeIn findIn firstFrom holds isFree fitsAlone soundSlot soundParts recordRight takeInto slotWith sameSegment stageOf partsWith recordWithin recordWith takesIn coreIn lentOf partsOf put settled segmentAt suitsIn possibleIn settle alone largest room coreFits boundsOf headerSize bodySize within risen largestOf equal zeros over readingOf kindOf checkHolds sizeWrong segmentOf checkWord divided bitsEntered entered step
 computing = tt
 
--- ---- a small collector
+-- ---- small collectors
 
 -- one slot, a body of up to 1,024 bytes; the marks are whatever they were
 unfoldable pub small : Start
@@ -76,6 +76,17 @@ unfolding small
 allowed = record {
   limits = record { header = refl; body = refl; marks = refl; least = omega arith; most = omega arith; some = omega arith; slots = omega arith };
   bytes = record { header = bytes-zeros 1024; body = bytes-zeros 1024 };
+}
+
+-- two slots
+unfoldable pub pair : Start
+pair = record { limit = 1024; count = 2; counts = noneYet; stores = record { header = replicate 2048 0; body = replicate 2048 0; marks = replicate 2176 7 } }
+
+pub pair-allowed : Allowed pair
+unfolding pair
+pair-allowed = record {
+  limits = record { header = refl; body = refl; marks = refl; least = omega arith; most = omega arith; some = omega arith; slots = omega arith };
+  bytes = record { header = bytes-zeros 2048; body = bytes-zeros 2048 };
 }
 
 -- ---- one cut of one object, with a group under another number between

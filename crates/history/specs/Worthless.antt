@@ -5,7 +5,7 @@ use mathlib.Core.Path.{_≡_, refl, sym, ap, _∙_}
 use mathlib.Core.Logic.{_≢_, inl}
 use mathlib.Core.Bool.{true}
 use mathlib.Core.List.{List, [], _∷_}
-use Prim.Native.Nat.{ℕ, zero, suc, _-_, _*_, _≤_, _<_, min}
+use Prim.Native.Nat.{ℕ, _-_, _*_, _≤_, _<_, min}
 use native.Mathlib.Omega.{arith}
 use lib.ListN.{length}
 use lib.Dec.{eqb}
@@ -23,123 +23,20 @@ use Rattle.group.specs.declared.Reading.the-variants.{Read, Refused}
 use Rattle.group.specs.Reading.{readingOf}
 use Rattle.group.specs.declared.Reading.{Reading}
 use Rattle.cut.specs.Lists.{Among, pick}
-use Rattle.cut.specs.Requirement.{bodySize, headerSize, Segment, Fits, Finished}
-use Rattle.cut.specs.LawsSegment.{sends-sits, inside, Numbered}
-use Rattle.cut.specs.Finished.{whole-numbers, whole-empty}
+use Rattle.cut.specs.Requirement.{Segment, Fits, Finished}
+use Rattle.cut.specs.LawsSegment.{sends-sits, inside}
 use Rattle.cut.specs.Decision.{both}
-use Rattle.gathering.specs.Offers.{Source, SentBy}
+use Rattle.gathering.specs.Offers.{SentBy}
 use Rattle.gathering.specs.declared.Stage.the-variants as Stage
 use Rattle.slots.specs.declared.Found.{Found}
 use Rattle.slots.specs.declared.Found.the-variants.{Nothing, At}
 use Rattle.collector.specs.Calls.{segmentIn, heardAs, allFree}
 use Rattle.history.specs.Call.{State, find, Reply, taking, dropping, limitOf, slotOf, free, answering}
-use Rattle.history.specs.Asking.{locating, showing, telling, naming, finding}
-use Rattle.history.specs.History.{Question, hand, drop, ask, Begun, Collecting, Start, told, under, begun, asking}
+use Rattle.history.specs.History.{Question, drop, ask, Begun, Collecting, Start, told, under, begun}
 use Rattle.history.specs.Stage.{none-finished}
-use Rattle.history.specs.Promise.{Run, reachedBy, toldBy, stored, Passing, heardOf, since, StoredFrom, cameUnder, answersFrom, RefusedLeaves, NeverState, OthersLeave, ShownJoined, UnfinishedUnshown, CountsTold, ConflictExactly, FullExactly, RepeatExactly, CompleteExactly, DropExactly, FinishedExactly, OneCutAgrees, OneCutFinishes}
-use Rattle.history.specs.Samples.{computing, small, allowed, bodyLast, readAs, object, oneCut, of-bytes-one, sent-one, all-sent}
-
--- ---- an object of one segment: a header of 7 bytes and no body
-
-abbrev core : List ℕ
-core = 0x00 ∷ 0x00 ∷ 0x00 ∷ 0x00 ∷ 0x03 ∷ 0x84 ∷ 0x01 ∷ []
-
-abbrev whole : Segment
-whole = record { number = 0; last = true; bytes = core }
-
-fits : Fits 1024 (whole ∷ []) []
-unfolding bodySize headerSize
-fits = record {
-  header = core;
-  body = [];
-  object = record { headerLow = omega arith; headerHigh = omega arith; bodyHigh = omega arith; headerBytes = omega arith; bodyBytes = tt; saysBody = refl; saysHeader = refl };
-  headerCut = 16;
-  bodyCut = 16;
-  headerCuts = record { low = omega arith; high = omega arith; enough = omega arith };
-  bodyCuts = record { low = omega arith; high = omega arith; enough = omega arith };
-  headerSent = (record { starts = omega arith; holds = refl; ends = refl }, tt);
-  bodySent = tt;
-}
-
-done : Finished fits
-unfolding fits
-done = record { header = whole-numbers core 16 (whole ∷ []) (record { starts = omega arith; holds = refl; ends = refl }, tt) .1 number; body = whole-empty [] 16 [] refl }
-  where
-    number : (n : ℕ) → n * 16 < 7 → Numbered n (whole ∷ [])
-    number zero h = inl refl
-    number (suc n) h = absurd (omega arith)
-
--- the object and its cut
-single : Source 1024
-unfolding fits
-single = record { header = core; body = []; object = fits .object; headerCut = 16; bodyCut = 16; headerCuts = fits .headerCuts; bodyCuts = fits .bodyCuts; headerSent = tt; bodySent = tt }
-
--- its one group, under number 5 and under number 6
-abbrev five : List ℕ
-five = 0x73 ∷ 0x00 ∷ 0x80 ∷ 0x00 ∷ 0x12 ∷ 0x00 ∷ 0x05 ∷ 0x00 ∷ 0x07 ∷ 0x00 ∷ 0x00 ∷ 0x00 ∷ 0x00 ∷ 0x03 ∷ 0x84 ∷ 0x01 ∷ 0x69 ∷ 0x0F ∷ []
-
-abbrev six : List ℕ
-six = 0x73 ∷ 0x00 ∷ 0x80 ∷ 0x00 ∷ 0x12 ∷ 0x00 ∷ 0x06 ∷ 0x00 ∷ 0x07 ∷ 0x00 ∷ 0x00 ∷ 0x00 ∷ 0x00 ∷ 0x03 ∷ 0x84 ∷ 0x01 ∷ 0xD8 ∷ 0xC0 ∷ []
-
--- a header segment of 6 bytes, whole
-abbrev short : List ℕ
-short = 0x73 ∷ 0x00 ∷ 0x80 ∷ 0x00 ∷ 0x12 ∷ 0x00 ∷ 0x05 ∷ 0x00 ∷ 0x06 ∷ 0x00 ∷ 0x00 ∷ 0x00 ∷ 0x00 ∷ 0x03 ∷ 0x84 ∷ 0xB9 ∷ 0x16 ∷ []
-
-reads : (readingOf five ≡ Read (readAs 5 Header 0 true 7)) × (readingOf short ≡ Read (readAs 5 Header 0 true 6)) × (readingOf bodyLast ≡ Read (readAs 5 Body 1 true 4))
-unfolding computing
-reads = (refl, refl, refl)
-
-groupFive : Passing
-groupFive = record { bytes = five; areBytes = omega arith; carried = readAs 5 Header 0 true 7; read = reads .0 }
-
-groupShort : Passing
-groupShort = record { bytes = short; areBytes = omega arith; carried = readAs 5 Header 0 true 6; read = reads .1 }
-
-groupLast : Passing
-groupLast = record { bytes = bodyLast; areBytes = omega arith; carried = readAs 5 Body 1 true 4; read = reads .2 }
-
--- ---- the runs
-
-abbrev none : Run
-none = record { start = small; allowed = allowed; calls = []; bytes = tt }
-
-abbrev one : Run
-one = record { start = small; allowed = allowed; calls = hand five ∷ []; bytes = (omega arith, tt) }
-
-abbrev two : Run
-two = record { start = small; allowed = allowed; calls = hand six ∷ hand five ∷ []; bytes = (omega arith, (omega arith, tt)) }
-
--- a drop between two groups
-abbrev again : Run
-again = record { start = small; allowed = allowed; calls = hand six ∷ drop 5 ∷ hand five ∷ []; bytes = (omega arith, (tt, (omega arith, tt))) }
-
--- document 01's example
-abbrev many : Run
-many = record { start = small; allowed = allowed; calls = oneCut; bytes = of-bytes-one }
-
--- an opening with counts from before
-abbrev used : Start
-used = record { limit = small .limit; count = small .count; counts = record { taken = 3; repeated = 0; refused = 0; completed = 0; dropped = 0 }; stores = small .stores }
-
-abbrev later : Run
-later = record { start = used; allowed = record { limits = allowed .limits; bytes = allowed .bytes }; calls = []; bytes = tt }
-
--- ---- the collector's own definitions with one piece replaced
-
-abbrev openingBy : (Start → Begun) → Collecting
-openingBy opens = record { opens = opens; takes = taking; drops = dropping; locates = locating; shows = showing; tells = telling; names = naming; finds = finding; asks = asking }
-
-abbrev takingBy : (List ℕ → State → Reply) → Collecting
-takingBy takes = record { opens = begun; takes = takes; drops = dropping; locates = locating; shows = showing; tells = telling; names = naming; finds = finding; asks = asking }
-
-abbrev droppingBy : (ℕ → State → Reply) → Collecting
-droppingBy drops = record { opens = begun; takes = taking; drops = drops; locates = locating; shows = showing; tells = telling; names = naming; finds = finding; asks = asking }
-
-abbrev showingBy : (ℕ → Part → State → List ℕ) → Collecting
-showingBy shows = record { opens = begun; takes = taking; drops = dropping; locates = locating; shows = shows; tells = telling; names = naming; finds = finding; asks = asking }
-
-abbrev askingBy : (Question → State → State) → Collecting
-askingBy asks = record { opens = begun; takes = taking; drops = dropping; locates = locating; shows = showing; tells = telling; names = naming; finds = finding; asks = asks }
+use Rattle.history.specs.Promise.{Run, reachedBy, toldBy, stored, heardOf, since, StoredFrom, cameUnder, answersFrom, RefusedLeaves, NeverState, OthersLeave, ShownJoined, UnfinishedUnshown, CountsTold, ConflictExactly, FullExactly, RepeatExactly, CompleteExactly, DropExactly, FinishedExactly, OneCutAgrees, OneCutFinishes}
+use Rattle.history.specs.Samples.{computing, small, bodyLast, readAs, object, oneCut, sent-one, all-sent}
+use Rattle.history.specs.Trials.{core, whole, finished-core, single, six, groupFive, groupShort, groupLast, none, one, two, again, many, later, openingBy, takingBy, droppingBy, showingBy, askingBy}
 
 -- ---- what cannot be the same
 
@@ -213,11 +110,6 @@ drops-asked-breaks p =
     different (find 5 (dropsAsked (Question.show 5 Header) s)) (find 5 s) (p one 5 (ask (Question.show 5 Header) ∷ []) (tt, tt) (tt, tt) .0 .found) refl refl
 
 -- ---- demand 2
-
--- where the one segment is stored, its object is finished
-finished-core : (limit : ℕ) (hs bs : List Segment) → limit ≡ 1024 → hs ≡ whole ∷ [] → bs ≡ [] → (f : Fits limit hs bs) × Finished f × (f .header ≡ core)
-unfolding fits
-finished-core limit hs bs l h b = rw (l, h, b) (fits, done, refl)
 
 -- by the joined bytes: what was answered STORED or COMPLETE is shown
 shown-breaks : (k : Collecting) (r : Run) (number : ℕ) → r .start .limit ≡ 1024 → (stored k r Header number ≡ whole ∷ []) × (stored k r Body number ≡ []) × (k .shows number Header (reachedBy k r) ≡ []) → ¬ (ShownJoined k)
