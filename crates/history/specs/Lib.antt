@@ -25,6 +25,8 @@ pub mod OneCut
 pub mod Samples
 pub mod Trials
 pub mod Worthless
+pub mod Careless
+pub mod Mistaken
 pub mod Ours
 pub mod Promises
 pub mod Example

@@ -9,6 +9,7 @@ use native.Mathlib.Omega.{arith}
 use lib.ListN.{replicate}
 use Rattle.answer.specs.declared.Part.{Part}
 use Rattle.answer.specs.declared.Part.the-variants.{Header, Body}
+use Rattle.answer.specs.Table.{numberOf}
 use Rattle.counts.specs.declared.Counts.{Counts}
 use Rattle.counts.specs.Counted.{ceiling, noneYet, within}
 use Rattle.group.specs.declared.Reading.the-variants.{Read}
@@ -19,11 +20,19 @@ use Rattle.cut.specs.LawsSegment.{Numbered}
 use Rattle.cut.specs.LawsDecision.{true-both}
 use Rattle.cut.specs.Finished.{whole-numbers, whole-empty}
 use Rattle.gathering.specs.Offers.{Source}
+use Rattle.slots.specs.declared.Found.{Found}
+use Rattle.slots.specs.declared.Found.the-variants.{Nothing, At}
+use Rattle.slots.specs.Stores.{slotsMost}
 use Rattle.slots.specs.State.{soundSlots}
+use Rattle.collector.specs.declared.Opening.{Opening}
+use Rattle.collector.specs.declared.Opening.the-variants as Opening
 use Rattle.collector.specs.declared.Located.{Located}
+use Rattle.collector.specs.declared.Located.the-variants as Located
 use Rattle.collector.specs.Calls.{soundState}
 use Rattle.questions.specs.declared.Asked.{Asked}
+use Rattle.questions.specs.declared.Asked.the-variants as Asked
 use Rattle.questions.specs.declared.Sought.{Sought}
+use Rattle.questions.specs.declared.Sought.the-variants as Sought
 use Rattle.history.specs.Call.{State, Reply, taking, dropping, limitOf}
 use Rattle.history.specs.Asking.{locating, showing, telling, naming, finding}
 use Rattle.history.specs.Ready.{OfBytes, slots-sound}
@@ -218,6 +227,28 @@ uneven = record { taken = 0; repeated = 0; refused = 0; completed = 1; dropped =
 
 pub overrun-damaged : (s : State) → ¬ (InOrder (withCounts overrun s))
 overrun-damaged s w = absurd (omega (arith, w .counts .taken))
+
+-- ---- what tells two answers apart: the number of a refusal, 0 where there is none; the slot that is found
+
+abbrev pub openingNumber : Opening → ℕ
+openingNumber Opening.Open = 0
+openingNumber (Opening.Refused why) = numberOf why
+
+abbrev pub locatedNumber : Located → ℕ
+locatedNumber (Located.At i) = 0
+locatedNumber (Located.Refused why) = numberOf why
+
+abbrev pub askedNumber : Asked → ℕ
+askedNumber (Asked.Fields fields) = 0
+askedNumber (Asked.Refused why) = numberOf why
+
+abbrev pub soughtNumber : Sought → ℕ
+soughtNumber (Sought.Number number) = 0
+soughtNumber (Sought.Refused why) = numberOf why
+
+abbrev pub foundSlot : Found → ℕ
+foundSlot Nothing = slotsMost
+foundSlot (At i) = i
 
 -- ---- the collector's own definitions with one piece replaced
 

@@ -3,12 +3,12 @@
 -- piece into our collector, which is then refused at that promise.
 use mathlib.Core.Path.{_≡_, refl, sym, ap, _∙_}
 use mathlib.Core.Logic.{_≢_, inl}
-use mathlib.Core.Bool.{true}
+use mathlib.Core.Bool.{Bool, true, false}
 use mathlib.Core.List.{List, [], _∷_}
-use Prim.Native.Nat.{ℕ, _-_, _*_, _≤_, _<_, min}
+use Prim.Native.Nat.{ℕ, zero, suc, _+_, _-_, _*_, _/_, _%_, _≤_, _<_, min}
 use native.Mathlib.Omega.{arith}
-use lib.ListN.{length}
-use lib.Dec.{eqb}
+use lib.ListN.{length, set}
+use lib.Dec.{eqb, leb}
 use borrow.Author.Tests.{leb-true}
 use Rattle.octets.specs.Octets.{zeros}
 use Rattle.answer.specs.declared.Answer.{Answer}
@@ -19,24 +19,37 @@ use Rattle.answer.specs.declared.Answer.the-variants as Answer
 use Rattle.answer.specs.declared.Refusal.the-variants as Refusal
 use Rattle.counts.specs.declared.Counts.{Counts}
 use Rattle.counts.specs.Counted.{ceiling, noneYet, counted}
+use Rattle.group.specs.declared.Kind.{Kind}
+use Rattle.group.specs.declared.Kind.the-variants.{Carries, Other}
+use Rattle.group.specs.declared.Segment.{Segment as Carried}
 use Rattle.group.specs.declared.Reading.the-variants.{Read, Refused}
-use Rattle.group.specs.Reading.{readingOf}
+use Rattle.group.specs.Wire.{typeNumber}
+use Rattle.group.specs.Reading.{kindOf, readingOf}
 use Rattle.group.specs.declared.Reading.{Reading}
 use Rattle.cut.specs.Lists.{Among, pick}
 use Rattle.cut.specs.Requirement.{Segment, Fits, Finished}
 use Rattle.cut.specs.LawsSegment.{sends-sits, inside}
 use Rattle.cut.specs.Decision.{both}
+use Rattle.cut.specs.LawsDecision.{false-true}
 use Rattle.gathering.specs.Offers.{SentBy}
+use Rattle.gathering.specs.declared.Slot.{Slot}
+use Rattle.gathering.specs.declared.Stage.{Stage}
 use Rattle.gathering.specs.declared.Stage.the-variants as Stage
 use Rattle.slots.specs.declared.Found.{Found}
 use Rattle.slots.specs.declared.Found.the-variants.{Nothing, At}
-use Rattle.collector.specs.Calls.{segmentIn, heardAs, allFree}
-use Rattle.history.specs.Call.{State, find, Reply, taking, dropping, limitOf, slotOf, free, answering}
-use Rattle.history.specs.History.{Question, drop, ask, Begun, Collecting, Start, told, under, begun}
+use Rattle.slots.specs.Find.{isFree}
+use Rattle.slots.specs.Alone.{fitsAlone}
+use Rattle.collector.specs.declared.Located.the-variants as Located
+use Rattle.collector.specs.Calls.{withSlots, segmentIn, heardAs, intoFree, allFree}
+use Rattle.history.specs.Call.{State, find, Reply, replied, taking, dropping, sound, limitOf, slotOf, free, answering}
+use Rattle.history.specs.History.{Question, drop, ask, Begun, Collecting, Start, told, under, begun, defined}
+use Rattle.history.specs.Asking.{locating}
+use Rattle.history.specs.Held.{stageFor}
 use Rattle.history.specs.Stage.{none-finished}
-use Rattle.history.specs.Promise.{Run, reachedBy, toldBy, stored, heardOf, since, StoredFrom, cameUnder, answersFrom, RefusedLeaves, NeverState, OthersLeave, ShownJoined, UnfinishedUnshown, CountsTold, ConflictExactly, FullExactly, RepeatExactly, CompleteExactly, DropExactly, FinishedExactly, OneCutAgrees, OneCutFinishes}
-use Rattle.history.specs.Samples.{computing, small, bodyLast, readAs, object, oneCut, sent-one, all-sent}
-use Rattle.history.specs.Trials.{core, whole, finished-core, single, six, groupFive, groupShort, groupLast, none, one, two, again, many, later, openingBy, takingBy, droppingBy, showingBy, askingBy}
+use Rattle.history.specs.Demands.{run-answered, finished-lengths}
+use Rattle.history.specs.Promise.{Run, reachedBy, toldBy, stored, heardOf, since, StoredFrom, cameUnder, answersFrom, RefusedLeaves, NeverState, OthersLeave, ShownJoined, UnfinishedUnshown, CountsTold, ConflictExactly, FullExactly, RepeatExactly, CompleteExactly, StoredExactly, LowestFreeTaken, UnreadRefused, DropExactly, UnheldExactly, NoneFreeExactly, FinishedExactly, FinishedLengths, OneCutAgrees, OneCutFinishes}
+use Rattle.history.specs.Samples.{computing, small, pair, bodyLast, bodyFirst, header, readAs, object, oneCut, sent-one, all-sent}
+use Rattle.history.specs.Trials.{core, whole, finished-core, single, five, six, otherKind, groupFive, groupSix, groupShort, groupLast, none, one, two, dropped, again, many, later, empty, twice, foundSlot, openingBy, takingBy, droppingBy, showingBy, askingBy}
 
 -- ---- what cannot be the same
 
@@ -233,20 +246,20 @@ pub stores-every-unshown : ¬ (ShownJoined (takingBy storesEvery))
 unfolding computing small
 stores-every-unshown = shown-breaks (takingBy storesEvery) one 5 refl (refl, refl, refl)
 
+-- the group is taken, and another answer is given and counted
+abbrev renamed : Answer → List ℕ → State → Reply
+renamed answer bytes s = record {
+  answer = answer;
+  left = record { collector = taking bytes s .left .collector; counts = counted answer (s .counts); stores = taking bytes s .left .stores };
+}
+
 -- COMPLETE as soon as a last segment is stored
 abbrev completeAs : Reading → Answer → Answer
 completeAs (Read carried) answer = pick (both (carried .last) (eqb (numberOf answer) 0)) (Answer.Complete (heardAs carried)) answer
 completeAs (Refused why) answer = answer
 
 abbrev pub completesByLast : List ℕ → State → Reply
-completesByLast bytes s = record {
-  answer = completeAs (readingOf bytes) (taking bytes s .answer);
-  left = record {
-    collector = taking bytes s .left .collector;
-    counts = counted (completeAs (readingOf bytes) (taking bytes s .answer)) (s .counts);
-    stores = taking bytes s .left .stores;
-  };
-}
+completesByLast bytes s = renamed (completeAs (readingOf bytes) (taking bytes s .answer)) bytes s
 
 -- nothing is COMPLETE without a header
 pub completes-by-last-breaks : ¬ (CompleteExactly (takingBy completesByLast))
@@ -317,3 +330,198 @@ stores-first-breaks p = gathering-unfinished (length (object .header)) (length (
 pub stores-first-unshown : ¬ (ShownJoined (takingBy storesFirst))
 unfolding computing small
 stores-first-unshown = shown-breaks (takingBy storesFirst) two 6 refl (refl, refl, refl)
+
+-- ---- the slots
+
+-- a segment whose number holds no slot is offered to slot `chosen`
+abbrev pub placedIn : Found → Found → Carried → List ℕ → State → Reply
+placedIn (At i) chosen carried bytes s = taking bytes s
+placedIn Nothing chosen carried bytes s =
+    pick (both (sound s) (fitsAlone (carried .part) (limitOf s) (segmentIn bytes carried)))
+    (replied (intoFree chosen carried (segmentIn bytes carried) (s .collector) (s .counts) (s .stores)))
+    (taking bytes s)
+
+abbrev pub choosing : (Carried → State → Found) → Reading → List ℕ → State → Reply
+choosing choose (Read carried) bytes s = placedIn (find (carried .number) s) (choose carried s) carried bytes s
+choosing choose (Refused why) bytes s = taking bytes s
+
+-- the highest free slot
+abbrev highestFree : ℕ → State → Found
+highestFree zero s = Nothing
+highestFree (suc i) s = pick (isFree (slotOf i s)) (At i) (highestFree i s)
+
+abbrev pub takesHighest : List ℕ → State → Reply
+takesHighest bytes s = choosing (λ carried t. highestFree (t .collector .count) t) (readingOf bytes) bytes s
+
+-- with two free slots a number takes the first
+lowest-breaks : (k : Collecting) → (find 5 (k .takes five (reachedBy k empty) .left) ≡ At 1) × (find 5 (reachedBy k empty) ≡ Nothing) × (numberOf (k .takes five (reachedBy k empty) .answer) ≡ 1) × (isFree (slotOf 0 (reachedBy k empty)) ≡ true) → ¬ (LowestFreeTaken k)
+unfolding groupFive
+lowest-breaks k c p =
+    let m = p empty groupFive (c .1) (omega (arith, c .2)) in
+    let i : 1 ≡ m .0 = ap foundSlot (sym (c .0) ∙ m .1) in
+    false-true (m .3 0 (omega arith)) (c .3)
+
+pub takes-highest-breaks : ¬ (LowestFreeTaken (takingBy takesHighest))
+unfolding computing pair
+takes-highest-breaks = lowest-breaks (takingBy takesHighest) (refl, refl, refl, refl)
+
+-- the slot that the number gives, by what is left of it; the lowest free one where that is held
+abbrev slotFor : ℕ → State → Found
+slotFor i s = pick (isFree (slotOf i s)) (At i) (free s)
+
+abbrev pub takesByNumber : List ℕ → State → Reply
+takesByNumber bytes s = choosing (λ carried t. slotFor (carried .number % t .collector .count) t) (readingOf bytes) bytes s
+
+pub takes-by-number-breaks : ¬ (LowestFreeTaken (takingBy takesByNumber))
+unfolding computing pair
+takes-by-number-breaks = lowest-breaks (takingBy takesByNumber) (refl, refl, refl, refl)
+
+-- every group takes a slot of its own
+abbrev anotherAs : Reading → List ℕ → State → Reply
+anotherAs (Read carried) bytes s = placedIn Nothing (free s) carried bytes s
+anotherAs (Refused why) bytes s = taking bytes s
+
+abbrev pub takesAnother : List ℕ → State → Reply
+takesAnother bytes s = anotherAs (readingOf bytes) bytes s
+
+-- where none is free, each slot is the one that holds a number
+pub takes-another-breaks : ¬ (NoneFreeExactly (takingBy takesAnother))
+unfolding computing pair
+takes-another-breaks p = let m = p twice .0 refl 1 (omega arith) in never (eqb 5 (m .0)) (m .1)
+  where
+    never : (b : Bool) → pick b (At 0) (pick b (At 1) Nothing) ≢ At 1
+    never true e = let z : _≡_ {A = ℕ} 0 1 = ap foundSlot e in absurd (omega arith)
+    never false e = let z : _≡_ {A = ℕ} 16 1 = ap foundSlot e in absurd (omega arith)
+
+-- DROPPED, and the slot stays as it was
+abbrev pub keepsSlot : ℕ → State → Reply
+keepsSlot number s = answering (dropping number s .answer) s
+
+-- a number under which nothing is stored holds no slot
+pub keeps-slot-breaks : ¬ (UnheldExactly (droppingBy keepsSlot))
+unfolding computing small
+keeps-slot-breaks p =
+    let e : _≡_ {A = ℕ} 0 16 = ap foundSlot (p dropped 5 .1 (refl, refl)) in
+    absurd (omega arith)
+
+-- NOTHELD for every number, and it is dropped
+abbrev pub dropsUnsaid : ℕ → State → Reply
+dropsUnsaid number s = record {
+  answer = pick (sound s) Answer.NotHeld Answer.State;
+  left = record { collector = dropping number s .left .collector; counts = s .counts; stores = dropping number s .left .stores };
+}
+
+-- and one under which something is stored does
+pub drops-unsaid-breaks : ¬ (UnheldExactly (droppingBy dropsUnsaid))
+unfolding computing small
+drops-unsaid-breaks p =
+    let e : _≡_ {A = ℕ} 1 0 = ap length (p dropped 5 .0 refl .0) in
+    absurd (omega arith)
+
+-- ---- the stage's two lengths
+
+-- the slot in which an object was finished, changed
+abbrev changedIn : (Slot → Slot) → Found → State → State
+changedIn change Nothing s = s
+changedIn change (At i) s = record { collector = withSlots (set (s .collector .slots) i (change (slotOf i s))) (s .collector); counts = s .counts; stores = s .stores }
+
+abbrev changing : (Slot → Slot) → Reading → List ℕ → State → Reply
+changing change (Refused why) bytes s = taking bytes s
+changing change (Read carried) bytes s =
+    pick (eqb (numberOf (taking bytes s .answer)) 1)
+    (record { answer = taking bytes s .answer; left = changedIn change (find (carried .number) (taking bytes s .left)) (taking bytes s .left) })
+    (taking bytes s)
+
+abbrev withStage : (ℕ → ℕ → Stage) → Stage → Slot → Slot
+withStage lengths Stage.Free slot = slot
+withStage lengths Stage.Gathering slot = slot
+withStage lengths (Stage.Finished header body) slot = record { number = slot .number; stage = lengths header body; header = slot .header; body = slot .body }
+
+-- the body's length first
+abbrev pub swapsLengths : List ℕ → State → Reply
+swapsLengths bytes s = changing (λ slot. withStage (λ header body. Stage.Finished body header) (slot .stage) slot) (readingOf bytes) bytes s
+
+abbrev bodyLength : Stage → ℕ
+bodyLength Stage.Free = 0
+bodyLength Stage.Gathering = 0
+bodyLength (Stage.Finished header body) = body
+
+-- by the lengths of the object that our collector finishes with the same segments
+lengths-break : (k : Collecting) (r : Run) (number slot : ℕ) (hs bs : List Segment) → (stored k r Header number ≡ hs) × (stored k r Body number ≡ bs) → (stored defined r Header number ≡ hs) × (stored defined r Body number ≡ bs)
+    → locating number (reachedBy defined r) ≡ Located.At slot → bodyLength (stageFor number (reachedBy k r)) ≢ bodyLength (stageFor number (reachedBy defined r)) → ¬ (FinishedLengths k)
+lengths-break k r number slot hs bs c d l n p =
+    let m = run-answered r .located number slot .0 l in
+    let e = rw (c .0 ∙ sym (d .0), c .1 ∙ sym (d .1)) at (p r number) in
+    n (ap bodyLength (e (m .1) (m .2) ∙ sym (finished-lengths r number (m .1) (m .2))))
+
+pub swaps-lengths-breaks : ¬ (FinishedLengths (takingBy swapsLengths))
+unfolding computing small
+swaps-lengths-breaks = lengths-break (takingBy swapsLengths) one 5 0 (whole ∷ []) [] (refl, refl) (refl, refl) refl (λ e. absurd (omega arith))
+
+-- the body's length in whole segments
+abbrev roundedTo : ℕ → ℕ → ℕ
+roundedTo zero n = n
+roundedTo (suc size) n = (n + size) / suc size * suc size
+
+-- what document 01's example stores
+abbrev manyHeaders : List Segment
+manyHeaders = segmentIn header (readAs 5 Header 0 true 7) ∷ []
+
+abbrev manyBodies : List Segment
+manyBodies = segmentIn bodyFirst (readAs 5 Body 0 false 16) ∷ segmentIn bodyLast (readAs 5 Body 1 true 4) ∷ []
+
+abbrev pub roundsLength : List ℕ → State → Reply
+roundsLength bytes s = changing (λ slot. withStage (λ header body. Stage.Finished header (roundedTo (slot .body .size) body)) (slot .stage) slot) (readingOf bytes) bytes s
+
+pub rounds-length-breaks : ¬ (FinishedLengths (takingBy roundsLength))
+unfolding computing small
+rounds-length-breaks = lengths-break (takingBy roundsLength) many 5 0 manyHeaders manyBodies (refl, refl) (refl, refl) refl (λ e. absurd (omega arith))
+
+-- ---- STORED, and groups that are not read
+
+-- STORED where with it every segment is in
+abbrev pub neverCompletes : List ℕ → State → Reply
+neverCompletes bytes s = pick (eqb (numberOf (taking bytes s .answer)) 1) (renamed (storedAs (readingOf bytes)) bytes s) (taking bytes s)
+
+-- with STORED some segment is missing
+pub never-completes-breaks : ¬ (StoredExactly (takingBy neverCompletes))
+unfolding computing small groupFive
+never-completes-breaks p =
+    let e : _≡_ {A = ℕ} 1 0 = ap numberOf (run-answered none .storing groupFive .1 (p none groupFive .0 refl)) in
+    absurd (omega arith)
+
+-- STORED where no slot is there
+abbrev pub storesFull : List ℕ → State → Reply
+storesFull bytes s = pick (eqb (numberOf (taking bytes s .answer)) 18) (renamed (storedAs (readingOf bytes)) bytes s) (taking bytes s)
+
+-- with STORED a slot is there
+pub stores-full-breaks : ¬ (StoredExactly (takingBy storesFull))
+unfolding computing small groupSix
+stores-full-breaks p =
+    let e : _≡_ {A = ℕ} 18 0 = ap numberOf (run-answered one .storing groupSix .1 (p one groupSix .0 refl)) in
+    absurd (omega arith)
+
+-- a group of another kind is KIND, and its check word is not asked for
+abbrev kindAs : Kind → List ℕ → State → Reply
+kindAs (Carries part) bytes s = taking bytes s
+kindAs Other bytes s = renamed (Answer.Refused Refusal.Kind) bytes s
+
+abbrev pub kindFirst : List ℕ → State → Reply
+kindFirst bytes s = pick (eqb (numberOf (taking bytes s .answer)) 12) (kindAs (kindOf (typeNumber bytes)) bytes s) (taking bytes s)
+
+-- the first check that fails is answered
+pub kind-first-breaks : ¬ (UnreadRefused (takingBy kindFirst))
+unfolding computing small
+kind-first-breaks p =
+    let e : _≡_ {A = ℕ} 13 12 = ap numberOf (p none otherKind Refusal.BadCheck refl) in
+    absurd (omega arith)
+
+-- LENGTH for every group that is not read
+abbrev pub lengthForAll : List ℕ → State → Reply
+lengthForAll bytes s = pick (both (leb 10 (numberOf (taking bytes s .answer))) (leb (numberOf (taking bytes s .answer)) 16)) (renamed (Answer.Refused Refusal.Length) bytes s) (taking bytes s)
+
+pub length-for-all-breaks : ¬ (UnreadRefused (takingBy lengthForAll))
+unfolding computing small
+length-for-all-breaks p =
+    let e : _≡_ {A = ℕ} 10 12 = ap numberOf (p none otherKind Refusal.BadCheck refl) in
+    absurd (omega arith)
