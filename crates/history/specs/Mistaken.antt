@@ -1,5 +1,5 @@
--- WRONG ANSWERS TO QUESTIONS: each is the collector's own definitions with one question that is answered wrongly, and is proved
--- to break the promise that shuts it out. What our collector answers after the same run tells the right answer.
+-- WRONG ANSWERS TO QUESTIONS. Each is the collector's own definitions with one question that is answered wrongly, and
+-- is proved to break the promise that shuts it out. What the collector itself answers after the same run is right.
 use mathlib.Core.Path.{_≡_, refl, sym, ap, _∙_}
 use mathlib.Core.Bool.{Bool}
 use mathlib.Core.List.{List, [], _∷_}
@@ -39,16 +39,9 @@ use Rattle.history.specs.Stage.{none-finished}
 use Rattle.history.specs.Demands.{run-answered}
 use Rattle.history.specs.Promise.{reachedBy, StateAskExactly, AskedLeaves, NotHeldExactly, UnfinishedExactly, LocatedExactly, ReadExactly, NamesRead, FoundExactly, NotFoundExactly}
 use Rattle.history.specs.Samples.{computing, small, pair}
-use Rattle.history.specs.Trials.{core, none, one, waiting, namedWaiting, named, spoilt, crossed, withCounts, recounted-bytes, recounted, overrun, uneven, overrun-damaged, foundSlot, locatedNumber, askedNumber, soughtNumber, locatingBy, showingBy, tellingBy, namingBy, findingBy, askingBy}
+use Rattle.history.specs.Trials.{core, none, one, waiting, namedWaiting, named, spoilt, crossed, withCounts, recounted-bytes, recounted, damaged, is-damaged, uneven, doubted, foundSlot, locatedNumber, askedNumber, soughtNumber, locatingBy, showingBy, tellingBy, namingBy, findingBy, askingBy}
 
 -- ---- in a damaged state
-
--- a finished object, with a count above the ceiling, and with more completed than taken
-abbrev damaged : State
-damaged = withCounts overrun (reachedBy defined one)
-
-abbrev doubted : State
-doubted = withCounts uneven (reachedBy defined one)
 
 -- the counts are never looked at
 abbrev pub countsUnasked : ℕ → State → Located
@@ -57,7 +50,7 @@ countsUnasked number s = locate number (s .collector) noneYet (s .stores)
 pub counts-unasked-breaks : ¬ (StateAskExactly (locatingBy countsUnasked))
 unfolding computing small
 counts-unasked-breaks p =
-    let e : _≡_ {A = ℕ} 0 26 = ap locatedNumber (p damaged (recounted-bytes one) .0 5 .1 (overrun-damaged (reachedBy defined one))) in
+    let e : _≡_ {A = ℕ} 0 26 = ap locatedNumber (p damaged (recounted-bytes one) .0 5 .1 is-damaged) in
     absurd (omega arith)
 
 -- a name is looked for in any state
@@ -67,7 +60,7 @@ searchesDamaged sought s = soughtAs (foundByName sought (s .collector .count) (s
 pub searches-damaged-breaks : ¬ (StateAskExactly (findingBy searchesDamaged))
 unfolding computing small
 searches-damaged-breaks p =
-    let e : _≡_ {A = ℕ} 24 26 = ap soughtNumber (p damaged (recounted-bytes one) .2 [] .1 (overrun-damaged (reachedBy defined one))) in
+    let e : _≡_ {A = ℕ} 24 26 = ap soughtNumber (p damaged (recounted-bytes one) .2 [] .1 is-damaged) in
     absurd (omega arith)
 
 -- an object is shown in any state
@@ -77,12 +70,13 @@ showsDamaged number part s = shownAt (locatedIn (find number s) (s .collector)) 
 pub shows-damaged-breaks : ¬ (StateAskExactly (showingBy showsDamaged))
 unfolding computing small
 shows-damaged-breaks p =
-    let e : _≡_ {A = ℕ} 7 0 = ap length (p damaged (recounted-bytes one) .3 (overrun-damaged (reachedBy defined one)) 5 .0 Header) in
+    let e : _≡_ {A = ℕ} 7 0 = ap length (p damaged (recounted-bytes one) .3 is-damaged 5 .0 Header) in
     absurd (omega arith)
 
 -- STATE where more objects were completed than segments taken
 abbrev pub doubtsCounts : ℕ → State → Asked
-doubtsCounts number s = pick (ltb (s .counts .taken) (s .counts .completed)) (Asked.Refused Answer.State) (telling number s)
+doubtsCounts number s =
+    pick (ltb (s .counts .taken) (s .counts .completed)) (Asked.Refused Answer.State) (telling number s)
 
 pub doubts-counts-breaks : ¬ (StateAskExactly (tellingBy doubtsCounts))
 unfolding computing small
@@ -90,7 +84,7 @@ doubts-counts-breaks p = p doubted (recounted-bytes one) .1 5 .0 refl (recounted
 
 -- ---- what a question leaves
 
--- the number that is asked for: its answer, where it has none, is counted as refused
+-- a question that is refused is counted so
 abbrev countedAs : Located → State → State
 countedAs (Located.At i) s = s
 countedAs (Located.Refused why) s = withCounts (oneRefused (s .counts)) s
@@ -104,7 +98,8 @@ countsQuestions (Question.find sought) s = s
 pub counts-questions-breaks : ¬ (AskedLeaves (askingBy countsQuestions))
 unfolding computing small
 counts-questions-breaks p =
-    let e : _≡_ {A = ℕ} 1 0 = ap (λ (s : State). s .counts .refused) (p (Question.parameters 5) (reachedBy defined none)) in
+    let s : State = reachedBy defined none in
+    let e : _≡_ {A = ℕ} 1 0 = ap (λ (t : State). t .counts .refused) (p (Question.parameters 5) s) in
     absurd (omega arith)
 
 -- a question sets counts that lie above the ceiling back to it
@@ -166,7 +161,8 @@ not-held-unfinished-breaks p =
 
 -- the header in slot i, once its segment 0 is in
 abbrev headerEarly : ℕ → State → List ℕ
-headerEarly i s = pick (eqb (getD (lentOf i s .marks) 0 0) 1) (take (headerSize (lentOf i s .header)) (lentOf i s .header)) []
+headerEarly i s =
+    pick (eqb (getD (lentOf i s .marks) 0 0) 1) (take (headerSize (lentOf i s .header)) (lentOf i s .header)) []
 
 abbrev earlyIn : Found → State → List ℕ
 earlyIn Nothing s = []
@@ -221,7 +217,8 @@ readsBody number s = askedOf (locating number s) (showing number Body s)
 pub reads-body-breaks : ¬ (ReadExactly (tellingBy readsBody))
 unfolding computing small
 reads-body-breaks p =
-    let e : _≡_ {A = ℕ} 23 0 = ap askedNumber (p one 5 (readHeader core) .1 (run-answered one .reading 5 (readHeader core) .0 refl)) in
+    let m = run-answered one .reading 5 (readHeader core) .0 refl in
+    let e : _≡_ {A = ℕ} 23 0 = ap askedNumber (p one 5 (readHeader core) .1 m) in
     absurd (omega arith)
 
 -- a broken list of parameters is called DUPLICATE
@@ -235,7 +232,8 @@ brokenDuplicate number s = duplicateAs (telling number s)
 pub broken-duplicate-breaks : ¬ (ReadExactly (tellingBy brokenDuplicate))
 unfolding computing small
 broken-duplicate-breaks p =
-    let e : _≡_ {A = ℕ} 22 21 = ap askedNumber (p spoilt 5 (Reading.Refused Refusal.Header) .1 (run-answered spoilt .reading 5 (Reading.Refused Refusal.Header) .0 refl)) in
+    let m = run-answered spoilt .reading 5 (Reading.Refused Refusal.Header) .0 refl in
+    let e : _≡_ {A = ℕ} 22 21 = ap askedNumber (p spoilt 5 (Reading.Refused Refusal.Header) .1 m) in
     absurd (omega arith)
 
 -- ---- its name
@@ -248,7 +246,8 @@ pub cuts-set-breaks : ¬ (NamesRead (namingBy cutsSet))
 unfolding computing small
 cuts-set-breaks p =
     let m = run-answered named .located 5 0 .0 refl in
-    let e : _≡_ {A = ℕ} 1 2 = ap length (p named 5 .0 (m .1) (m .2) ∙ sym (run-answered named .named 5 .0 (m .1) (m .2))) in
+    let right = run-answered named .named 5 .0 (m .1) (m .2) in
+    let e : _≡_ {A = ℕ} 1 2 = ap length (p named 5 .0 (m .1) (m .2) ∙ sym right) in
     absurd (omega arith)
 
 -- a name is given as soon as segment 0 of the header is in
@@ -268,8 +267,8 @@ abbrev lowestBy : (ℕ → Slot → Bool) → ℕ → List Slot → Holder
 lowestBy test i [] = Nobody
 lowestBy test i (slot ∷ slots) = lower (pick (test i slot) (Number (slot .number)) Nobody) (lowestBy test (suc i) slots)
 
-abbrev searchedBy : (ℕ → Slot → Bool) → State → Sought
-searchedBy test s = soughtAs (lowestBy test 0 (take (s .collector .count) (s .collector .slots)))
+abbrev inUse : State → List Slot
+inUse s = take (s .collector .count) (s .collector .slots)
 
 -- the number in the first slot that passes it
 abbrev firstBy : (ℕ → Slot → Bool) → ℕ → List Slot → Holder
@@ -278,7 +277,8 @@ firstBy test i (slot ∷ slots) = pick (test i slot) (Number (slot .number)) (fi
 
 -- the first slot that has the name is taken, and not the lowest number
 abbrev pub firstSlotWins : List ℕ → State → Sought
-firstSlotWins sought s = soughtAs (firstBy (λ i slot. hasName sought (headerIn i slot (s .stores .header))) 0 (take (s .collector .count) (s .collector .slots)))
+firstSlotWins sought s =
+    soughtAs (firstBy (λ i slot. hasName sought (headerIn i slot (s .stores .header))) 0 (inUse s))
 
 pub first-slot-wins-breaks : ¬ (FoundExactly (findingBy firstSlotWins))
 unfolding computing pair
@@ -289,7 +289,7 @@ first-slot-wins-breaks p =
 
 -- objects that are not finished are found too
 abbrev pub findsUnfinished : List ℕ → State → Sought
-findsUnfinished sought s = searchedBy (λ i slot. hasName sought (headerEarly i s)) s
+findsUnfinished sought s = soughtAs (lowestBy (λ i slot. hasName sought (headerEarly i s)) 0 (inUse s))
 
 pub finds-unfinished-breaks : ¬ (FoundExactly (findingBy findsUnfinished))
 unfolding computing small
@@ -308,12 +308,13 @@ nobodyNotHeld sought s = notHeldFor (finding sought s)
 pub nobody-not-held-breaks : ¬ (NotFoundExactly (findingBy nobodyNotHeld))
 unfolding computing small
 nobody-not-held-breaks p =
-    let e : _≡_ {A = ℕ} 19 24 = ap soughtNumber (p none [] .1 (λ number f d. absurd (none-finished 1024 [] [] f d refl))) in
+    let e : _≡_ {A = ℕ} 19 24 = ap soughtNumber (p none [] .1 λ number f d. absurd (none-finished 1024 [] [] f d refl)) in
     absurd (omega arith)
 
 -- no slash is dropped
 abbrev pub slashKept : List ℕ → State → Sought
-slashKept sought s = searchedBy (λ i slot. equal (drop 1 (nameData (headerIn i slot (s .stores .header)))) sought) s
+slashKept sought s =
+    soughtAs (lowestBy (λ i slot. equal (drop 1 (nameData (headerIn i slot (s .stores .header)))) sought) 0 (inUse s))
 
 pub slash-kept-breaks : ¬ (NotFoundExactly (findingBy slashKept))
 unfolding computing small

@@ -1,5 +1,5 @@
--- What wrong collectors are tried with: small objects and their groups, runs of a few calls, states that no run reaches,
--- and the collector's own definitions with one piece replaced.
+-- What wrong collectors are tried with: small objects and their groups, runs of a few calls, states that no run
+-- reaches, and the collector's own definitions with one piece replaced.
 use mathlib.Core.Path.{_≡_, refl}
 use mathlib.Core.Logic.{inl}
 use mathlib.Core.Bool.{true}
@@ -22,7 +22,7 @@ use Rattle.cut.specs.Finished.{whole-numbers, whole-empty}
 use Rattle.gathering.specs.Offers.{Source}
 use Rattle.slots.specs.declared.Found.{Found}
 use Rattle.slots.specs.declared.Found.the-variants.{Nothing, At}
-use Rattle.slots.specs.Stores.{slotsMost}
+use Rattle.slots.specs.Stores.{slotsMost, Stores}
 use Rattle.slots.specs.State.{soundSlots}
 use Rattle.collector.specs.declared.Opening.{Opening}
 use Rattle.collector.specs.declared.Opening.the-variants as Opening
@@ -175,7 +175,12 @@ later = record { start = used; allowed = record { limits = allowed .limits; byte
 
 -- an opening with bytes from before in its stores
 unfoldable pub worn : Start
-worn = record { limit = 1024; count = 1; counts = noneYet; stores = record { header = replicate 1024 7; body = replicate 1024 7; marks = replicate 1088 7 } }
+worn = record {
+  limit = 1024;
+  count = 1;
+  counts = noneYet;
+  stores = record { header = replicate 1024 7; body = replicate 1024 7; marks = replicate 1088 7 };
+}
 
 bytes-sevens : (n : ℕ) → Bytes (replicate n 7)
 bytes-sevens zero = tt
@@ -203,10 +208,24 @@ twice = record { start = pair; allowed = pair-allowed; calls = hand five ∷ han
 abbrev pub crossed : Run
 crossed = record { start = pair; allowed = pair-allowed; calls = hand namedFive ∷ hand namedSix ∷ []; bytes = (omega arith, (omega arith, tt)) }
 
--- ---- states that no run reaches: what a run has left, with other counts
+-- ---- a state, or what is lent, with one thing replaced
 
 abbrev pub withCounts : Counts → State → State
 withCounts counts s = record { collector = s .collector; counts = counts; stores = s .stores }
+
+abbrev pub withStores : Stores → State → State
+withStores stores s = record { collector = s .collector; counts = s .counts; stores = stores }
+
+abbrev pub withHeader : List ℕ → Stores → Stores
+withHeader header stores = record { header = header; body = stores .body; marks = stores .marks }
+
+abbrev pub withBody : List ℕ → Stores → Stores
+withBody body stores = record { header = stores .header; body = body; marks = stores .marks }
+
+abbrev pub withMarks : List ℕ → Stores → Stores
+withMarks marks stores = record { header = stores .header; body = stores .body; marks = marks }
+
+-- ---- states that no run reaches: what a run has left, with other counts
 
 pub recounted-bytes : (r : Run) → OfBytes (reachedBy defined r .stores)
 recounted-bytes r = reached-intact (r .start) (r .allowed) (r .calls) (r .bytes) .bytes
@@ -216,17 +235,23 @@ pub recounted : (r : Run) (counts : Counts) → within counts ≡ true → InOrd
 unfolding soundState
 recounted r counts w =
     let s : State = reachedBy defined r in
-    in-order-exactly (withCounts counts s) (recounted-bytes r) .0 (true-both (soundSlots (limitOf s) (s .collector .count) (s .collector .slots) (s .stores)) (within counts) (slots-sound s (reached-intact (r .start) (r .allowed) (r .calls) (r .bytes) .undamaged)) w)
+    let slots = slots-sound s (reached-intact (r .start) (r .allowed) (r .calls) (r .bytes) .undamaged) in
+    in-order-exactly (withCounts counts s) (recounted-bytes r) .0
+    (true-both (soundSlots (limitOf s) (s .collector .count) (s .collector .slots) (s .stores)) (within counts) slots w)
 
--- a count above the ceiling, and more completed than taken
-abbrev pub overrun : Counts
-overrun = record { taken = suc ceiling; repeated = 0; refused = 0; completed = 0; dropped = 0 }
+-- a finished object, with a count above the ceiling: damaged
+abbrev pub damaged : State
+damaged = withCounts (record { taken = suc ceiling; repeated = 0; refused = 0; completed = 0; dropped = 0 }) (reachedBy defined one)
 
+pub is-damaged : ¬ (InOrder damaged)
+is-damaged w = absurd (omega (arith, w .counts .taken))
+
+-- with more completed and more dropped than taken: not damaged
 abbrev pub uneven : Counts
 uneven = record { taken = 0; repeated = 0; refused = 0; completed = 1; dropped = 1 }
 
-pub overrun-damaged : (s : State) → ¬ (InOrder (withCounts overrun s))
-overrun-damaged s w = absurd (omega (arith, w .counts .taken))
+abbrev pub doubted : State
+doubted = withCounts uneven (reachedBy defined one)
 
 -- ---- what tells two answers apart: the number of a refusal, 0 where there is none; the slot that is found
 

@@ -1,6 +1,6 @@
--- WRONG COLLECTORS, document 01's five worthless ones among them: each is the collector's own definitions with one piece that
--- is wrong, and is proved to break the promise that shuts it out, by a run that is computed. The edits in refused/ put that
--- piece into our collector, which is then refused at that promise.
+-- WRONG COLLECTORS, document 01's five worthless ones among them: each is the collector's own definitions with one
+-- piece that is wrong, and is proved to break the promise that shuts it out, by a run that is computed. The edits in
+-- refused/ put that piece into our collector, which is then refused at that promise.
 use mathlib.Core.Path.{_≡_, refl, sym, ap, _∙_}
 use mathlib.Core.Logic.{_≢_, inl}
 use mathlib.Core.Bool.{Bool, true, false}
@@ -8,7 +8,7 @@ use mathlib.Core.List.{List, [], _∷_}
 use Prim.Native.Nat.{ℕ, zero, suc, _+_, _-_, _*_, _/_, _%_, _≤_, _<_, min}
 use native.Mathlib.Omega.{arith}
 use lib.ListN.{length, set}
-use lib.Dec.{eqb, leb}
+use lib.Dec.{eqb}
 use borrow.Author.Tests.{leb-true}
 use Rattle.octets.specs.Octets.{zeros}
 use Rattle.answer.specs.declared.Answer.{Answer}
@@ -47,9 +47,9 @@ use Rattle.history.specs.Asking.{locating}
 use Rattle.history.specs.Held.{stageFor}
 use Rattle.history.specs.Stage.{none-finished}
 use Rattle.history.specs.Demands.{run-answered, finished-lengths}
-use Rattle.history.specs.Promise.{Run, reachedBy, toldBy, stored, heardOf, since, StoredFrom, cameUnder, answersFrom, RefusedLeaves, NeverState, OthersLeave, ShownJoined, UnfinishedUnshown, CountsTold, ConflictExactly, FullExactly, RepeatExactly, CompleteExactly, StoredExactly, LowestFreeTaken, UnreadRefused, DropExactly, UnheldExactly, NoneFreeExactly, FinishedExactly, FinishedLengths, OneCutAgrees, OneCutFinishes}
+use Rattle.history.specs.Promise.{Run, reachedBy, toldBy, stored, heardOf, since, StoredFrom, cameUnder, between, answersFrom, RefusedLeaves, NeverState, OthersLeave, ShownJoined, UnfinishedUnshown, CountsTold, ConflictExactly, FullExactly, RepeatExactly, CompleteExactly, StoredExactly, LowestFreeTaken, UnreadRefused, DropExactly, UnheldExactly, NoneFreeExactly, FinishedExactly, FinishedLengths, OneCutAgrees, OneCutFinishes}
 use Rattle.history.specs.Samples.{computing, small, pair, bodyLast, bodyFirst, header, readAs, object, oneCut, sent-one, all-sent}
-use Rattle.history.specs.Trials.{core, whole, finished-core, single, five, six, otherKind, groupFive, groupSix, groupShort, groupLast, none, one, two, dropped, again, many, later, empty, twice, foundSlot, openingBy, takingBy, droppingBy, showingBy, askingBy}
+use Rattle.history.specs.Trials.{core, whole, finished-core, single, six, otherKind, groupFive, groupSix, groupShort, groupLast, none, one, two, dropped, again, many, later, empty, twice, withCounts, foundSlot, openingBy, takingBy, droppingBy, showingBy, askingBy}
 
 -- ---- what cannot be the same
 
@@ -353,28 +353,28 @@ highestFree (suc i) s = pick (isFree (slotOf i s)) (At i) (highestFree i s)
 abbrev pub takesHighest : List ℕ → State → Reply
 takesHighest bytes s = choosing (λ carried t. highestFree (t .collector .count) t) (readingOf bytes) bytes s
 
--- with two free slots a number takes the first
-lowest-breaks : (k : Collecting) → (find 5 (k .takes five (reachedBy k empty) .left) ≡ At 1) × (find 5 (reachedBy k empty) ≡ Nothing) × (numberOf (k .takes five (reachedBy k empty) .answer) ≡ 1) × (isFree (slotOf 0 (reachedBy k empty)) ≡ true) → ¬ (LowestFreeTaken k)
-unfolding groupFive
-lowest-breaks k c p =
-    let m = p empty groupFive (c .1) (omega (arith, c .2)) in
-    let i : 1 ≡ m .0 = ap foundSlot (sym (c .0) ∙ m .1) in
-    false-true (m .3 0 (omega arith)) (c .3)
-
+-- of two free slots a number takes the first
 pub takes-highest-breaks : ¬ (LowestFreeTaken (takingBy takesHighest))
-unfolding computing pair
-takes-highest-breaks = lowest-breaks (takingBy takesHighest) (refl, refl, refl, refl)
+unfolding computing pair groupFive
+takes-highest-breaks p =
+    let m = p empty groupFive refl (omega arith) in
+    let slot : 1 ≡ m .0 = ap foundSlot (m .1) in
+    false-true (m .3 0 (omega arith)) refl
 
--- the slot that the number gives, by what is left of it; the lowest free one where that is held
+-- the slot that is the number's remainder, or the lowest free one where that is held
 abbrev slotFor : ℕ → State → Found
 slotFor i s = pick (isFree (slotOf i s)) (At i) (free s)
 
 abbrev pub takesByNumber : List ℕ → State → Reply
-takesByNumber bytes s = choosing (λ carried t. slotFor (carried .number % t .collector .count) t) (readingOf bytes) bytes s
+takesByNumber bytes s =
+    choosing (λ carried t. slotFor (carried .number % t .collector .count) t) (readingOf bytes) bytes s
 
 pub takes-by-number-breaks : ¬ (LowestFreeTaken (takingBy takesByNumber))
-unfolding computing pair
-takes-by-number-breaks = lowest-breaks (takingBy takesByNumber) (refl, refl, refl, refl)
+unfolding computing pair groupFive
+takes-by-number-breaks p =
+    let m = p empty groupFive refl (omega arith) in
+    let slot : 1 ≡ m .0 = ap foundSlot (m .1) in
+    false-true (m .3 0 (omega arith)) refl
 
 -- every group takes a slot of its own
 abbrev anotherAs : Reading → List ℕ → State → Reply
@@ -408,7 +408,7 @@ keeps-slot-breaks p =
 abbrev pub dropsUnsaid : ℕ → State → Reply
 dropsUnsaid number s = record {
   answer = pick (sound s) Answer.NotHeld Answer.State;
-  left = record { collector = dropping number s .left .collector; counts = s .counts; stores = dropping number s .left .stores };
+  left = withCounts (s .counts) (dropping number s .left);
 }
 
 -- and one under which something is stored does
@@ -423,23 +423,38 @@ drops-unsaid-breaks p =
 -- the slot in which an object was finished, changed
 abbrev changedIn : (Slot → Slot) → Found → State → State
 changedIn change Nothing s = s
-changedIn change (At i) s = record { collector = withSlots (set (s .collector .slots) i (change (slotOf i s))) (s .collector); counts = s .counts; stores = s .stores }
+changedIn change (At i) s = record {
+  collector = withSlots (set (s .collector .slots) i (change (slotOf i s))) (s .collector);
+  counts = s .counts;
+  stores = s .stores;
+}
 
 abbrev changing : (Slot → Slot) → Reading → List ℕ → State → Reply
 changing change (Refused why) bytes s = taking bytes s
 changing change (Read carried) bytes s =
     pick (eqb (numberOf (taking bytes s .answer)) 1)
-    (record { answer = taking bytes s .answer; left = changedIn change (find (carried .number) (taking bytes s .left)) (taking bytes s .left) })
+    (record {
+      answer = taking bytes s .answer;
+      left = changedIn change (find (carried .number) (taking bytes s .left)) (taking bytes s .left);
+    })
     (taking bytes s)
 
 abbrev withStage : (ℕ → ℕ → Stage) → Stage → Slot → Slot
 withStage lengths Stage.Free slot = slot
 withStage lengths Stage.Gathering slot = slot
-withStage lengths (Stage.Finished header body) slot = record { number = slot .number; stage = lengths header body; header = slot .header; body = slot .body }
+withStage lengths (Stage.Finished header body) slot = record {
+  number = slot .number;
+  stage = lengths header body;
+  header = slot .header;
+  body = slot .body;
+}
 
 -- the body's length first
+abbrev swapped : Slot → Slot
+swapped slot = withStage (λ header body. Stage.Finished body header) (slot .stage) slot
+
 abbrev pub swapsLengths : List ℕ → State → Reply
-swapsLengths bytes s = changing (λ slot. withStage (λ header body. Stage.Finished body header) (slot .stage) slot) (readingOf bytes) bytes s
+swapsLengths bytes s = changing swapped (readingOf bytes) bytes s
 
 abbrev bodyLength : Stage → ℕ
 bodyLength Stage.Free = 0
@@ -456,12 +471,16 @@ lengths-break k r number slot hs bs c d l n p =
 
 pub swaps-lengths-breaks : ¬ (FinishedLengths (takingBy swapsLengths))
 unfolding computing small
-swaps-lengths-breaks = lengths-break (takingBy swapsLengths) one 5 0 (whole ∷ []) [] (refl, refl) (refl, refl) refl (λ e. absurd (omega arith))
+swaps-lengths-breaks =
+    lengths-break (takingBy swapsLengths) one 5 0 (whole ∷ []) [] (refl, refl) (refl, refl) refl (λ e. absurd (omega arith))
 
 -- the body's length in whole segments
 abbrev roundedTo : ℕ → ℕ → ℕ
 roundedTo zero n = n
 roundedTo (suc size) n = (n + size) / suc size * suc size
+
+abbrev rounded : Slot → Slot
+rounded slot = withStage (λ header body. Stage.Finished header (roundedTo (slot .body .size) body)) (slot .stage) slot
 
 -- what document 01's example stores
 abbrev manyHeaders : List Segment
@@ -471,17 +490,19 @@ abbrev manyBodies : List Segment
 manyBodies = segmentIn bodyFirst (readAs 5 Body 0 false 16) ∷ segmentIn bodyLast (readAs 5 Body 1 true 4) ∷ []
 
 abbrev pub roundsLength : List ℕ → State → Reply
-roundsLength bytes s = changing (λ slot. withStage (λ header body. Stage.Finished header (roundedTo (slot .body .size) body)) (slot .stage) slot) (readingOf bytes) bytes s
+roundsLength bytes s = changing rounded (readingOf bytes) bytes s
 
 pub rounds-length-breaks : ¬ (FinishedLengths (takingBy roundsLength))
 unfolding computing small
-rounds-length-breaks = lengths-break (takingBy roundsLength) many 5 0 manyHeaders manyBodies (refl, refl) (refl, refl) refl (λ e. absurd (omega arith))
+rounds-length-breaks =
+    lengths-break (takingBy roundsLength) many 5 0 manyHeaders manyBodies (refl, refl) (refl, refl) refl (λ e. absurd (omega arith))
 
 -- ---- STORED, and groups that are not read
 
 -- STORED where with it every segment is in
 abbrev pub neverCompletes : List ℕ → State → Reply
-neverCompletes bytes s = pick (eqb (numberOf (taking bytes s .answer)) 1) (renamed (storedAs (readingOf bytes)) bytes s) (taking bytes s)
+neverCompletes bytes s =
+    pick (eqb (numberOf (taking bytes s .answer)) 1) (renamed (storedAs (readingOf bytes)) bytes s) (taking bytes s)
 
 -- with STORED some segment is missing
 pub never-completes-breaks : ¬ (StoredExactly (takingBy neverCompletes))
@@ -492,7 +513,8 @@ never-completes-breaks p =
 
 -- STORED where no slot is there
 abbrev pub storesFull : List ℕ → State → Reply
-storesFull bytes s = pick (eqb (numberOf (taking bytes s .answer)) 18) (renamed (storedAs (readingOf bytes)) bytes s) (taking bytes s)
+storesFull bytes s =
+    pick (eqb (numberOf (taking bytes s .answer)) 18) (renamed (storedAs (readingOf bytes)) bytes s) (taking bytes s)
 
 -- with STORED a slot is there
 pub stores-full-breaks : ¬ (StoredExactly (takingBy storesFull))
@@ -507,7 +529,8 @@ kindAs (Carries part) bytes s = taking bytes s
 kindAs Other bytes s = renamed (Answer.Refused Refusal.Kind) bytes s
 
 abbrev pub kindFirst : List ℕ → State → Reply
-kindFirst bytes s = pick (eqb (numberOf (taking bytes s .answer)) 12) (kindAs (kindOf (typeNumber bytes)) bytes s) (taking bytes s)
+kindFirst bytes s =
+    pick (eqb (numberOf (taking bytes s .answer)) 12) (kindAs (kindOf (typeNumber bytes)) bytes s) (taking bytes s)
 
 -- the first check that fails is answered
 pub kind-first-breaks : ¬ (UnreadRefused (takingBy kindFirst))
@@ -518,7 +541,8 @@ kind-first-breaks p =
 
 -- LENGTH for every group that is not read
 abbrev pub lengthForAll : List ℕ → State → Reply
-lengthForAll bytes s = pick (both (leb 10 (numberOf (taking bytes s .answer))) (leb (numberOf (taking bytes s .answer)) 16)) (renamed (Answer.Refused Refusal.Length) bytes s) (taking bytes s)
+lengthForAll bytes s =
+    pick (between 10 16 (taking bytes s .answer)) (renamed (Answer.Refused Refusal.Length) bytes s) (taking bytes s)
 
 pub length-for-all-breaks : ¬ (UnreadRefused (takingBy lengthForAll))
 unfolding computing small
