@@ -1,4 +1,4 @@
--- After any run there are sixteen slots, and each slot's transport number has 16 bits, as every one that is read off a group.
+-- After any run each slot's transport number has 16 bits, as every one that is read off a group has.
 use mathlib.Core.Path.{_≡_, refl, subst}
 use mathlib.Core.List.{List, [], _∷_}
 use Prim.Native.Nat.{ℕ, zero, suc, _+_, _*_, _<_}
