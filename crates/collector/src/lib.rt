@@ -253,7 +253,7 @@ impl Collector {
         if Collector::SLOTS_MOST <= i {
             return Located::Refused(Answer::NotHeld);
         }
-        let slot = slots[i];
+        let slot = self.slots[i];
         let stage = slot.stage;
         located_as(stage, i)
     }
@@ -265,8 +265,7 @@ impl Collector {
         if Collector::SLOTS_MOST <= i {
             return &header[..0];
         }
-        let slots = self.slots;
-        let slot = slots[i];
+        let slot = self.slots[i];
         slots::shown(part, i, self.limit, slot, header, body)
     }
 

@@ -35,15 +35,15 @@ returns-3 : tie.Need-returns-3
 returns-3 c =
     let a = c .before .before .before .before .before .before .before .before .before .before .before .args in
     let lends : Stores = record { header = a .header .now; body = a .body .now; marks = a .marks .now } in
-    let sound = state-slots (a .self) (a .counts) lends (sym (c .before .before .before .before .before .before .before .is-sound .ensures) ∙ not-false _ (c .before .before .before .before .before .before .if1 .left)) in
-    let within = found-inside (a .self .limit) (a .self .count) (a .self .slots) lends sound (a .number) _ (sym (c .before .before .before .before .find .ensures) ∙ c .before .before .i .given .1) in
+    let sound = state-slots (a .t1) (a .counts) lends (sym (c .before .before .before .before .before .before .before .is-sound .ensures) ∙ not-false _ (c .before .before .before .before .before .before .if1 .left)) in
+    let within = found-inside (a .t1 .limit) (a .t1 .count) (a .t1 .slots) lends sound (a .number) _ (sym (c .before .before .before .before .find .ensures) ∙ c .before .before .i .given .1) in
     absurd (omega (arith, within .slot))
 
 mul-slot : tie.Need-mul-slot
 mul-slot c = search needs
 
-array-copy-out-slot : tie.Need-array-copy-out-slot
-array-copy-out-slot c = search needs
+element-copy-out-slot : tie.Need-element-copy-out-slot
+element-copy-out-slot c = search needs
 
 located-as-requires : tie.Need-located-as-requires
 located-as-requires c κs = search needs
@@ -65,6 +65,6 @@ locate-spec =
     returns-2
     returns-3
     mul-slot
-    array-copy-out-slot
+    element-copy-out-slot
     located-as-requires
     returns-4)
