@@ -15,13 +15,18 @@ use group::Segment;
 use slots::Found;
 ghost use mathlib.Core.Path.{_≡_};
 ghost use mathlib.Core.Bool.{true};
+ghost use Prim.Native.Nat.{_<_};
 ghost use Rattle.counts.specs.Counted.{counted};
+ghost use Rattle.gathering.specs.Take.{takeInto};
+ghost use Rattle.slot.specs.Inner.{Offered};
 ghost use Rattle.slots.specs.Find.{findIn};
 ghost use Rattle.slots.specs.Show.{shownOf};
 ghost use Rattle.slots.specs.State.{soundSlots};
-ghost use Rattle.slots.specs.Stores.{slotAt};
+ghost use Rattle.slots.specs.Stores.{slotsMost, slotAt, lentAt};
+ghost use Rattle.slots.specs.Take.{placedAt, Inside};
 ghost use Rattle.collector.specs.Bounds.{bounds};
-ghost use Rattle.collector.specs.Calls.{Answered, soundState, heardAs, answerAs, refusalOf, intoHeld, takeGroup, dropNumber, openedBy, locatedAs, locate, show};
+ghost use Rattle.collector.specs.Calls.{Answered, withSlots, soundState, heardAs, answerAs, refusalOf, intoHeld, takeGroup, dropNumber, openedBy, locatedAs, locate, show};
+ghost use Rattle.collector.specs.Changes.{answerOf, slotsBy, placeOf, cameTo, leftBy};
 
 // A collector: the limit on a body, how many slots it has, and the slots.
 pub struct Collector {
@@ -89,6 +94,13 @@ pub struct Answered {
     pub collector: Collector,
 }
 
+// What a group comes to: the answer, and the slot that is put in one place, if one is. It is handed
+// from function to function in place of the collector, which is more than ten times as large.
+enum Change {
+    Nothing(Answer),
+    At(usize, Slot, Answer),
+}
+
 // A call by value: the counts that it leaves beside it.
 pub struct CountedAnswer {
     pub counts: Counts,
@@ -115,6 +127,40 @@ fn heard_as(carried: Segment) -> Heard
         part,
         segment: carried.segment,
     }
+}
+
+// A segment is offered to a slot that stands, or is to stand, at i.
+fn take_at(
+    slot: Slot,
+    limit: usize,
+    i: usize,
+    carried: Segment,
+    bytes: &[u8],
+    header: &mut [u8],
+    body: &mut [u8],
+    marks: &mut [u8],
+) -> Change
+    requires { ⌜ Inside limit i (record { header = now header; body = now body; marks = now marks }) ⌝ }
+    requires { ⌜ Offered limit slot (lentAt limit i (record { header = now header; body = now body; marks = now marks })) ⌝ }
+    ensures { λ r. ⌜ record { change = r; stores = record { header = now (header .exit); body = now (body .exit); marks = now (marks .exit) } } ≡ cameTo i carried (placedAt limit i (record { header = now (header .entry); body = now (body .entry); marks = now (marks .entry) }) (takeInto (carried .part) limit (record { number = carried .segment; last = carried .last; bytes = now (bytes .entry) }) slot (lentAt limit i (record { header = now (header .entry); body = now (body .entry); marks = now (marks .entry) })))) ⌝ }
+{
+    let part = carried.part;
+    let number = carried.segment as usize;
+    let took = slots::take_into(
+        slot,
+        part,
+        limit,
+        i,
+        carried.last,
+        number,
+        bytes,
+        header,
+        body,
+        marks,
+    );
+    let outcome = took.outcome;
+    let after = took.slot;
+    Change::At(i, after, answer_as(outcome, heard_as(carried)))
 }
 
 fn refusal_of(reading: Reading) -> Refusal
@@ -302,92 +348,86 @@ impl Collector {
         }
     }
 
+    // The slot of a change is put in its place, and the answer is counted.
+    fn changed(mut self, counts: Counts, change: Change) -> CountedAnswer
+        requires { ⌜ placeOf change < slotsMost ⌝ }
+        ensures { λ r. ⌜ (r .answered .answer ≡ answerOf change) × (r .answered .collector ≡ withSlots (slotsBy change (self .slots)) self) × (r .counts ≡ counted (answerOf change) counts) ⌝ }
+    {
+        match change {
+            Change::Nothing(answer) => self.answered(counts, answer),
+            Change::At(i, slot, answer) => {
+                self.slots[i] = slot;
+                self.answered(counts, answer)
+            }
+        }
+    }
+
     // A segment whose number holds no slot.
     fn take_first(
         self,
-        counts: Counts,
         carried: Segment,
         bytes: &[u8],
         header: &mut [u8],
         body: &mut [u8],
         marks: &mut [u8],
-    ) -> CountedAnswer
+    ) -> Change
         requires { ⌜ soundSlots (self .limit) (self .count) (self .slots) (record { header = now header; body = now body; marks = now marks }) ≡ true ⌝ }
-        ensures { λ r. ⌜ record { answer = r .answered .answer; collector = r .answered .collector; counts = r .counts; stores = record { header = now (header .exit); body = now (body .exit); marks = now (marks .exit) } } ≡ intoHeld Found.Nothing carried (record { number = carried .segment; last = carried .last; bytes = now (bytes .entry) }) self counts (record { header = now (header .entry); body = now (body .entry); marks = now (marks .entry) }) ⌝ }
+        ensures { λ r. ⌜ (placeOf r < slotsMost) × ((counts : Counts) → leftBy (record { change = r; stores = record { header = now (header .exit); body = now (body .exit); marks = now (marks .exit) } }) self counts ≡ intoHeld Found.Nothing carried (record { number = carried .segment; last = carried .last; bytes = now (bytes .entry) }) self counts (record { header = now (header .entry); body = now (body .entry); marks = now (marks .entry) })) ⌝ }
     {
-        let heard = heard_as(carried);
         let part = carried.part;
-        let slots = self.slots;
         let number = carried.segment as usize;
         if !slots::fits_alone(part, self.limit, carried.last, number, bytes) {
-            return self.answered(counts, Answer::Conflict(heard));
+            return Change::Nothing(Answer::Conflict(heard_as(carried)));
         }
+        let slots = self.slots;
         let Found::At(i) = slots::free(self.count, slots) else {
-            return self.answered(counts, Answer::Full(heard));
+            return Change::Nothing(Answer::Full(heard_as(carried)));
         };
-        let took = slots::take_new(
-            carried.number,
-            part,
-            self.limit,
-            i,
-            carried.last,
-            number,
-            bytes,
-            slots,
-            header,
-            body,
-            marks,
-        );
-        let all = took.slots;
-        let outcome = took.outcome;
-        let next = Collector {
-            limit: self.limit,
-            count: self.count,
-            slots: all,
-        };
-        next.answered(counts, answer_as(outcome, heard))
+        let fresh = slots::fresh_slot(carried.number);
+        take_at(fresh, self.limit, i, carried, bytes, header, body, marks)
     }
 
     // A segment that a group carries.
     fn take_carried(
         self,
-        counts: Counts,
         carried: Segment,
         bytes: &[u8],
         header: &mut [u8],
         body: &mut [u8],
         marks: &mut [u8],
-    ) -> CountedAnswer
+    ) -> Change
         requires { ⌜ soundSlots (self .limit) (self .count) (self .slots) (record { header = now header; body = now body; marks = now marks }) ≡ true ⌝ }
-        ensures { λ r. ⌜ record { answer = r .answered .answer; collector = r .answered .collector; counts = r .counts; stores = record { header = now (header .exit); body = now (body .exit); marks = now (marks .exit) } } ≡ intoHeld (findIn (carried .number) (self .count) (self .slots)) carried (record { number = carried .segment; last = carried .last; bytes = now (bytes .entry) }) self counts (record { header = now (header .entry); body = now (body .entry); marks = now (marks .entry) }) ⌝ }
+        ensures { λ r. ⌜ (placeOf r < slotsMost) × ((counts : Counts) → leftBy (record { change = r; stores = record { header = now (header .exit); body = now (body .exit); marks = now (marks .exit) } }) self counts ≡ intoHeld (findIn (carried .number) (self .count) (self .slots)) carried (record { number = carried .segment; last = carried .last; bytes = now (bytes .entry) }) self counts (record { header = now (header .entry); body = now (body .entry); marks = now (marks .entry) })) ⌝ }
     {
         let slots = self.slots;
         let Found::At(i) = slots::find(carried.number, self.count, slots) else {
-            return self.take_first(counts, carried, bytes, header, body, marks);
+            return self.take_first(carried, bytes, header, body, marks);
         };
-        let heard = heard_as(carried);
-        let part = carried.part;
-        let number = carried.segment as usize;
-        let took = slots::take_at(
-            part,
-            self.limit,
-            i,
-            carried.last,
-            number,
-            bytes,
-            slots,
-            header,
-            body,
-            marks,
-        );
-        let all = took.slots;
-        let outcome = took.outcome;
-        let next = Collector {
-            limit: self.limit,
-            count: self.count,
-            slots: all,
+        let old = self.slots[i];
+        take_at(old, self.limit, i, carried, bytes, header, body, marks)
+    }
+
+    // What a group comes to.
+    fn take_group(
+        self,
+        counts: Counts,
+        group: &[u8],
+        header: &mut [u8],
+        body: &mut [u8],
+        marks: &mut [u8],
+    ) -> Change
+        ensures { λ r. ⌜ (placeOf r < slotsMost) × (leftBy (record { change = r; stores = record { header = now (header .exit); body = now (body .exit); marks = now (marks .exit) } }) self counts ≡ takeGroup (now (group .entry)) self counts (record { header = now (header .entry); body = now (body .entry); marks = now (marks .entry) })) ⌝ }
+    {
+        if !self.is_sound(counts, header, body, marks) {
+            return Change::Nothing(Answer::State);
+        }
+        let reading = group::read(group);
+        let Reading::Read(carried) = reading else {
+            return Change::Nothing(Answer::Refused(refusal_of(reading)));
         };
-        next.answered(counts, answer_as(outcome, heard))
+        let start = carried.start;
+        let end = start + carried.length;
+        self.take_carried(carried, &group[start..end], header, body, marks)
     }
 
     // Takes a group, by value.
@@ -401,16 +441,8 @@ impl Collector {
     ) -> CountedAnswer
         ensures { λ r. ⌜ record { answer = r .answered .answer; collector = r .answered .collector; counts = r .counts; stores = record { header = now (header .exit); body = now (body .exit); marks = now (marks .exit) } } ≡ takeGroup (now (group .entry)) self counts (record { header = now (header .entry); body = now (body .entry); marks = now (marks .entry) }) ⌝ }
     {
-        if !self.is_sound(counts, header, body, marks) {
-            return self.answered(counts, Answer::State);
-        }
-        let reading = group::read(group);
-        let Reading::Read(carried) = reading else {
-            return self.answered(counts, Answer::Refused(refusal_of(reading)));
-        };
-        let start = carried.start;
-        let end = start + carried.length;
-        self.take_carried(counts, carried, &group[start..end], header, body, marks)
+        let change = self.take_group(counts, group, header, body, marks);
+        self.changed(counts, change)
     }
 
     // Drops a number, by value.

@@ -1,6 +1,6 @@
 -- Laws that the proofs of the code share.
 -- Assumes nothing.
-use mathlib.Core.Path.{_≡_, refl, sym, ap, _∙_}
+use mathlib.Core.Path.{_≡_, refl, sym, _∙_}
 use mathlib.Core.Logic.{_≢_, ⊎-elim}
 use mathlib.Core.Bool.{Bool, true, false}
 use mathlib.Core.List.{List, [], _∷_}
@@ -18,18 +18,15 @@ use Rattle.answer.specs.declared.Part.{Part}
 use Rattle.cut.specs.declared.Bounds.{Bounds}
 use Rattle.cut.specs.declared.Record.{Record}
 use Rattle.cut.specs.Decision.{both, room, alone, addPart}
-use Rattle.cut.specs.Requirement.{Segment}
 use Rattle.cut.specs.Sums.{acceptsIn}
-use Rattle.gathering.specs.Take.{takeInto}
 use Rattle.gathering.specs.declared.Slot.{Slot}
 use Rattle.gathering.specs.declared.Stage.{Stage}
 use Rattle.gathering.specs.declared.Stage.the-variants.{Free, Gathering, Finished}
 use Rattle.gathering.proofs.Stage.{the-type}
 use Rattle.slots.specs.declared.Found.the-variants.{Nothing, At}
-use Rattle.slots.specs.Stores.{noRecord, Stores, lentAt, freeSlot}
+use Rattle.slots.specs.Stores.{noRecord, freeSlot}
 use Rattle.slots.specs.Find.{firstFrom}
 use Rattle.slots.specs.StateTests.{spent, one-more}
-use Rattle.slots.specs.Take.{placedAt, among}
 use Rattle.slots.specs.Show.{startOf, shownAs}
 
 -- ---- a turn of a loop that looks for a slot
@@ -85,13 +82,6 @@ module _ (w i count : ℕ) (store : List ℕ) where
   pub start-some : i * w + count ≤ length store → take (i * w + count - i * w) (drop (i * w) store) ≡ startOf w i count store
   unfolding startOf
   start-some h = let e : i * w + count - i * w ≡ count = omega arith in rw (le-leb (i * w + count) (length store) h, e) refl
-
--- ---- a segment is taken
-
--- into one slot or another
-pub taken-by : (part : Part) (limit i : ℕ) (s : Segment) (slots : List Slot) (stores : Stores) (slot other : Slot) → slot ≡ other
-    → among i slots (placedAt limit i stores (takeInto part limit s slot (lentAt limit i stores))) ≡ among i slots (placedAt limit i stores (takeInto part limit s other (lentAt limit i stores)))
-taken-by part limit i s slots stores slot other = ap (λ (x : Slot). among i slots (placedAt limit i stores (takeInto part limit s x (lentAt limit i stores))))
 
 -- ---- an object that is not finished: the tag is that of another stage
 

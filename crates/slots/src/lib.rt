@@ -7,7 +7,6 @@ use answer::Part;
 use cut::Bounds;
 use cut::Core;
 use cut::Record;
-use gathering::Outcome;
 use gathering::Slot;
 use gathering::Stage;
 use slot::Took;
@@ -27,7 +26,7 @@ ghost use Rattle.slots.specs.Alone.{coreAlone, fitsAlone};
 ghost use Rattle.slots.specs.State.{withinLimits, rightBy, soundSlots};
 ghost use Rattle.slots.specs.Keys.{keyOf, keysOf, unlikeKey, distinctKeys};
 ghost use Rattle.slots.specs.Show.{startOf, shownOf};
-ghost use Rattle.slots.specs.Take.{placedAt, among, takeAt, takeNew, dropAt, Inside, OfferedAt, OpenAt};
+ghost use Rattle.slots.specs.Take.{placedAt, dropAt, Inside};
 
 // How many slots a collector may have.
 pub const SLOTS_LEAST: usize = 1;
@@ -76,7 +75,7 @@ fn with_slot(i: usize, slot: Slot, slots: [Slot; SLOTS_MOST]) -> [Slot; SLOTS_MO
 }
 
 // A slot that a transport number has just taken.
-fn fresh_slot(transport: u16) -> Slot
+pub fn fresh_slot(transport: u16) -> Slot
     ensures { λ r. ⌜ r ≡ freshSlot transport ⌝ }
 {
     Slot {
@@ -330,27 +329,8 @@ pub fn sound(
     true
 }
 
-// What comes of a segment, and all the slots afterwards.
-pub struct TookAt {
-    pub outcome: Outcome,
-    pub slots: [Slot; SLOTS_MOST],
-}
-
-// What a slot has taken, and the slot among the others.
-fn taken_at(i: usize, took: Took, slots: [Slot; SLOTS_MOST]) -> TookAt
-    requires { ⌜ i < slotsMost ⌝ }
-    ensures { λ r. ⌜ (r .outcome ≡ took .outcome) × (r .slots ≡ set slots i (took .slot)) ⌝ }
-{
-    let outcome = took.outcome;
-    let slot = took.slot;
-    TookAt {
-        outcome,
-        slots: with_slot(i, slot, slots),
-    }
-}
-
 // A segment is offered to a slot that stands, or is to stand, at i; its shares are lent to it.
-fn take_into(
+pub fn take_into(
     slot: Slot,
     part: Part,
     limit: usize,
@@ -358,14 +338,13 @@ fn take_into(
     last: bool,
     number: usize,
     bytes: &[u8],
-    slots: [Slot; SLOTS_MOST],
     header: &mut [u8],
     body: &mut [u8],
     marks: &mut [u8],
-) -> TookAt
+) -> Took
     requires { ⌜ Inside limit i (record { header = now header; body = now body; marks = now marks }) ⌝ }
     requires { ⌜ Offered limit slot (lentAt limit i (record { header = now header; body = now body; marks = now marks })) ⌝ }
-    ensures { λ r. ⌜ record { outcome = r .outcome; slots = r .slots; stores = record { header = now (header .exit); body = now (body .exit); marks = now (marks .exit) } } ≡ among i slots (placedAt limit i (record { header = now (header .entry); body = now (body .entry); marks = now (marks .entry) }) (takeInto part limit (record { number = number; last = last; bytes = now (bytes .entry) }) slot (lentAt limit i (record { header = now (header .entry); body = now (body .entry); marks = now (marks .entry) })))) ⌝ }
+    ensures { λ r. ⌜ record { outcome = r .outcome; slot = r .slot; stores = record { header = now (header .exit); body = now (body .exit); marks = now (marks .exit) } } ≡ placedAt limit i (record { header = now (header .entry); body = now (body .entry); marks = now (marks .entry) }) (takeInto part limit (record { number = number; last = last; bytes = now (bytes .entry) }) slot (lentAt limit i (record { header = now (header .entry); body = now (body .entry); marks = now (marks .entry) }))) ⌝ }
 {
     let header_start = i * cut::HEADER_MOST;
     let header_end = header_start + cut::HEADER_MOST;
@@ -373,7 +352,7 @@ fn take_into(
     let body_end = body_start + limit;
     let marks_start = i * SLOT_MARKS;
     let marks_end = marks_start + SLOT_MARKS;
-    let took = slot::take(
+    slot::take(
         slot,
         limit,
         part,
@@ -383,72 +362,6 @@ fn take_into(
         &mut header[header_start..header_end],
         &mut body[body_start..body_end],
         &mut marks[marks_start..marks_end],
-    );
-    taken_at(i, took, slots)
-}
-
-// A segment is offered to slot i.
-pub fn take_at(
-    part: Part,
-    limit: usize,
-    i: usize,
-    last: bool,
-    number: usize,
-    bytes: &[u8],
-    slots: [Slot; SLOTS_MOST],
-    header: &mut [u8],
-    body: &mut [u8],
-    marks: &mut [u8],
-) -> TookAt
-    requires { ⌜ OfferedAt limit i slots (record { header = now header; body = now body; marks = now marks }) ⌝ }
-    ensures { λ r. ⌜ record { outcome = r .outcome; slots = r .slots; stores = record { header = now (header .exit); body = now (body .exit); marks = now (marks .exit) } } ≡ takeAt part limit i (record { number = number; last = last; bytes = now (bytes .entry) }) slots (record { header = now (header .entry); body = now (body .entry); marks = now (marks .entry) }) ⌝ }
-{
-    let old = slots[i];
-    take_into(
-        old,
-        part,
-        limit,
-        i,
-        last,
-        number,
-        bytes,
-        slots,
-        header,
-        body,
-        marks,
-    )
-}
-
-// The first segment of a transport number takes the free slot i.
-pub fn take_new(
-    transport: u16,
-    part: Part,
-    limit: usize,
-    i: usize,
-    last: bool,
-    number: usize,
-    bytes: &[u8],
-    slots: [Slot; SLOTS_MOST],
-    header: &mut [u8],
-    body: &mut [u8],
-    marks: &mut [u8],
-) -> TookAt
-    requires { ⌜ OpenAt limit i (record { header = now header; body = now body; marks = now marks }) ⌝ }
-    ensures { λ r. ⌜ record { outcome = r .outcome; slots = r .slots; stores = record { header = now (header .exit); body = now (body .exit); marks = now (marks .exit) } } ≡ takeNew transport part limit i (record { number = number; last = last; bytes = now (bytes .entry) }) slots (record { header = now (header .entry); body = now (body .entry); marks = now (marks .entry) }) ⌝ }
-{
-    let fresh = fresh_slot(transport);
-    take_into(
-        fresh,
-        part,
-        limit,
-        i,
-        last,
-        number,
-        bytes,
-        slots,
-        header,
-        body,
-        marks,
     )
 }
 

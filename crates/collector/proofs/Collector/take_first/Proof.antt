@@ -1,16 +1,32 @@
 -- `collector::Collector::take_first` meets its contract: CONFLICT, FULL, or the lowest free slot.
 -- Assumes nothing.
-use Rattle.collector.proofs.Laws.{answered-as, taken-as}
+use mathlib.Core.Path.{refl, sym, _∙_}
+use native.Mathlib.Omega.{arith}
+use Rattle.cut.specs.Requirement.{Segment}
+use Rattle.slots.specs.Stores.{Stores, freshSlot}
+use Rattle.slots.specs.Take.{OpenAt, takeNew}
 use Rattle.slots.specs.Ready.{sound-open}
-use Rattle.slots.specs.Stores.{Stores}
+use Rattle.slots.specs.Fresh.{fresh-offered}
+use Rattle.collector.proofs.Laws.{put-as}
 use borrow.Author.Tests.{not-true, not-false}
-use mathlib.Core.Path.{sym, _∙_}
 use borrow.Author.Needs.{needs}
 use Rattle.collector.proofs.Collector.take_first.Statement.{statement}
 use Rattle.collector.proofs.Collector.take_first.Tie as tie
 
-heard-as-requires : tie.Need-heard-as-requires
-heard-as-requires c κs = search needs
+abbrev start : tie.After-fresh-slot → tie.Start
+start k = k .before .before .before .before .before .before .before .before .before .before .before .before .before
+
+-- the stores and the marks that are lent
+abbrev lent : tie.Start → Stores
+lent s = record { header = s .args .header .now; body = s .args .body .now; marks = s .args .marks .now }
+
+-- the free slot can be taken
+opened : (k : tie.After-fresh-slot)
+    → let a = start k .args in
+    OpenAt (a .self .limit) (k .before .before .i .given .0 .0) (lent (start k))
+opened k =
+    let a = start k .args in
+    sound-open (a .self .limit) (a .self .count) (a .self .slots) (lent (start k)) (start k .pre) _ (sym (k .before .before .before .before .free .ensures) ∙ k .before .before .i .given .1)
 
 cast-number : tie.Need-cast-number
 cast-number c = search needs
@@ -18,16 +34,11 @@ cast-number c = search needs
 fits-alone-requires : tie.Need-fits-alone-requires
 fits-alone-requires c κs = search needs
 
-answered-requires : tie.Need-answered-requires
-answered-requires c κs = search needs
+heard-as-requires : tie.Need-heard-as-requires
+heard-as-requires c κs = search needs
 
 returns : tie.Need-returns
-returns c =
-    let a = c .before .before .before .before .before .before .before .before .before .before .args in
-    let stores : Stores = record { header = c .before .before .before .before .before .before .before .before .before .before .args .header .now; body = c .before .before .before .before .before .before .before .before .before .before .args .body .now; marks = c .before .before .before .before .before .before .before .before .before .before .args .marks .now } in
-    let e = c .answered .ensures in
-    let heard = c .before .before .before .before .before .heard-as .ensures in
-    rw (sym (c .before .before .fits-alone .ensures) ∙ not-true _ (c .before .if1 .taken), ← heard) (answered-as (a .counts) stores (e .0) (e .1) (e .2))
+returns c = (omega arith, λ counts. rw (sym (c .before .before .fits-alone .ensures) ∙ not-true _ (c .before .if1 .taken), c .heard-as .ensures) refl)
 
 free-requires : tie.Need-free-requires
 free-requires c κs = search needs
@@ -38,28 +49,22 @@ enum-known-i c = search needs
 enum-told : tie.Need-enum-told
 enum-told c = search needs
 
-answered-requires-2 : tie.Need-answered-requires-2
-answered-requires-2 c κs = search needs
+heard-as-requires-2 : tie.Need-heard-as-requires-2
+heard-as-requires-2 c κs = search needs
 
 returns-2 : tie.Need-returns-2
 returns-2 c =
-    let a = c .before .before .before .before .before .before .before .before .before .before .before .before .before .args in
-    let stores : Stores = record { header = c .before .before .before .before .before .before .before .before .before .before .before .before .before .args .header .now; body = c .before .before .before .before .before .before .before .before .before .before .before .before .before .args .body .now; marks = c .before .before .before .before .before .before .before .before .before .before .before .before .before .args .marks .now } in
-    let e = c .answered2 .ensures in
-    let heard = c .before .before .before .before .before .before .before .before .heard-as .ensures in
-    rw (sym (c .before .before .before .before .before .fits-alone .ensures) ∙ not-false _ (c .before .before .before .before .if1 .left), sym (c .before .before .before .free .ensures) ∙ c .before .enum-told .given .1, ← heard) (answered-as (a .counts) stores (e .0) (e .1) (e .2))
+    (omega arith, λ counts. rw (sym (c .before .before .before .before .before .before .fits-alone .ensures) ∙ not-false _ (c .before .before .before .before .before .if1 .left), sym (c .before .before .before .free .ensures) ∙ c .before .enum-told .given .1, c .heard-as2 .ensures) refl)
 
-take-new-requires : tie.Need-take-new-requires
-take-new-requires c κs =
-    let a = c .before .before .before .before .before .before .before .before .before .before .before .before .before .before .before .before .args in
-    let stores : Stores = record { header = c .before .before .before .before .before .before .before .before .before .before .before .before .before .before .before .before .args .header .now; body = c .before .before .before .before .before .before .before .before .before .before .before .before .before .before .before .before .args .body .now; marks = c .before .before .before .before .before .before .before .before .before .before .before .before .before .before .before .before .args .marks .now } in
-    sound-open (a .self .limit) (a .self .count) (a .self .slots) stores (c .before .before .before .before .before .before .before .before .before .before .before .before .before .before .before .before .pre) _ (sym (c .before .before .before .before .before .before .free .ensures) ∙ c .before .before .before .before .i .given .1)
+fresh-slot-requires : tie.Need-fresh-slot-requires
+fresh-slot-requires c κs = search needs
 
-answer-as-requires : tie.Need-answer-as-requires
-answer-as-requires c κs = search needs
-
-answered-requires-3 : tie.Need-answered-requires-3
-answered-requires-3 c κs = search needs
+take-at-requires : tie.Need-take-at-requires
+take-at-requires c κs =
+    let k = c .before .before .before in
+    let a = start k .args in
+    let o = opened k in
+    (o .inside, rw (k .fresh-slot .ensures) (fresh-offered (a .self .limit) _ (a .carried .number) (lent (start k)) o))
 
 same-length : tie.Need-same-length
 same-length c = search needs
@@ -71,31 +76,31 @@ same-length-3 : tie.Need-same-length-3
 same-length-3 c = search needs
 
 returns-3 : tie.Need-returns-3
+unfolding takeNew
 returns-3 c =
-    let a = c .before .before .before .before .before .before .before .before .before .before .before .before .before .before .before .before .before .before .before .before .before .before .before .before .before .before .args in
-    let stores : Stores = record { header = c .before .before .before .before .before .before .before .before .before .before .before .before .before .before .before .before .before .before .before .before .before .before .before .before .before .before .args .header .now; body = c .before .before .before .before .before .before .before .before .before .before .before .before .before .before .before .before .before .before .before .before .before .before .before .before .before .before .args .body .now; marks = c .before .before .before .before .before .before .before .before .before .before .before .before .before .before .before .before .before .before .before .before .before .before .before .before .before .before .args .marks .now } in
-    let e = c .answered3 .ensures in
-    let heard = c .before .before .before .before .before .before .before .before .before .before .before .before .before .before .before .before .before .before .before .before .before .heard-as .ensures in
-    rw (sym (c .before .before .before .before .before .before .before .before .before .before .before .before .before .before .before .before .before .before .fits-alone .ensures) ∙ not-false _ (c .before .before .before .before .before .before .before .before .before .before .before .before .before .before .before .before .before .if1 .left), sym (c .before .before .before .before .before .before .before .before .before .before .before .before .before .before .before .before .free .ensures) ∙ c .before .before .before .before .before .before .before .before .before .before .before .before .before .before .i .given .1, ← heard)
-    (taken-as _ (a .self) (a .counts) (c .before .before .before .before .before .before .before .before .before .take-new .ensures) (e .0) (c .before .answer-as .ensures) (e .1) (e .2))
+    let t = c .before .before .before .before .before .before in
+    let k = t .before .before .before .before in
+    let s = start k in
+    let a = s .args in
+    let segment : Segment = record { number = a .carried .segment; last = a .carried .last; bytes = a .bytes .now } in
+    rw (sym (k .before .before .before .before .before .before .before .fits-alone .ensures) ∙ not-false _ (k .before .before .before .before .before .before .if1 .left), sym (k .before .before .before .before .free .ensures) ∙ k .before .before .i .given .1)
+    (put-as (a .self) _ (a .carried) segment (lent s) (k .fresh-slot .result) (freshSlot (a .carried .number)) (t .take-at .ensures) (k .fresh-slot .ensures) (opened k .inside .slot))
 
 pub take-first-spec : {M : Type 1} → statement M
 take-first-spec =
     tie.close
     (tie.spec
-    heard-as-requires
     cast-number
     fits-alone-requires
-    answered-requires
+    heard-as-requires
     returns
     free-requires
     enum-known-i
     enum-told
-    answered-requires-2
+    heard-as-requires-2
     returns-2
-    take-new-requires
-    answer-as-requires
-    answered-requires-3
+    fresh-slot-requires
+    take-at-requires
     same-length
     same-length-2
     same-length-3
