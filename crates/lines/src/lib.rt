@@ -11,6 +11,15 @@ ghost use Rattle.lines.specs.Hex.{digitOf, isHex, bytesOf};
 ghost use Rattle.lines.specs.Gather.{roomFor, lineEnd, gathered, lineAfter};
 ghost use Rattle.lines.specs.Line.{askedBy, askedOf, told, left, wordOf, checkOf};
 
+// Characters of a line; a longer one is malformed.
+pub const LINE_MOST: usize = 16432;
+
+// What is kept of a line that is still to end: enough to tell one that is longer.
+pub const LINE_ROOM: usize = LINE_MOST + 1;
+
+// Bytes of a group that a line gives, the CRC behind them counted.
+pub const GROUP_MOST: usize = 8217;
+
 // What a line asks for: a group of so many bytes, which stand in the lent memory, to be taken; a
 // transport number to be dropped; or neither, which is LINE.
 pub enum Line {
@@ -116,11 +125,11 @@ fn asked(letter: u8, digits: &[u8], group: &mut [u8]) -> Line
 }
 
 // What a line asks for; the group's bytes stand in the lent memory afterwards.
-pub fn read(line: &[u8], group: &mut [u8; 8217]) -> Line
+pub fn read(line: &[u8], group: &mut [u8; GROUP_MOST]) -> Line
     ensures { λ r. ⌜ r ≡ told (askedOf (now (line .entry))) ⌝ }
     ensures { λ r. ⌜ now (group .exit) ≡ over (now (group .entry)) 0 (left (askedOf (now (line .entry)))) ⌝ }
 {
-    if 16432 < line.len() {
+    if LINE_MOST < line.len() {
         return Line::Malformed;
     }
     if line.len() < 2 {
@@ -168,7 +177,7 @@ fn keep(line: &mut [u8], kept: usize, piece: &[u8]) -> usize
 
 // The characters of a line that a chunk has from `from` on, up to a newline or the chunk's end,
 // behind those that are kept of it.
-pub fn gather(chunk: &[u8], from: usize, line: &mut [u8; 16433], kept: usize) -> Gathered
+pub fn gather(chunk: &[u8], from: usize, line: &mut [u8; LINE_ROOM], kept: usize) -> Gathered
     ensures { λ r. ⌜ r ≡ gathered (now (chunk .entry)) from kept ⌝ }
     ensures { λ r. ⌜ now (line .exit) ≡ lineAfter (now (chunk .entry)) from (now (line .entry)) kept ⌝ }
 {

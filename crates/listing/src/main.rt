@@ -17,6 +17,17 @@ ghost use lib.ListN.{length, take};
 ghost use Rattle.collector.specs.Calls.{openedBy, takeGroup, dropNumber};
 ghost use Rattle.listing.specs.Listed.{storesOf, served, nextOf, listedAs, lineListed, inputListed, endListed, Reads};
 
+// What the collector is opened with.
+const SLOTS: usize = 2;
+
+const LIMIT: usize = 12288;
+
+const HEADER_STORE: usize = SLOTS * Collector::HEADER_MOST;
+
+const BODY_STORE: usize = SLOTS * LIMIT;
+
+const MARKS: usize = SLOTS * Collector::SLOT_MARKS;
+
 // The collector, and the counts that are lent to it.
 struct Held {
     collector: Collector,
@@ -170,10 +181,10 @@ fn say_done(line: u64, done: Done) -> Held
 // One line: what it asks for is done, and the answer written.
 fn list_line(
     line: &[u8],
-    group: &mut [u8; 8217],
-    header: &mut [u8; 2048],
-    body: &mut [u8; 24576],
-    marks: &mut [u8; 2176],
+    group: &mut [u8; lines::GROUP_MOST],
+    header: &mut [u8; HEADER_STORE],
+    body: &mut [u8; BODY_STORE],
+    marks: &mut [u8; MARKS],
     number: u64,
     held: Held,
 ) -> Held
@@ -199,11 +210,11 @@ fn list_line(
 
 // The line that is kept, which a newline or the input's end has ended.
 fn list_kept(
-    line: &[u8; 16433],
-    group: &mut [u8; 8217],
-    header: &mut [u8; 2048],
-    body: &mut [u8; 24576],
-    marks: &mut [u8; 2176],
+    line: &[u8; lines::LINE_ROOM],
+    group: &mut [u8; lines::GROUP_MOST],
+    header: &mut [u8; HEADER_STORE],
+    body: &mut [u8; BODY_STORE],
+    marks: &mut [u8; MARKS],
     listing: Listing,
 ) -> Listing
     ensures { λ r. ⌜ listedAs r (now (line .entry)) (now (group .exit)) (storesOf (now (header .exit)) (now (body .exit)) (now (marks .exit))) ≡ lineListed (listedAs listing (now (line .entry)) (now (group .entry)) (storesOf (now (header .entry)) (now (body .entry)) (now (marks .entry)))) ⌝ }
@@ -230,11 +241,11 @@ fn list_kept(
 // The lines that a chunk of the input ends, and the start of the next one.
 fn list_chunk(
     chunk: &[u8],
-    line: &mut [u8; 16433],
-    group: &mut [u8; 8217],
-    header: &mut [u8; 2048],
-    body: &mut [u8; 24576],
-    marks: &mut [u8; 2176],
+    line: &mut [u8; lines::LINE_ROOM],
+    group: &mut [u8; lines::GROUP_MOST],
+    header: &mut [u8; HEADER_STORE],
+    body: &mut [u8; BODY_STORE],
+    marks: &mut [u8; MARKS],
     listing: Listing,
 ) -> Listing
     ensures { λ r. ⌜ listedAs r (now (line .exit)) (now (group .exit)) (storesOf (now (header .exit)) (now (body .exit)) (now (marks .exit))) ≡ inputListed (now (chunk .entry)) (listedAs listing (now (line .entry)) (now (group .entry)) (storesOf (now (header .entry)) (now (body .entry)) (now (marks .entry)))) ⌝ }
@@ -255,11 +266,11 @@ fn list_chunk(
 // Reads once, and lists what came.
 fn list_some(
     chunk: &mut [u8; 65536],
-    line: &mut [u8; 16433],
-    group: &mut [u8; 8217],
-    header: &mut [u8; 2048],
-    body: &mut [u8; 24576],
-    marks: &mut [u8; 2176],
+    line: &mut [u8; lines::LINE_ROOM],
+    group: &mut [u8; lines::GROUP_MOST],
+    header: &mut [u8; HEADER_STORE],
+    body: &mut [u8; BODY_STORE],
+    marks: &mut [u8; MARKS],
     listing: Listing,
 ) -> Went
     ensures { λ r. ⌜ r .count ≤ length (now (chunk .exit)) ⌝ }
@@ -284,11 +295,11 @@ fn list_some(
 // Lists to the input's end. A proved loop has to end, and nothing says that the input does: the
 // turns count down from a number that no run uses up.
 fn list_all(
-    line: &mut [u8; 16433],
-    group: &mut [u8; 8217],
-    header: &mut [u8; 2048],
-    body: &mut [u8; 24576],
-    marks: &mut [u8; 2176],
+    line: &mut [u8; lines::LINE_ROOM],
+    group: &mut [u8; lines::GROUP_MOST],
+    header: &mut [u8; HEADER_STORE],
+    body: &mut [u8; BODY_STORE],
+    marks: &mut [u8; MARKS],
     listing: Listing,
 ) -> Listing
     ensures { λ r. ⌜ Reads (listedAs listing (now (line .entry)) (now (group .entry)) (storesOf (now (header .entry)) (now (body .entry)) (now (marks .entry)))) (listedAs r (now (line .exit)) (now (group .exit)) (storesOf (now (header .exit)) (now (body .exit)) (now (marks .exit)))) ⌝ }
@@ -309,11 +320,11 @@ fn list_all(
 
 // The input's end ends a line of which there are characters.
 fn list_end(
-    line: &[u8; 16433],
-    group: &mut [u8; 8217],
-    header: &mut [u8; 2048],
-    body: &mut [u8; 24576],
-    marks: &mut [u8; 2176],
+    line: &[u8; lines::LINE_ROOM],
+    group: &mut [u8; lines::GROUP_MOST],
+    header: &mut [u8; HEADER_STORE],
+    body: &mut [u8; BODY_STORE],
+    marks: &mut [u8; MARKS],
     listing: Listing,
 ) -> Listing
     ensures { λ r. ⌜ listedAs r (now (line .entry)) (now (group .exit)) (storesOf (now (header .exit)) (now (body .exit)) (now (marks .exit))) ≡ endListed (listedAs listing (now (line .entry)) (now (group .entry)) (storesOf (now (header .entry)) (now (body .entry)) (now (marks .entry)))) ⌝ }
@@ -325,13 +336,12 @@ fn list_end(
 }
 
 fn main() {
-    let mut line = [0u8; 16433];
-    let mut group = [0u8; 8217];
-    // Two slots, and a body of at most 12,288 bytes.
-    let mut header = [0u8; 2048];
-    let mut body = [0u8; 24576];
-    let mut marks = [0u8; 2176];
-    let begun = opened(12288, 2, counts::none_yet(), &header, &body, &mut marks);
+    let mut line = [0u8; lines::LINE_ROOM];
+    let mut group = [0u8; lines::GROUP_MOST];
+    let mut header = [0u8; HEADER_STORE];
+    let mut body = [0u8; BODY_STORE];
+    let mut marks = [0u8; MARKS];
+    let begun = opened(LIMIT, SLOTS, counts::none_yet(), &header, &body, &mut marks);
     let counts = begun.counts;
     let opened = begun.opened;
     let collector = opened.collector;
