@@ -1,5 +1,5 @@
--- What is promised of a collector: document 01's demands, each with a name of its own, over any run of it, an opening within
--- the limits and any calls after it. What was stored under a number is read off the answers.
+-- What is promised of a collector: document 01's demands, each with a name of its own, over any run of it, an
+-- opening within the limits and any calls after it. What was stored under a number is read off the answers.
 use mathlib.Core.Path.{_≡_}
 use mathlib.Core.Logic.{_≢_, _↔_}
 use mathlib.Core.Bool.{Bool, true, false}
@@ -104,7 +104,9 @@ FitsStored v number = Fits (v .limit) (v .kept Header number) (v .kept Body numb
 
 -- ... and this group's segment, stored under its number
 abbrev pub FitsWith : View → Passing → Type 0
-FitsWith v g = Fits (v .limit) (headersWith (g .carried .part) (segmentOf g) (v .kept Header (g .carried .number))) (bodiesWith (g .carried .part) (segmentOf g) (v .kept Body (g .carried .number)))
+FitsWith v g =
+    Fits (v .limit) (headersWith (g .carried .part) (segmentOf g) (v .kept Header (g .carried .number)))
+    (bodiesWith (g .carried .part) (segmentOf g) (v .kept Body (g .carried .number)))
 
 -- some segment is missing, of every object and cut that fits
 abbrev pub Missing : View → ℕ → Type 0
@@ -128,8 +130,10 @@ between low high answer = both (leb low (numberOf answer)) (leb (numberOf answer
 -- how many groups and drops were answered so
 unfoldable pub answersFrom : ℕ → ℕ → List Event → ℕ
 answersFrom low high [] = 0
-answersFrom low high (handed bytes answer ∷ events) = pick (between low high answer) (suc (answersFrom low high events)) (answersFrom low high events)
-answersFrom low high (dropped number answer ∷ events) = pick (between low high answer) (suc (answersFrom low high events)) (answersFrom low high events)
+answersFrom low high (handed bytes answer ∷ events) =
+    pick (between low high answer) (suc (answersFrom low high events)) (answersFrom low high events)
+answersFrom low high (dropped number answer ∷ events) =
+    pick (between low high answer) (suc (answersFrom low high events)) (answersFrom low high events)
 answersFrom low high (asked question said ∷ events) = answersFrom low high events
 
 -- taken (0 and 1), repeated (2), refused (10 to 18), completed (1), dropped (3), each up to the ceiling
@@ -171,56 +175,75 @@ module _ (k : Collecting) (v : View) where
 
   -- FULL exactly when it is no conflict, its number holds no slot and none is free.
   abbrev pub FullBy : Type 0
-  FullBy = (g : Passing) → (answerTo k v g ≡ Answer.Full (heardOf g)) ↔ (FitsWith v g × (find (g .carried .number) (v .state) ≡ Nothing) × (free (v .state) ≡ Nothing))
+  FullBy = (g : Passing) → (answerTo k v g ≡ Answer.Full (heardOf g))
+      ↔ (FitsWith v g × (find (g .carried .number) (v .state) ≡ Nothing) × (free (v .state) ≡ Nothing))
 
   -- REPEAT exactly when the same segment is stored.
   abbrev pub RepeatBy : Type 0
-  RepeatBy = (g : Passing) → (answerTo k v g ≡ Answer.Repeat (heardOf g)) ↔ Among (segmentOf g) (v .kept (g .carried .part) (g .carried .number))
+  RepeatBy = (g : Passing) → (answerTo k v g ≡ Answer.Repeat (heardOf g))
+      ↔ Among (segmentOf g) (v .kept (g .carried .part) (g .carried .number))
 
   -- COMPLETE exactly when with it every segment is in, before it not, and a slot is there.
   abbrev pub CompleteBy : Type 0
-  CompleteBy = (g : Passing) → (answerTo k v g ≡ Answer.Complete (heardOf g)) ↔ (((f : FitsWith v g) × Finished f) × Missing v (g .carried .number) × SlotFor (g .carried .number) (v .state))
+  CompleteBy = (g : Passing) → (answerTo k v g ≡ Answer.Complete (heardOf g))
+      ↔ (((f : FitsWith v g) × Finished f) × Missing v (g .carried .number) × SlotFor (g .carried .number) (v .state))
 
   -- STORED exactly when it is new and fits, with it some segment is still missing, and a slot is there.
   abbrev pub StoredBy : Type 0
-  StoredBy = (g : Passing) → (answerTo k v g ≡ Answer.Stored (heardOf g)) ↔ (((f : FitsWith v g) × (¬ (Finished f))) × (¬ (Among (segmentOf g) (v .kept (g .carried .part) (g .carried .number)))) × SlotFor (g .carried .number) (v .state))
+  StoredBy = (g : Passing) → (answerTo k v g ≡ Answer.Stored (heardOf g))
+      ↔ (((f : FitsWith v g) × (¬ (Finished f)))
+      × (¬ (Among (segmentOf g) (v .kept (g .carried .part) (g .carried .number))))
+      × SlotFor (g .carried .number) (v .state))
 
-  -- A number that holds no slot takes the lowest free one: with STORED or COMPLETE it holds slot i, which was free, and no slot
-  -- below i was.
+  -- A number that holds no slot takes the lowest free one: with STORED or COMPLETE it holds slot i, which was free,
+  -- and no slot below i was.
   abbrev pub LowestFreeBy : Type 0
   LowestFreeBy = (g : Passing) → find (g .carried .number) (v .state) ≡ Nothing → numberOf (answerTo k v g) ≤ 1
-      → (i : ℕ) × (find (g .carried .number) (k .takes (g .bytes) (v .state) .left) ≡ At i) × (isFree (slotOf i (v .state)) ≡ true) × ((j : ℕ) → j < i → isFree (slotOf j (v .state)) ≡ false)
+      → (i : ℕ) × (find (g .carried .number) (k .takes (g .bytes) (v .state) .left) ≡ At i)
+      × (isFree (slotOf i (v .state)) ≡ true) × ((j : ℕ) → j < i → isFree (slotOf j (v .state)) ≡ false)
 
   -- A group that does not pass the reading checks is answered with the first that it fails.
   abbrev pub UnreadBy : Type 0
-  UnreadBy = (bytes : List ℕ) (why : Refusal) → readingOf bytes ≡ Refused why → k .takes bytes (v .state) .answer ≡ Answer.Refused why
+  UnreadBy = (bytes : List ℕ) (why : Refusal) → readingOf bytes ≡ Refused why
+      → k .takes bytes (v .state) .answer ≡ Answer.Refused why
 
   -- A drop: DROPPED exactly when the number holds a slot, NOTHELD exactly when not.
   abbrev pub DropBy : Type 0
-  DropBy = (number : ℕ) → ((k .drops number (v .state) .answer ≡ Answer.Dropped number) ↔ (find number (v .state) ≢ Nothing)) × ((k .drops number (v .state) .answer ≡ Answer.NotHeld) ↔ (find number (v .state) ≡ Nothing))
+  DropBy = (number : ℕ)
+      → ((k .drops number (v .state) .answer ≡ Answer.Dropped number) ↔ (find number (v .state) ≢ Nothing))
+      × ((k .drops number (v .state) .answer ≡ Answer.NotHeld) ↔ (find number (v .state) ≡ Nothing))
 
   -- A number holds no slot exactly when nothing is stored under it.
   abbrev pub UnheldBy : Type 0
-  UnheldBy = (number : ℕ) → (find number (v .state) ≡ Nothing) ↔ ((v .kept Header number ≡ []) × (v .kept Body number ≡ []))
+  UnheldBy = (number : ℕ) → (find number (v .state) ≡ Nothing)
+      ↔ ((v .kept Header number ≡ []) × (v .kept Body number ≡ []))
 
   -- An object that is asked for, or its parameters: NOTHELD exactly when its number holds no slot.
   abbrev pub NotHeldBy : Type 0
-  NotHeldBy = (number : ℕ) → ((k .locates number (v .state) ≡ Located.Refused Answer.NotHeld) ↔ (find number (v .state) ≡ Nothing)) × ((k .tells number (v .state) ≡ Asked.Refused Answer.NotHeld) ↔ (find number (v .state) ≡ Nothing))
+  NotHeldBy = (number : ℕ)
+      → ((k .locates number (v .state) ≡ Located.Refused Answer.NotHeld) ↔ (find number (v .state) ≡ Nothing))
+      × ((k .tells number (v .state) ≡ Asked.Refused Answer.NotHeld) ↔ (find number (v .state) ≡ Nothing))
 
   -- UNFINISHED exactly when it holds one and some segment is missing.
   abbrev pub UnfinishedBy : Type 0
-  UnfinishedBy = (number : ℕ) → ((k .locates number (v .state) ≡ Located.Refused Answer.Unfinished) ↔ ((find number (v .state) ≢ Nothing) × Missing v number)) × ((k .tells number (v .state) ≡ Asked.Refused Answer.Unfinished) ↔ ((find number (v .state) ≢ Nothing) × Missing v number))
+  UnfinishedBy = (number : ℕ)
+      → ((k .locates number (v .state) ≡ Located.Refused Answer.Unfinished)
+      ↔ ((find number (v .state) ≢ Nothing) × Missing v number))
+      × ((k .tells number (v .state) ≡ Asked.Refused Answer.Unfinished)
+      ↔ ((find number (v .state) ≢ Nothing) × Missing v number))
 
   -- It is located exactly when every segment is in, in the slot that holds its number.
   abbrev pub LocatedBy : Type 0
-  LocatedBy = (number i : ℕ) → (k .locates number (v .state) ≡ Located.At i) ↔ ((find number (v .state) ≡ At i) × (f : FitsStored v number) × Finished f)
+  LocatedBy = (number i : ℕ) → (k .locates number (v .state) ≡ Located.At i)
+      ↔ ((find number (v .state) ≡ At i) × (f : FitsStored v number) × Finished f)
 
   -- What is shown of a finished object: the header and the body of every object and cut that fits, which are the stored
   -- segments joined by number.
   abbrev pub ShownBy : Type 0
   ShownBy = (number : ℕ) (f : FitsStored v number) → Finished f
       → (k .shows number Header (v .state) ≡ f .header) × (k .shows number Body (v .state) ≡ f .body)
-      × (k .shows number Header (v .state) ≡ joined headerNumbers (v .kept Header number)) × (k .shows number Body (v .state) ≡ joined bodyNumbers (v .kept Body number))
+      × (k .shows number Header (v .state) ≡ joined headerNumbers (v .kept Header number))
+      × (k .shows number Body (v .state) ≡ joined bodyNumbers (v .kept Body number))
 
   -- Of any other number, nothing.
   abbrev pub UnshownBy : Type 0
@@ -228,19 +251,24 @@ module _ (k : Collecting) (v : View) where
 
   -- What is read off a header, or why it is not, HEADER and DUPLICATE: what the header of the finished object reads as.
   abbrev pub ReadBy : Type 0
-  ReadBy = (number : ℕ) (reading : Reading) → (k .tells number (v .state) ≡ askedAs reading) ↔ ((f : FitsStored v number) × Finished f × (readHeader (f .header) ≡ reading))
+  ReadBy = (number : ℕ) (reading : Reading) → (k .tells number (v .state) ≡ askedAs reading)
+      ↔ ((f : FitsStored v number) × Finished f × (readHeader (f .header) ≡ reading))
 
   -- The data of its name, a part of that header; of any other number nothing.
   abbrev pub NamedBy : Type 0
-  NamedBy = (number : ℕ) → ((f : FitsStored v number) → Finished f → k .names number (v .state) ≡ nameData (f .header)) × (Missing v number → k .names number (v .state) ≡ [])
+  NamedBy = (number : ℕ)
+      → ((f : FitsStored v number) → Finished f → k .names number (v .state) ≡ nameData (f .header))
+      × (Missing v number → k .names number (v .state) ≡ [])
 
   -- A number is found by a name exactly when its finished object has the name and none of a lower number does.
   abbrev pub FoundBy : Type 0
-  FoundBy = (sought : List ℕ) (number : ℕ) → (k .finds sought (v .state) ≡ Sought.Number number) ↔ Lowest v sought number
+  FoundBy = (sought : List ℕ) (number : ℕ) → (k .finds sought (v .state) ≡ Sought.Number number)
+      ↔ Lowest v sought number
 
   -- NOTFOUND exactly when no finished object has it.
   abbrev pub NotFoundBy : Type 0
-  NotFoundBy = (sought : List ℕ) → (k .finds sought (v .state) ≡ Sought.Refused Answer.NotFound) ↔ ((number : ℕ) (f : FitsStored v number) → Finished f → ¬ (Named sought (f .header)))
+  NotFoundBy = (sought : List ℕ) → (k .finds sought (v .state) ≡ Sought.Refused Answer.NotFound)
+      ↔ ((number : ℕ) (f : FitsStored v number) → Finished f → ¬ (Named sought (f .header)))
 
 -- all of it
 pub record AnsweredBy (k : Collecting) (v : View) : Type 0 where
@@ -266,43 +294,58 @@ pub record AnsweredBy (k : Collecting) (v : View) : Type 0 where
 -- ---- the promises, of any collector
 
 module _ (k : Collecting) where
-  -- Demand 1. A refused group, 10 to 18, in any state: one more is refused, and every other count, every store byte, every
-  -- mark and every slot's record stay.
+  -- Demand 1. A refused group, 10 to 18, in any state: one more is refused, and every other count, every store byte,
+  -- every mark and every slot's record stay.
   abbrev pub RefusedLeaves : Type 0
-  RefusedLeaves = (bytes : List ℕ) (s : State) → 10 ≤ numberOf (k .takes bytes s .answer) → numberOf (k .takes bytes s .answer) ≤ 18
-      → k .takes bytes s .left ≡ record { collector = s .collector; counts = oneRefused (s .counts); stores = s .stores }
+  RefusedLeaves = (bytes : List ℕ) (s : State) → 10 ≤ numberOf (k .takes bytes s .answer)
+      → numberOf (k .takes bytes s .answer) ≤ 18
+      → k .takes bytes s .left ≡ record
+      { collector = s .collector; counts = oneRefused (s .counts); stores = s .stores }
 
   -- A group that is answered 19 to 26 changes nothing, the counts neither.
   abbrev pub UnansweredLeaves : Type 0
-  UnansweredLeaves = (bytes : List ℕ) (s : State) → 19 ≤ numberOf (k .takes bytes s .answer) → k .takes bytes s .left ≡ s
+  UnansweredLeaves = (bytes : List ℕ) (s : State) → 19 ≤ numberOf (k .takes bytes s .answer)
+      → k .takes bytes s .left ≡ s
 
   -- A repeat: one more is repeated, and nothing else changes.
   abbrev pub RepeatLeaves : Type 0
   RepeatLeaves = (bytes : List ℕ) (s : State) (heard : Heard) → k .takes bytes s .answer ≡ Answer.Repeat heard
-      → k .takes bytes s .left ≡ record { collector = s .collector; counts = oneRepeated (s .counts); stores = s .stores }
+      → k .takes bytes s .left ≡ record
+      { collector = s .collector; counts = oneRepeated (s .counts); stores = s .stores }
 
   -- STATE exactly when the state is damaged: document 01's list.
   abbrev pub StateExactly : Type 0
-  StateExactly = (bytes : List ℕ) (s : State) → OfBytes (s .stores) → (k .takes bytes s .answer ≡ Answer.State) ↔ (¬ (InOrder s))
+  StateExactly = (bytes : List ℕ) (s : State) → OfBytes (s .stores) → (k .takes bytes s .answer ≡ Answer.State)
+      ↔ (¬ (InOrder s))
 
   -- Any other state is answered as if its marked segments had been stored.
   abbrev pub MarkedExactly : Type 0
   MarkedExactly = (s : State) → OfBytes (s .stores) → InOrder s → AnsweredBy k (byMarks s)
 
-  -- An opening is LIMITS exactly when it is outside the bounds or a lent length is wrong, and else the collector is open.
+  -- An opening is LIMITS exactly when it is outside the bounds or a lent length is wrong, and else the collector is
+  -- open.
   abbrev pub LimitsExactly : Type 0
-  LimitsExactly = (start : Start) → ((k .opens start .opening ≡ Opening.Refused Answer.Limits) ↔ (¬ (Within start))) × ((k .opens start .opening ≡ Opening.Open) ↔ Within start)
+  LimitsExactly = (start : Start) → ((k .opens start .opening ≡ Opening.Refused Answer.Limits) ↔ (¬ (Within start)))
+      × ((k .opens start .opening ≡ Opening.Open) ↔ Within start)
 
   -- Then all slots are free, all marks and counts are 0, and no store is touched.
   abbrev pub OpenedLeaves : Type 0
-  OpenedLeaves = (start : Start) → Within start
-      → k .opens start .left ≡ record { collector = allFree (start .limit) (start .count); counts = noneYet; stores = record { header = start .stores .header; body = start .stores .body; marks = zeros (length (start .stores .marks)) } }
+  OpenedLeaves = (start : Start) → Within start → k .opens start .left ≡ record {
+    collector = allFree (start .limit) (start .count);
+    counts = noneYet;
+    stores = record {
+      header = start .stores .header;
+      body = start .stores .body;
+      marks = zeros (length (start .stores .marks));
+    };
+  }
 
-  -- An opening outside the limits leaves the counts and all that is lent, and hands back a state that every call answers
-  -- with STATE.
+  -- An opening outside the limits leaves the counts and all that is lent, and hands back a state that every call
+  -- answers with STATE.
   abbrev pub UnopenedLeaves : Type 0
   UnopenedLeaves = (start : Start) → ¬ (Within start)
-      → (k .opens start .left .counts ≡ start .counts) × (k .opens start .left .stores ≡ start .stores) × (¬ (InOrder (k .opens start .left)))
+      → (k .opens start .left .counts ≡ start .counts) × (k .opens start .left .stores ≡ start .stores)
+      × (¬ (InOrder (k .opens start .left)))
 
   -- No state so reached meets STATE.
   abbrev pub NeverState : Type 0
@@ -314,16 +357,19 @@ module _ (k : Collecting) where
 
   -- A drop is answered STATE exactly when the state is damaged.
   abbrev pub StateDropExactly : Type 0
-  StateDropExactly = (number : ℕ) (s : State) → OfBytes (s .stores) → (k .drops number s .answer ≡ Answer.State) ↔ (¬ (InOrder s))
+  StateDropExactly = (number : ℕ) (s : State) → OfBytes (s .stores) → (k .drops number s .answer ≡ Answer.State)
+      ↔ (¬ (InOrder s))
 
   -- A drop touches no store byte, in any state.
   abbrev pub DropKeepsStores : Type 0
-  DropKeepsStores = (number : ℕ) (s : State) → (k .drops number s .left .stores .header ≡ s .stores .header) × (k .drops number s .left .stores .body ≡ s .stores .body)
+  DropKeepsStores = (number : ℕ) (s : State) → (k .drops number s .left .stores .header ≡ s .stores .header)
+      × (k .drops number s .left .stores .body ≡ s .stores .body)
 
   -- A question is answered STATE exactly when the state is damaged, and then nothing is shown and no name is given.
   abbrev pub StateAskExactly : Type 0
   StateAskExactly = (s : State) → OfBytes (s .stores)
-      → ((number : ℕ) → (k .locates number s ≡ Located.Refused Answer.State) ↔ (¬ (InOrder s))) × ((number : ℕ) → (k .tells number s ≡ Asked.Refused Answer.State) ↔ (¬ (InOrder s)))
+      → ((number : ℕ) → (k .locates number s ≡ Located.Refused Answer.State) ↔ (¬ (InOrder s)))
+      × ((number : ℕ) → (k .tells number s ≡ Asked.Refused Answer.State) ↔ (¬ (InOrder s)))
       × ((sought : List ℕ) → (k .finds sought s ≡ Sought.Refused Answer.State) ↔ (¬ (InOrder s)))
       × (¬ (InOrder s) → (number : ℕ) → ((part : Part) → k .shows number part s ≡ []) × (k .names number s ≡ []))
 
@@ -334,7 +380,8 @@ module _ (k : Collecting) where
   -- Calls under other numbers change nothing that is held for a number, nor what is shown of it.
   abbrev pub OthersLeave : Type 0
   OthersLeave = (r : Run) (number : ℕ) (more : List Call) → Each CallBytes more → Each (Elsewhere number) more
-      → Same number (reachedBy k r) (after k more (reachedBy k r)) × ((part : Part) → k .shows number part (after k more (reachedBy k r)) ≡ k .shows number part (reachedBy k r))
+      → Same number (reachedBy k r) (after k more (reachedBy k r))
+      × ((part : Part) → k .shows number part (after k more (reachedBy k r)) ≡ k .shows number part (reachedBy k r))
 
   -- Demand 2.
   abbrev pub ShownJoined : Type 0
@@ -399,28 +446,34 @@ module _ (k : Collecting) where
 
   -- None is free exactly when each slot holds a number.
   abbrev pub NoneFreeExactly : Type 0
-  NoneFreeExactly = (r : Run) → (free (reachedBy k r) ≡ Nothing) ↔ ((i : ℕ) → i < r .start .count → (number : ℕ) × (find number (reachedBy k r) ≡ At i))
+  NoneFreeExactly = (r : Run) → (free (reachedBy k r) ≡ Nothing)
+      ↔ ((i : ℕ) → i < r .start .count → (number : ℕ) × (find number (reachedBy k r) ≡ At i))
 
   -- The stage is finished exactly when every segment is in.
   abbrev pub FinishedExactly : Type 0
-  FinishedExactly = (r : Run) (number : ℕ) → ((header : ℕ) × (body : ℕ) × (stageFor number (reachedBy k r) ≡ Stage.Finished header body)) ↔ ((f : FitsStored (since k r) number) × Finished f)
+  FinishedExactly = (r : Run) (number : ℕ)
+      → ((header : ℕ) × (body : ℕ) × (stageFor number (reachedBy k r) ≡ Stage.Finished header body))
+      ↔ ((f : FitsStored (since k r) number) × Finished f)
 
   -- And with the two lengths of the object.
   abbrev pub FinishedLengths : Type 0
-  FinishedLengths = (r : Run) (number : ℕ) (f : FitsStored (since k r) number) → Finished f → stageFor number (reachedBy k r) ≡ Stage.Finished (length (f .header)) (length (f .body))
+  FinishedLengths = (r : Run) (number : ℕ) (f : FitsStored (since k r) number) → Finished f
+      → stageFor number (reachedBy k r) ≡ Stage.Finished (length (f .header)) (length (f .body))
 
-  -- Where all that is stored under a number since it took its slot comes from one cut of one object, no group of that cut
-  -- conflicts, in any order, repeated, mixed with any other calls.
+  -- Where all that is stored under a number since it took its slot comes from one cut of one object, no group of
+  -- that cut conflicts, in any order, repeated, mixed with any other calls.
   abbrev pub OneCutAgrees : Type 0
   OneCutAgrees = (r : Run) (object : Source (r .start .limit)) (number : ℕ) → StoredFrom object number (since k r)
-      → (g : Passing) → g .carried .number ≡ number → SentBy object (g .carried .part) (segmentOf g) → answerTo k (since k r) g ≢ Answer.Conflict (heardOf g)
+      → (g : Passing) → g .carried .number ≡ number → SentBy object (g .carried .part) (segmentOf g)
+      → answerTo k (since k r) g ≢ Answer.Conflict (heardOf g)
 
   -- Once all its segments have come, each with a slot there, it is finished and shown with that header and that body.
   abbrev pub OneCutFinishes : Type 0
   OneCutFinishes = (r : Run) (object : Source (r .start .limit)) (number : ℕ) → StoredFrom object number (since k r)
       → ((part : Part) (s : Segment) → SentBy object part s → Among s (cameUnder part number (toldBy k r)))
       → (stageFor number (reachedBy k r) ≡ Stage.Finished (length (object .header)) (length (object .body)))
-      × (k .shows number Header (reachedBy k r) ≡ object .header) × (k .shows number Body (reachedBy k r) ≡ object .body)
+      × (k .shows number Header (reachedBy k r) ≡ object .header)
+      × (k .shows number Body (reachedBy k r) ≡ object .body)
 
 -- ---- all of them
 
