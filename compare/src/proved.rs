@@ -1,4 +1,4 @@
-//! The proved functions, as crate `compared` exports them. Nothing checks these declarations
+//! The proved functions, as crate `comparison` exports them. Nothing checks these declarations
 //! against the source, so they are few and on numbers and slices alone.
 
 use independent::answer::Answer;

@@ -10,7 +10,7 @@ const PROMISED: [(&str, &[&str]); 7] = [
     ("crates/history/specs/Ours.antt", &[]),
     ("crates/history/specs/Promises.antt", &[]),
     (
-        "crates/questions/specs/Theorems.antt",
+        "crates/queries/specs/Theorems.antt",
         &["name-told", "find-lowest", "find-nobody"],
     ),
     (
@@ -32,12 +32,12 @@ const WORDS: &str = "crates/history/specs/Promise.antt";
 /// but that of the crates which read its lines and lay them out, so theirs count too.
 const CALLED: [&str; 7] = [
     "collector",
-    "questions",
-    "lent",
+    "queries",
+    "lent_calls",
     "yovtirak",
-    "lines",
-    "texts",
-    "compared",
+    "listing_input",
+    "listing_output",
+    "comparison",
 ];
 
 /// The programs: `main` is run, and what it calls of its own says what comes of it.

@@ -6,11 +6,11 @@ use Prim.Native.Nat.{ℕ, _<_}
 use Rattle.answer.specs.declared.Answer.{Answer}
 use Rattle.counts.specs.declared.Counts.{Counts}
 use Rattle.counts.specs.Counted.{counted, within}
-use Rattle.group.specs.declared.Segment.{Segment as Carried}
+use Rattle.wire.specs.declared.Segment.{Segment as Carried}
 use Rattle.cut.specs.Requirement.{Segment}
 use Rattle.cut.specs.LawsDecision.{both-true}
-use Rattle.gathering.specs.declared.Slot.{Slot}
-use Rattle.gathering.specs.Take.{takeInto}
+use Rattle.object.specs.declared.Slot.{Slot}
+use Rattle.object.specs.Take.{takeInto}
 use Rattle.slots.specs.Stores.{slotsMost, Stores, lentAt}
 use Rattle.slots.specs.State.{soundSlots}
 use Rattle.slots.specs.Take.{Placed, placedAt, among}

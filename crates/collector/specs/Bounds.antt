@@ -1,5 +1,5 @@
 -- Document 01, "Numbers that bound it": the bounds that belong to the collector's type, by the requirement's names.
-use Rattle.group.specs.Wire.{groupLeast, groupMost, segmentLeast, segmentMost, fullLeast}
+use Rattle.wire.specs.Wire.{groupLeast, groupMost, segmentLeast, segmentMost, fullLeast}
 use Rattle.cut.specs.Requirement.{headerLeast, headerMost, limitLeast, limitMost, headerNumbers, bodyNumbers}
 use Rattle.slots.specs.Stores.{slotsLeast, slotsMost, slotMarks}
 use Rattle.collector.specs.declared.BoundingNumbers.{BoundingNumbers}

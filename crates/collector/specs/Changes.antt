@@ -4,8 +4,8 @@ use Prim.Native.Nat.{ℕ}
 use lib.ListN.{set}
 use Rattle.answer.specs.declared.Answer.{Answer}
 use Rattle.counts.specs.declared.Counts.{Counts}
-use Rattle.group.specs.declared.Segment.{Segment as Carried}
-use Rattle.gathering.specs.declared.Slot.{Slot}
+use Rattle.wire.specs.declared.Segment.{Segment as Carried}
+use Rattle.object.specs.declared.Slot.{Slot}
 use Rattle.slots.specs.Stores.{Stores}
 use Rattle.slots.specs.Take.{Placed}
 use Rattle.collector.specs.declared.Collector.{Collector}

@@ -7,17 +7,17 @@ use answer::Heard;
 use answer::Part;
 use answer::Refusal;
 use counts::Counts;
-use gathering::Outcome;
-use gathering::Slot;
-use gathering::Stage;
-use group::Reading;
-use group::Segment;
+use object::Outcome;
+use object::Slot;
+use object::Stage;
+use wire::Reading;
+use wire::Segment;
 use slots::Found;
 ghost use mathlib.Core.Path.{_≡_};
 ghost use mathlib.Core.Bool.{true};
 ghost use Prim.Native.Nat.{_<_};
 ghost use Rattle.counts.specs.Counted.{counted};
-ghost use Rattle.gathering.specs.Take.{takeInto};
+ghost use Rattle.object.specs.Take.{takeInto};
 ghost use Rattle.slot.specs.Inner.{Offered};
 ghost use Rattle.slots.specs.Find.{findIn};
 ghost use Rattle.slots.specs.Show.{shownOf};
@@ -174,16 +174,16 @@ fn refusal_of(reading: Reading) -> Refusal
 
 impl Collector {
     // Document 01, "Numbers that bound it": each is the one that the crate below it goes by.
-    pub const GROUP_LEAST: usize = group::GROUP_LEAST;
+    pub const GROUP_LEAST: usize = wire::GROUP_LEAST;
 
-    pub const GROUP_MOST: usize = group::GROUP_MOST;
+    pub const GROUP_MOST: usize = wire::GROUP_MOST;
 
-    pub const SEGMENT_LEAST: usize = group::SEGMENT_LEAST;
+    pub const SEGMENT_LEAST: usize = wire::SEGMENT_LEAST;
 
-    pub const SEGMENT_MOST: usize = group::SEGMENT_MOST;
+    pub const SEGMENT_MOST: usize = wire::SEGMENT_MOST;
 
     // Of a segment that is not the last.
-    pub const FULL_LEAST: usize = group::FULL_LEAST;
+    pub const FULL_LEAST: usize = wire::FULL_LEAST;
 
     pub const HEADER_LEAST: usize = cut::HEADER_LEAST;
 
@@ -421,7 +421,7 @@ impl Collector {
         if !self.is_sound(counts, header, body, marks) {
             return Change::Nothing(Answer::State);
         }
-        let reading = group::read(group);
+        let reading = wire::read(group);
         let Reading::Read(carried) = reading else {
             return Change::Nothing(Answer::Refused(refusal_of(reading)));
         };

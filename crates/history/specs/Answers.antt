@@ -9,19 +9,19 @@ use Rattle.answer.specs.declared.Answer.the-variants as Answer
 use Rattle.answer.specs.declared.Heard.{Heard}
 use Rattle.answer.specs.declared.Part.{Part}
 use Rattle.answer.specs.declared.Part.the-variants.{Header, Body}
-use Rattle.group.specs.declared.Segment.{Segment as Carried}
+use Rattle.wire.specs.declared.Segment.{Segment as Carried}
 use Rattle.cut.specs.Lists.{Among, Bytes}
 use Rattle.cut.specs.Requirement.{limitMost, Segment, Fits, Finished}
 use Rattle.cut.specs.LawsObject.{headersWith, bodiesWith, those}
 use Rattle.cut.specs.LawsDecision.{false-true}
-use Rattle.gathering.specs.declared.Slot.{Slot}
-use Rattle.gathering.specs.declared.Outcome.{Outcome}
-use Rattle.gathering.specs.declared.Outcome.the-variants.{Stored, Complete, Repeat, Conflict}
-use Rattle.gathering.specs.Take.{Lent, partsOf, takeInto}
-use Rattle.gathering.specs.Held.{Gathers}
-use Rattle.gathering.specs.State.{markedSegments}
-use Rattle.gathering.specs.StateExact.{sound-holds}
-use Rattle.gathering.specs.Step.{conflict-exactly, repeat-exactly, complete-exactly, stored-exactly}
+use Rattle.object.specs.declared.Slot.{Slot}
+use Rattle.object.specs.declared.Outcome.{Outcome}
+use Rattle.object.specs.declared.Outcome.the-variants.{Stored, Complete, Repeat, Conflict}
+use Rattle.object.specs.Take.{Lent, partsOf, takeInto}
+use Rattle.object.specs.Held.{Gathers}
+use Rattle.object.specs.State.{markedSegments}
+use Rattle.object.specs.StateExact.{sound-holds}
+use Rattle.object.specs.Step.{conflict-exactly, repeat-exactly, complete-exactly, stored-exactly}
 use Rattle.slots.specs.declared.Found.{Found}
 use Rattle.slots.specs.declared.Found.the-variants.{Nothing, At}
 use Rattle.slots.specs.Stores.{freshSlot}

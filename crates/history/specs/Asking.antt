@@ -4,9 +4,9 @@ use Prim.Native.Nat.{ℕ}
 use Rattle.answer.specs.declared.Part.{Part}
 use Rattle.collector.specs.declared.Located.{Located}
 use Rattle.collector.specs.Calls.{locate, show}
-use Rattle.questions.specs.declared.Asked.{Asked}
-use Rattle.questions.specs.declared.Sought.{Sought}
-use Rattle.questions.specs.Questions.{parameters, name, find}
+use Rattle.queries.specs.declared.Asked.{Asked}
+use Rattle.queries.specs.declared.Sought.{Sought}
+use Rattle.queries.specs.Questions.{parameters, name, find}
 use Rattle.history.specs.Call.{State}
 
 -- where a finished object is

@@ -14,12 +14,12 @@ use Rattle.answer.specs.declared.Answer.the-variants as Answer
 use Rattle.answer.specs.declared.Refusal.{Refusal}
 use Rattle.counts.specs.declared.Counts.{Counts}
 use Rattle.counts.specs.Counted.{noneYet, counted}
-use Rattle.group.specs.declared.Segment.{Segment as Carried}
-use Rattle.group.specs.declared.Reading.the-variants.{Read, Refused}
-use Rattle.group.specs.Reading.{readingOf}
+use Rattle.wire.specs.declared.Segment.{Segment as Carried}
+use Rattle.wire.specs.declared.Reading.the-variants.{Read, Refused}
+use Rattle.wire.specs.Reading.{readingOf}
 use Rattle.cut.specs.Requirement.{headerMost, Segment}
-use Rattle.gathering.specs.declared.Slot.{Slot}
-use Rattle.gathering.specs.Take.{Lent, Taken, takeInto}
+use Rattle.object.specs.declared.Slot.{Slot}
+use Rattle.object.specs.Take.{Lent, Taken, takeInto}
 use Rattle.slots.specs.declared.Found.{Found}
 use Rattle.slots.specs.declared.Found.the-variants.{Nothing, At}
 use Rattle.slots.specs.Stores.{slotMarks, Stores, lentAt, withLent, freeSlot, freshSlot, slotAt}

@@ -13,10 +13,10 @@ use Rattle.answer.specs.declared.Answer.the-variants as Answer
 use Rattle.answer.specs.declared.Refusal.the-variants as Refusal
 use Rattle.answer.specs.Table.{numberOf}
 use Rattle.counts.specs.Counted.{ceiling, noneYet, oneTaken, oneRefused}
-use Rattle.group.specs.declared.Segment.{Segment as Carried}
-use Rattle.group.specs.declared.Reading.{Reading}
-use Rattle.group.specs.declared.Reading.the-variants.{Read, Refused}
-use Rattle.group.specs.Reading.{readingOf}
+use Rattle.wire.specs.declared.Segment.{Segment as Carried}
+use Rattle.wire.specs.declared.Reading.{Reading}
+use Rattle.wire.specs.declared.Reading.the-variants.{Read, Refused}
+use Rattle.wire.specs.Reading.{readingOf}
 use Rattle.cut.specs.Lists.{pick, bytes-zeros}
 use Rattle.cut.specs.Requirement.{headerMost, limitLeast}
 use Rattle.cut.specs.Decision.{both}
@@ -26,8 +26,8 @@ use Rattle.slots.specs.Stores.{slotsMost, Stores}
 use Rattle.slots.specs.State.{soundSlots}
 use Rattle.collector.specs.declared.Opening.the-variants as Opening
 use Rattle.collector.specs.Calls.{answeredBy, takeRead, dropFound, segmentIn, allFree}
-use Rattle.questions.specs.declared.Sought.{Sought}
-use Rattle.questions.specs.declared.Sought.the-variants as Sought
+use Rattle.queries.specs.declared.Sought.{Sought}
+use Rattle.queries.specs.declared.Sought.the-variants as Sought
 use Rattle.history.specs.Call.{State, Reply, replied, taking, dropping, sound, limitOf, find, free, answering, inLimits}
 use Rattle.history.specs.Asking.{finding}
 use Rattle.history.specs.Ready.{OfBytes}

@@ -12,9 +12,9 @@ use Rattle.answer.specs.declared.Part.the-variants.{Header, Body}
 use Rattle.cut.specs.Lists.{Each}
 use Rattle.cut.specs.Requirement.{Segment, Fits, Finished}
 use Rattle.cut.specs.LawsObject.{those}
-use Rattle.gathering.specs.declared.Stage.the-variants as Stage
-use Rattle.gathering.specs.declared.Outcome.{Outcome}
-use Rattle.gathering.specs.declared.Outcome.the-variants.{Stored, Complete, Repeat, Conflict}
+use Rattle.object.specs.declared.Stage.the-variants as Stage
+use Rattle.object.specs.declared.Outcome.{Outcome}
+use Rattle.object.specs.declared.Outcome.the-variants.{Stored, Complete, Repeat, Conflict}
 use Rattle.slots.specs.declared.Found.{Found}
 use Rattle.slots.specs.declared.Found.the-variants.{Nothing, At}
 use Rattle.collector.specs.Calls.{answerAs}

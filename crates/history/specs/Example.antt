@@ -14,11 +14,11 @@ use Rattle.cut.specs.Requirement.{Segment}
 use Rattle.header.specs.declared.Fields.{Fields}
 use Rattle.header.specs.declared.Name.the-variants as Name
 use Rattle.header.specs.declared.Priority.the-variants as Priority
-use Rattle.gathering.specs.declared.Stage.the-variants as Stage
-use Rattle.gathering.specs.Offers.{SentBy}
+use Rattle.object.specs.declared.Stage.the-variants as Stage
+use Rattle.object.specs.Offers.{SentBy}
 use Rattle.collector.specs.declared.Located.the-variants as Located
-use Rattle.questions.specs.declared.Asked.the-variants as Asked
-use Rattle.questions.specs.declared.Sought.the-variants as Sought
+use Rattle.queries.specs.declared.Asked.the-variants as Asked
+use Rattle.queries.specs.declared.Sought.the-variants as Sought
 use Rattle.history.specs.Asking.{showing}
 use Rattle.history.specs.History.{Question, Call, hand, drop, ask, CallBytes, shown, read, named, found, handed, dropped, asked, told}
 use Rattle.history.specs.Ours.{ours}

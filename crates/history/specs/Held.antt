@@ -2,8 +2,8 @@
 -- same for it.
 use mathlib.Core.Path.{_≡_}
 use Prim.Native.Nat.{ℕ}
-use Rattle.gathering.specs.declared.Stage.{Stage}
-use Rattle.gathering.specs.declared.Stage.the-variants as Stage
+use Rattle.object.specs.declared.Stage.{Stage}
+use Rattle.object.specs.declared.Stage.the-variants as Stage
 use Rattle.slots.specs.declared.Found.{Found}
 use Rattle.slots.specs.declared.Found.the-variants.{Nothing, At}
 use Rattle.history.specs.Call.{State, limitOf, slotOf, lentOf, find, free}

@@ -12,10 +12,10 @@ use Rattle.answer.specs.declared.Part.{Part}
 use Rattle.answer.specs.declared.Part.the-variants.{Header, Body}
 use Rattle.answer.specs.Table.{numberOf}
 use Rattle.counts.specs.declared.Counts.{Counts}
-use Rattle.group.specs.declared.Segment.{Segment as Carried}
-use Rattle.group.specs.declared.Reading.{Reading}
-use Rattle.group.specs.declared.Reading.the-variants.{Read, Refused}
-use Rattle.group.specs.Reading.{readingOf}
+use Rattle.wire.specs.declared.Segment.{Segment as Carried}
+use Rattle.wire.specs.declared.Reading.{Reading}
+use Rattle.wire.specs.declared.Reading.the-variants.{Read, Refused}
+use Rattle.wire.specs.Reading.{readingOf}
 use Rattle.cut.specs.Lists.{pick, Bytes}
 use Rattle.cut.specs.Requirement.{Segment}
 use Rattle.cut.specs.LawsObject.{headersWith, bodiesWith}
@@ -24,8 +24,8 @@ use Rattle.slots.specs.StateTests.{Limits}
 use Rattle.collector.specs.declared.Located.{Located}
 use Rattle.collector.specs.declared.Opening.{Opening}
 use Rattle.collector.specs.Calls.{segmentIn, openedBy}
-use Rattle.questions.specs.declared.Asked.{Asked}
-use Rattle.questions.specs.declared.Sought.{Sought}
+use Rattle.queries.specs.declared.Asked.{Asked}
+use Rattle.queries.specs.declared.Sought.{Sought}
 use Rattle.history.specs.Call.{State, Reply, taking, dropping, opening}
 use Rattle.history.specs.Ready.{OfBytes}
 use Rattle.history.specs.Asking.{locating, showing, telling, naming, finding}

@@ -18,7 +18,7 @@ use Rattle.cut.specs.Requirement.{headerSize}
 use Rattle.header.specs.declared.Reading.the-variants as Reading
 use Rattle.header.specs.declared.Refusal.the-variants as Refusal
 use Rattle.header.specs.Parameters.{readHeader}
-use Rattle.gathering.specs.declared.Slot.{Slot}
+use Rattle.object.specs.declared.Slot.{Slot}
 use Rattle.slots.specs.declared.Found.{Found}
 use Rattle.slots.specs.declared.Found.the-variants.{Nothing, At}
 use Rattle.names.specs.declared.Holder.{Holder}
@@ -27,11 +27,11 @@ use Rattle.names.specs.Finding.{headerIn, nameData, hasName, lower, foundByName
 use Rattle.collector.specs.declared.Located.{Located}
 use Rattle.collector.specs.declared.Located.the-variants as Located
 use Rattle.collector.specs.Calls.{locatedIn, locate, shownAt}
-use Rattle.questions.specs.declared.Asked.{Asked}
-use Rattle.questions.specs.declared.Asked.the-variants as Asked
-use Rattle.questions.specs.declared.Sought.{Sought}
-use Rattle.questions.specs.declared.Sought.the-variants as Sought
-use Rattle.questions.specs.Questions.{askedAs, askedOf, soughtAs}
+use Rattle.queries.specs.declared.Asked.{Asked}
+use Rattle.queries.specs.declared.Asked.the-variants as Asked
+use Rattle.queries.specs.declared.Sought.{Sought}
+use Rattle.queries.specs.declared.Sought.the-variants as Sought
+use Rattle.queries.specs.Questions.{askedAs, askedOf, soughtAs}
 use Rattle.history.specs.Call.{State, find, lentOf}
 use Rattle.history.specs.Asking.{locating, showing, telling, naming, finding}
 use Rattle.history.specs.History.{Question, defined}

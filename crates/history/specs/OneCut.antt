@@ -13,18 +13,18 @@ use Rattle.answer.specs.declared.Answer.{Answer}
 use Rattle.answer.specs.declared.Answer.the-variants as Answer
 use Rattle.answer.specs.declared.Part.{Part}
 use Rattle.answer.specs.declared.Part.the-variants.{Header, Body}
-use Rattle.group.specs.declared.Segment.{Segment as Carried}
-use Rattle.group.specs.declared.Reading.{Reading}
-use Rattle.group.specs.declared.Reading.the-variants.{Read, Refused}
-use Rattle.group.specs.Reading.{readingOf}
+use Rattle.wire.specs.declared.Segment.{Segment as Carried}
+use Rattle.wire.specs.declared.Reading.{Reading}
+use Rattle.wire.specs.declared.Reading.the-variants.{Read, Refused}
+use Rattle.wire.specs.Reading.{readingOf}
 use Rattle.cut.specs.Lists.{pick, Each, Among, Bytes}
 use Rattle.cut.specs.Requirement.{Segment, Fits, Finished}
 use Rattle.cut.specs.LawsObject.{headersWith, bodiesWith}
-use Rattle.gathering.specs.declared.Stage.the-variants as Stage
-use Rattle.gathering.specs.declared.Outcome.{Outcome}
-use Rattle.gathering.specs.declared.Outcome.the-variants.{Stored, Complete, Repeat, Conflict}
-use Rattle.gathering.specs.Offers.{Source, SentBy}
-use Rattle.gathering.specs.OffersKept.{source-fits}
+use Rattle.object.specs.declared.Stage.the-variants as Stage
+use Rattle.object.specs.declared.Outcome.{Outcome}
+use Rattle.object.specs.declared.Outcome.the-variants.{Stored, Complete, Repeat, Conflict}
+use Rattle.object.specs.Offers.{Source, SentBy}
+use Rattle.object.specs.OffersKept.{source-fits}
 use Rattle.collector.specs.Calls.{heardAs, segmentIn, answerAs}
 use Rattle.history.specs.Call.{taking, groupAnswer, dropAnswer, came}
 use Rattle.history.specs.Asking.{showing}

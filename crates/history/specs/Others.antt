@@ -8,15 +8,15 @@ use Prim.Native.Nat.{ℕ}
 use Rattle.answer.specs.declared.Answer.{Answer}
 use Rattle.answer.specs.declared.Answer.the-variants as Answer
 use Rattle.answer.specs.declared.Part.{Part}
-use Rattle.group.specs.declared.Segment.{Segment as Carried}
-use Rattle.group.specs.declared.Reading.{Reading}
-use Rattle.group.specs.declared.Reading.the-variants.{Read, Refused}
-use Rattle.group.specs.Reading.{readingOf}
+use Rattle.wire.specs.declared.Segment.{Segment as Carried}
+use Rattle.wire.specs.declared.Reading.{Reading}
+use Rattle.wire.specs.declared.Reading.the-variants.{Read, Refused}
+use Rattle.wire.specs.Reading.{readingOf}
 use Rattle.cut.specs.Lists.{Bytes}
 use Rattle.cut.specs.Requirement.{Segment}
 use Rattle.cut.specs.LawsDecision.{false-true}
-use Rattle.gathering.specs.declared.Slot.{Slot}
-use Rattle.gathering.specs.Take.{Lent, Taken, takeInto}
+use Rattle.object.specs.declared.Slot.{Slot}
+use Rattle.object.specs.Take.{Lent, Taken, takeInto}
 use Rattle.slots.specs.declared.Found.{Found}
 use Rattle.slots.specs.declared.Found.the-variants.{Nothing, At}
 use Rattle.slots.specs.Stores.{freeSlot, freshSlot}

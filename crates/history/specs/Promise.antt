@@ -17,17 +17,17 @@ use Rattle.answer.specs.declared.Refusal.{Refusal}
 use Rattle.answer.specs.Table.{numberOf}
 use Rattle.counts.specs.declared.Counts.{Counts}
 use Rattle.counts.specs.Counted.{ceiling, noneYet, oneRepeated, oneRefused}
-use Rattle.group.specs.declared.Segment.{Segment as Carried}
-use Rattle.group.specs.declared.Reading.the-variants.{Read, Refused}
-use Rattle.group.specs.Reading.{readingOf}
+use Rattle.wire.specs.declared.Segment.{Segment as Carried}
+use Rattle.wire.specs.declared.Reading.the-variants.{Read, Refused}
+use Rattle.wire.specs.Reading.{readingOf}
 use Rattle.cut.specs.Lists.{pick, Each, Among, Bytes}
 use Rattle.cut.specs.Requirement.{headerNumbers, bodyNumbers, Segment, Fits, Finished, joined}
 use Rattle.cut.specs.Decision.{both}
 use Rattle.cut.specs.LawsObject.{headersWith, bodiesWith}
 use Rattle.header.specs.declared.Reading.{Reading}
 use Rattle.header.specs.Parameters.{readHeader}
-use Rattle.gathering.specs.declared.Stage.the-variants as Stage
-use Rattle.gathering.specs.Offers.{Source, SentBy}
+use Rattle.object.specs.declared.Stage.the-variants as Stage
+use Rattle.object.specs.Offers.{Source, SentBy}
 use Rattle.slots.specs.declared.Found.the-variants.{Nothing, At}
 use Rattle.slots.specs.Find.{isFree}
 use Rattle.names.specs.Requirement.{Named}
@@ -35,9 +35,9 @@ use Rattle.names.specs.Finding.{nameData}
 use Rattle.collector.specs.declared.Located.the-variants as Located
 use Rattle.collector.specs.declared.Opening.the-variants as Opening
 use Rattle.collector.specs.Calls.{heardAs, segmentIn, allFree}
-use Rattle.questions.specs.declared.Asked.the-variants as Asked
-use Rattle.questions.specs.declared.Sought.the-variants as Sought
-use Rattle.questions.specs.Questions.{askedAs}
+use Rattle.queries.specs.declared.Asked.the-variants as Asked
+use Rattle.queries.specs.declared.Sought.the-variants as Sought
+use Rattle.queries.specs.Questions.{askedAs}
 use Rattle.history.specs.Call.{State, limitOf, slotOf, find, free}
 use Rattle.history.specs.Ready.{OfBytes}
 use Rattle.history.specs.State.{InOrder}

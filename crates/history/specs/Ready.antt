@@ -9,8 +9,8 @@ use Rattle.counts.specs.Counted.{within}
 use Rattle.cut.specs.Lists.{Bytes, bytes-take, bytes-drop}
 use Rattle.cut.specs.Requirement.{headerMost, limitMost}
 use Rattle.cut.specs.LawsDecision.{both-true}
-use Rattle.gathering.specs.Sound.{soundSlot}
-use Rattle.gathering.specs.Shape.{IsLent}
+use Rattle.object.specs.Sound.{soundSlot}
+use Rattle.object.specs.Shape.{IsLent}
 use Rattle.slots.specs.declared.Found.the-variants.{Nothing, At}
 use Rattle.slots.specs.Stores.{slotMarks, Stores, lentAt}
 use Rattle.slots.specs.Find.{isFree, holds, findIn, freeIn}

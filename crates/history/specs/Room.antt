@@ -8,16 +8,16 @@ use native.Mathlib.Omega.{arith}
 use lib.ListN.{length, take, drop, getD, length-set, length-replicate}
 use Rattle.octets.specs.Octets.{sumOf}
 use Rattle.octets.specs.Marks.{sum-split, sum-none}
-use Rattle.group.specs.declared.Segment.{Segment as Carried}
-use Rattle.group.specs.declared.Reading.{Reading}
-use Rattle.group.specs.declared.Reading.the-variants.{Read, Refused}
-use Rattle.group.specs.Reading.{readingOf}
+use Rattle.wire.specs.declared.Segment.{Segment as Carried}
+use Rattle.wire.specs.declared.Reading.{Reading}
+use Rattle.wire.specs.declared.Reading.the-variants.{Read, Refused}
+use Rattle.wire.specs.Reading.{readingOf}
 use Rattle.cut.specs.Lists.{Each}
 use Rattle.cut.specs.Requirement.{headerNumbers, Segment}
 use Rattle.cut.specs.Marks.{Marked}
-use Rattle.gathering.specs.Take.{partsOf}
-use Rattle.gathering.specs.Inside.{sound-slot}
-use Rattle.gathering.specs.Held.{Holds}
+use Rattle.object.specs.Take.{partsOf}
+use Rattle.object.specs.Inside.{sound-slot}
+use Rattle.object.specs.Held.{Holds}
 use Rattle.slots.specs.declared.Found.{Found}
 use Rattle.slots.specs.declared.Found.the-variants.{Nothing, At}
 use Rattle.slots.specs.Stores.{slotsMost, freeSlot}

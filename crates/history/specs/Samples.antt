@@ -11,9 +11,9 @@ use Rattle.octets.specs.Octets.{over, zeros, equal, largestOf}
 use Rattle.answer.specs.declared.Part.{Part}
 use Rattle.answer.specs.declared.Part.the-variants.{Header, Body}
 use Rattle.counts.specs.Counted.{noneYet, risen, within}
-use Rattle.group.specs.declared.Segment.{Segment as Carried}
-use Rattle.group.specs.declared.Reading.the-variants.{Read}
-use Rattle.group.specs.Reading.{kindOf, checkHolds, sizeWrong, segmentOf, readingOf}
+use Rattle.wire.specs.declared.Segment.{Segment as Carried}
+use Rattle.wire.specs.declared.Reading.the-variants.{Read}
+use Rattle.wire.specs.Reading.{kindOf, checkHolds, sizeWrong, segmentOf, readingOf}
 use Rattle.cut.specs.Lists.{Each, Among, bytes-zeros}
 use Rattle.cut.specs.Requirement.{bodySize, headerSize, contentType, contentSubType, Segment}
 use Rattle.cut.specs.Decision.{boundsOf, coreFits, room, largest, alone, settle}
@@ -22,10 +22,10 @@ use Rattle.cut.specs.LawsSegment.{Numbered}
 use Rattle.cut.specs.Finished.{whole-numbers}
 use Rattle.header.specs.Parameters.{lengthAt, parameterAt, within as inHeader, foundAt, turns, parametersFrom, widthFits, allFit, single, count, twice, find as findParameter, fieldsOf, judged, readHeader}
 use Rattle.header.specs.Names.{unslashed, nameMatches}
-use Rattle.gathering.specs.Memory.{segmentAt, settled, put}
-use Rattle.gathering.specs.Take.{partsOf, lentOf, coreIn, takesIn, recordWith, recordWithin, partsWith, stageOf, sameSegment, slotWith, takeInto}
-use Rattle.gathering.specs.Sound.{recordRight, soundParts, soundSlot}
-use Rattle.gathering.specs.Offers.{Source, SentBy}
+use Rattle.object.specs.Memory.{segmentAt, settled, put}
+use Rattle.object.specs.Take.{partsOf, lentOf, coreIn, takesIn, recordWith, recordWithin, partsWith, stageOf, sameSegment, slotWith, takeInto}
+use Rattle.object.specs.Sound.{recordRight, soundParts, soundSlot}
+use Rattle.object.specs.Offers.{Source, SentBy}
 use Rattle.slots.specs.Alone.{fitsAlone}
 use Rattle.slots.specs.Find.{isFree, holds, firstFrom, findIn, freeIn}
 use Rattle.slots.specs.State.{withinLimits, heldAmong, unlike, distinct, rightSlot, rightFrom, soundSlots}
@@ -34,7 +34,7 @@ use Rattle.slots.specs.Show.{startOf, shownOf}
 use Rattle.slots.specs.Take.{takeAt, takeNew, dropAt}
 use Rattle.names.specs.Finding.{headerIn, nameData, hasName, holderIn, lowestFrom, foundByName}
 use Rattle.collector.specs.Calls.{soundState, segmentIn, takeGroup, dropNumber, openedBy, locate, show}
-use Rattle.questions.specs.Questions.{parameters, name, find as findByName}
+use Rattle.queries.specs.Questions.{parameters, name, find as findByName}
 use Rattle.history.specs.Call.{taking, dropping, opening}
 use Rattle.history.specs.History.{Call, hand, CallBytes, Start, Allowed, under}
 

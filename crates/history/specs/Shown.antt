@@ -12,12 +12,12 @@ use Rattle.octets.specs.Shares.{share}
 use Rattle.answer.specs.declared.Part.{Part}
 use Rattle.answer.specs.declared.Part.the-variants.{Header, Body}
 use Rattle.cut.specs.Requirement.{headerMost}
-use Rattle.gathering.specs.declared.Stage.{Stage}
-use Rattle.gathering.specs.declared.Stage.the-variants.{Free, Gathering, Finished}
-use Rattle.gathering.specs.Take.{Lent, partsOf}
-use Rattle.gathering.specs.Sound.{soundParts}
-use Rattle.gathering.specs.Inside.{sound-slot}
-use Rattle.gathering.specs.StageInside.{finished-inside}
+use Rattle.object.specs.declared.Stage.{Stage}
+use Rattle.object.specs.declared.Stage.the-variants.{Free, Gathering, Finished}
+use Rattle.object.specs.Take.{Lent, partsOf}
+use Rattle.object.specs.Sound.{soundParts}
+use Rattle.object.specs.Inside.{sound-slot}
+use Rattle.object.specs.StageInside.{finished-inside}
 use Rattle.slots.specs.declared.Found.the-variants.{Nothing, At}
 use Rattle.slots.specs.Stores.{Stores, lentAt}
 use Rattle.slots.specs.Take.{Inside}

@@ -15,8 +15,8 @@ use borrow.Author.Tests.{eqb-true, eq-eqb, le-leb}
 use Rattle.cut.specs.Requirement.{headerMost, limitLeast, limitMost}
 use Rattle.cut.specs.Lists.{pick}
 use Rattle.cut.specs.LawsDecision.{false-true, both-true, true-both, all-true, true-all}
-use Rattle.gathering.specs.declared.Slot.{Slot}
-use Rattle.gathering.specs.Take.{Lent}
+use Rattle.object.specs.declared.Slot.{Slot}
+use Rattle.object.specs.Take.{Lent}
 use Rattle.slots.specs.declared.Found.{Found}
 use Rattle.slots.specs.declared.Found.the-variants.{Nothing, At}
 use Rattle.slots.specs.Stores.{slotsMost, slotMarks, Stores, lentAt, withLent, freeSlot, slotAt}

@@ -14,18 +14,18 @@ use Rattle.answer.specs.declared.Answer.the-variants as Answer
 use Rattle.answer.specs.declared.Part.{Part}
 use Rattle.counts.specs.declared.Counts.{Counts}
 use Rattle.counts.specs.Counted.{noneYet, counted, within}
-use Rattle.group.specs.declared.Segment.{Segment as Carried}
-use Rattle.group.specs.declared.Reading.{Reading}
-use Rattle.group.specs.declared.Reading.the-variants.{Read, Refused}
-use Rattle.group.specs.Reading.{readingOf}
+use Rattle.wire.specs.declared.Segment.{Segment as Carried}
+use Rattle.wire.specs.declared.Reading.{Reading}
+use Rattle.wire.specs.declared.Reading.the-variants.{Read, Refused}
+use Rattle.wire.specs.Reading.{readingOf}
 use Rattle.cut.specs.Lists.{Bytes, bytes-take, bytes-drop, over-bytes}
 use Rattle.cut.specs.Requirement.{headerMost, limitMost, Segment}
 use Rattle.cut.specs.LawsDecision.{false-true, true-both}
-use Rattle.gathering.specs.declared.Slot.{Slot}
-use Rattle.gathering.specs.Take.{Lent, Taken, takeInto}
-use Rattle.gathering.specs.Shape.{IsLent}
-use Rattle.gathering.specs.StepSound.{taken-lent, added-sound}
-use Rattle.gathering.specs.StateAnswered.{sound-stays, lent-stays}
+use Rattle.object.specs.declared.Slot.{Slot}
+use Rattle.object.specs.Take.{Lent, Taken, takeInto}
+use Rattle.object.specs.Shape.{IsLent}
+use Rattle.object.specs.StepSound.{taken-lent, added-sound}
+use Rattle.object.specs.StateAnswered.{sound-stays, lent-stays}
 use Rattle.slots.specs.declared.Found.{Found}
 use Rattle.slots.specs.declared.Found.the-variants.{Nothing, At}
 use Rattle.slots.specs.Stores.{slotsMost, slotMarks, Stores, lentAt, withLent, freeSlot, freshSlot, slotAt}

@@ -10,10 +10,10 @@ use Rattle.answer.specs.declared.Part.{Part}
 use Rattle.answer.specs.declared.Part.the-variants.{Header, Body}
 use Rattle.cut.specs.Requirement.{headerNumbers, bodyNumbers, Segment, Fits, Finished, joined}
 use Rattle.cut.specs.Finished.{segmentOf, segment-sent, finished-every, finished-one}
-use Rattle.gathering.specs.declared.Stage.{Stage}
-use Rattle.gathering.specs.declared.Stage.the-variants as Stage
-use Rattle.gathering.specs.Held.{StageFor, Holds}
-use Rattle.gathering.specs.Shown.{holds-shows}
+use Rattle.object.specs.declared.Stage.{Stage}
+use Rattle.object.specs.declared.Stage.the-variants as Stage
+use Rattle.object.specs.Held.{StageFor, Holds}
+use Rattle.object.specs.Shown.{holds-shows}
 use Rattle.slots.specs.declared.Found.{Found}
 use Rattle.slots.specs.declared.Found.the-variants.{Nothing, At}
 use Rattle.history.specs.Call.{State, sound, limitOf, slotOf, lentOf, find}

@@ -16,20 +16,20 @@ use Rattle.answer.specs.declared.Heard.{Heard}
 use Rattle.answer.specs.declared.Part.{Part}
 use Rattle.answer.specs.declared.Part.the-variants.{Header, Body}
 use Rattle.answer.specs.Table.{numberOf}
-use Rattle.group.specs.declared.Segment.{Segment as Carried}
-use Rattle.group.specs.declared.Reading.{Reading}
-use Rattle.group.specs.declared.Reading.the-variants.{Read, Refused}
-use Rattle.group.specs.Reading.{readingOf}
+use Rattle.wire.specs.declared.Segment.{Segment as Carried}
+use Rattle.wire.specs.declared.Reading.{Reading}
+use Rattle.wire.specs.declared.Reading.the-variants.{Read, Refused}
+use Rattle.wire.specs.Reading.{readingOf}
 use Rattle.cut.specs.Lists.{pick, Bytes}
 use Rattle.cut.specs.Requirement.{Segment}
 use Rattle.cut.specs.LawsObject.{headersWith, bodiesWith}
-use Rattle.gathering.specs.declared.Slot.{Slot}
-use Rattle.gathering.specs.declared.Outcome.{Outcome}
-use Rattle.gathering.specs.declared.Outcome.the-variants.{Stored, Complete, Repeat, Conflict}
-use Rattle.gathering.specs.Take.{Lent, Taken, takeInto}
-use Rattle.gathering.specs.Shape.{IsLent}
-use Rattle.gathering.specs.Held.{Holds, Added}
-use Rattle.gathering.specs.Step.{Tells, outcome-tells}
+use Rattle.object.specs.declared.Slot.{Slot}
+use Rattle.object.specs.declared.Outcome.{Outcome}
+use Rattle.object.specs.declared.Outcome.the-variants.{Stored, Complete, Repeat, Conflict}
+use Rattle.object.specs.Take.{Lent, Taken, takeInto}
+use Rattle.object.specs.Shape.{IsLent}
+use Rattle.object.specs.Held.{Holds, Added}
+use Rattle.object.specs.Step.{Tells, outcome-tells}
 use Rattle.slots.specs.declared.Found.{Found}
 use Rattle.slots.specs.declared.Found.the-variants.{Nothing, At}
 use Rattle.slots.specs.Stores.{freeSlot, freshSlot, slotAt}

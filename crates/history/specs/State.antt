@@ -14,25 +14,25 @@ use Rattle.answer.specs.declared.Heard.{Heard}
 use Rattle.answer.specs.declared.Part.{Part}
 use Rattle.answer.specs.declared.Part.the-variants.{Header}
 use Rattle.counts.specs.Counted.{within}
-use Rattle.group.specs.declared.Segment.{Segment as Carried}
-use Rattle.group.specs.declared.Reading.{Reading}
-use Rattle.group.specs.declared.Reading.the-variants.{Read, Refused}
-use Rattle.group.specs.Reading.{readingOf}
+use Rattle.wire.specs.declared.Segment.{Segment as Carried}
+use Rattle.wire.specs.declared.Reading.{Reading}
+use Rattle.wire.specs.declared.Reading.the-variants.{Read, Refused}
+use Rattle.wire.specs.Reading.{readingOf}
 use Rattle.cut.specs.Requirement.{limitMost, Segment}
 use Rattle.cut.specs.LawsDecision.{true-both}
 use Rattle.header.specs.declared.Reading.{Reading as HeaderReading}
 use Rattle.header.specs.declared.Reading.the-variants as HeaderReading
 use Rattle.header.specs.declared.Refusal.the-variants as HeaderRefusal
 use Rattle.header.specs.Parameters.{readHeader}
-use Rattle.gathering.specs.declared.Slot.{Slot}
-use Rattle.gathering.specs.declared.Stage.{Stage}
-use Rattle.gathering.specs.declared.Stage.the-variants as Stage
-use Rattle.gathering.specs.declared.Outcome.{Outcome}
-use Rattle.gathering.specs.declared.Outcome.the-variants.{Stored, Complete, Repeat, Conflict}
-use Rattle.gathering.specs.Take.{Lent, takeInto}
-use Rattle.gathering.specs.Shape.{IsLent}
-use Rattle.gathering.specs.State.{Sound}
-use Rattle.gathering.specs.StateExact.{sound-exactly}
+use Rattle.object.specs.declared.Slot.{Slot}
+use Rattle.object.specs.declared.Stage.{Stage}
+use Rattle.object.specs.declared.Stage.the-variants as Stage
+use Rattle.object.specs.declared.Outcome.{Outcome}
+use Rattle.object.specs.declared.Outcome.the-variants.{Stored, Complete, Repeat, Conflict}
+use Rattle.object.specs.Take.{Lent, takeInto}
+use Rattle.object.specs.Shape.{IsLent}
+use Rattle.object.specs.State.{Sound}
+use Rattle.object.specs.StateExact.{sound-exactly}
 use Rattle.slots.specs.declared.Found.{Found}
 use Rattle.slots.specs.declared.Found.the-variants.{Nothing, At}
 use Rattle.slots.specs.Stores.{freshSlot}
@@ -45,9 +45,9 @@ use Rattle.names.specs.declared.Holder.{Holder}
 use Rattle.names.specs.declared.Holder.the-variants as Holder
 use Rattle.names.specs.Finding.{nameData, foundByName}
 use Rattle.collector.specs.Calls.{soundState, heardAs, segmentIn, answerAs, locatedAs, locatedIn, locate, show}
-use Rattle.questions.specs.declared.Asked.the-variants as Asked
-use Rattle.questions.specs.declared.Sought.the-variants as Sought
-use Rattle.questions.specs.Questions.{askedAs, askedOf, parameters, name, soughtAs, find as findByName}
+use Rattle.queries.specs.declared.Asked.the-variants as Asked
+use Rattle.queries.specs.declared.Sought.the-variants as Sought
+use Rattle.queries.specs.Questions.{askedAs, askedOf, parameters, name, soughtAs, find as findByName}
 use Rattle.history.specs.Slots.{undamaged-sound}
 use Rattle.history.specs.Call.{State, Reply, taking, dropping, groupAnswer, dropAnswer, sound, limitOf, InUse, slotOf, lentOf, find, Came, alone, full, first, more, group-damaged, unread, came, drop-damaged, none-dropped, found-dropped}
 use Rattle.history.specs.Asking.{locating, showing, telling, naming, finding}

@@ -15,20 +15,20 @@ use Rattle.answer.specs.declared.Part.the-variants.{Header, Body}
 use Rattle.cut.specs.Lists.{Bytes, bytes-zeros}
 use Rattle.cut.specs.Requirement.{headerMost, limitMost, Segment, Fits}
 use Rattle.cut.specs.LawsObject.{headersWith, bodiesWith}
-use Rattle.gathering.specs.declared.Slot.{Slot}
-use Rattle.gathering.specs.declared.Stage.{Stage}
-use Rattle.gathering.specs.declared.Stage.the-variants as Stage
-use Rattle.gathering.specs.declared.Outcome.{Outcome}
-use Rattle.gathering.specs.declared.Outcome.the-variants.{Stored, Complete, Repeat, Conflict}
-use Rattle.gathering.specs.Memory.{segmentAt}
-use Rattle.gathering.specs.Take.{Lent, partsOf, memoryOf, takesIn, partsWith, stageOf, slotWith, outcomeBy, Taken, sameSegment, ifNew, ifHeld, byMark, takeInto}
-use Rattle.gathering.specs.Sound.{soundSlot}
-use Rattle.gathering.specs.Shape.{IsLent}
-use Rattle.gathering.specs.State.{markedSegments}
-use Rattle.gathering.specs.Held.{Gathers, StageFor, Holds, Vacant, Added}
-use Rattle.gathering.specs.Step.{Tells, outcome-tells, conflict-exactly}
-use Rattle.gathering.specs.StepSound.{vacant-gathers}
-use Rattle.gathering.specs.StateExact.{sound-holds}
+use Rattle.object.specs.declared.Slot.{Slot}
+use Rattle.object.specs.declared.Stage.{Stage}
+use Rattle.object.specs.declared.Stage.the-variants as Stage
+use Rattle.object.specs.declared.Outcome.{Outcome}
+use Rattle.object.specs.declared.Outcome.the-variants.{Stored, Complete, Repeat, Conflict}
+use Rattle.object.specs.Memory.{segmentAt}
+use Rattle.object.specs.Take.{Lent, partsOf, memoryOf, takesIn, partsWith, stageOf, slotWith, outcomeBy, Taken, sameSegment, ifNew, ifHeld, byMark, takeInto}
+use Rattle.object.specs.Sound.{soundSlot}
+use Rattle.object.specs.Shape.{IsLent}
+use Rattle.object.specs.State.{markedSegments}
+use Rattle.object.specs.Held.{Gathers, StageFor, Holds, Vacant, Added}
+use Rattle.object.specs.Step.{Tells, outcome-tells, conflict-exactly}
+use Rattle.object.specs.StepSound.{vacant-gathers}
+use Rattle.object.specs.StateExact.{sound-holds}
 use Rattle.slots.specs.Stores.{slotMarks, freshSlot}
 use Rattle.slots.specs.Find.{freeStage, isFree}
 use Rattle.slots.specs.Alone.{fitsAlone}

@@ -15,8 +15,8 @@ use Rattle.header.specs.declared.Reading.the-variants as Reading
 use Rattle.header.specs.declared.Refusal.{Refusal}
 use Rattle.header.specs.declared.Refusal.the-variants as Refusal
 use Rattle.header.specs.Parameters.{readHeader}
-use Rattle.gathering.specs.declared.Stage.{Stage}
-use Rattle.gathering.specs.declared.Stage.the-variants as Stage
+use Rattle.object.specs.declared.Stage.{Stage}
+use Rattle.object.specs.declared.Stage.the-variants as Stage
 use Rattle.slots.specs.declared.Found.{Found}
 use Rattle.slots.specs.declared.Found.the-variants.{Nothing, At}
 use Rattle.slots.specs.Find.{isFree}
@@ -25,11 +25,11 @@ use Rattle.names.specs.Finding.{nameData}
 use Rattle.collector.specs.declared.Located.{Located}
 use Rattle.collector.specs.declared.Located.the-variants as Located
 use Rattle.collector.specs.Calls.{locatedAs, locatedIn, locate}
-use Rattle.questions.specs.declared.Asked.{Asked}
-use Rattle.questions.specs.declared.Asked.the-variants as Asked
-use Rattle.questions.specs.declared.Sought.the-variants as Sought
-use Rattle.questions.specs.Questions.{refusedAs, askedAs, askedOf, parameters, name}
-use Rattle.questions.specs.Theorems.{find-lowest, find-nobody}
+use Rattle.queries.specs.declared.Asked.{Asked}
+use Rattle.queries.specs.declared.Asked.the-variants as Asked
+use Rattle.queries.specs.declared.Sought.the-variants as Sought
+use Rattle.queries.specs.Questions.{refusedAs, askedAs, askedOf, parameters, name}
+use Rattle.queries.specs.Theorems.{find-lowest, find-nobody}
 use Rattle.history.specs.Slots.{held-is}
 use Rattle.history.specs.Call.{State, sound, limitOf, slotOf, find}
 use Rattle.history.specs.Asking.{locating, showing, telling, naming, finding}

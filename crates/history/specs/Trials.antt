@@ -12,14 +12,14 @@ use Rattle.answer.specs.declared.Part.the-variants.{Header, Body}
 use Rattle.answer.specs.Table.{numberOf}
 use Rattle.counts.specs.declared.Counts.{Counts}
 use Rattle.counts.specs.Counted.{ceiling, noneYet, within}
-use Rattle.group.specs.declared.Reading.the-variants.{Read}
-use Rattle.group.specs.Reading.{readingOf}
+use Rattle.wire.specs.declared.Reading.the-variants.{Read}
+use Rattle.wire.specs.Reading.{readingOf}
 use Rattle.cut.specs.Lists.{Bytes}
 use Rattle.cut.specs.Requirement.{bodySize, headerSize, Segment, Fits, Finished}
 use Rattle.cut.specs.LawsSegment.{Numbered}
 use Rattle.cut.specs.LawsDecision.{true-both}
 use Rattle.cut.specs.Finished.{whole-numbers, whole-empty}
-use Rattle.gathering.specs.Offers.{Source}
+use Rattle.object.specs.Offers.{Source}
 use Rattle.slots.specs.declared.Found.{Found}
 use Rattle.slots.specs.declared.Found.the-variants.{Nothing, At}
 use Rattle.slots.specs.Stores.{slotsMost, Stores}
@@ -29,10 +29,10 @@ use Rattle.collector.specs.declared.Opening.the-variants as Opening
 use Rattle.collector.specs.declared.Located.{Located}
 use Rattle.collector.specs.declared.Located.the-variants as Located
 use Rattle.collector.specs.Calls.{soundState}
-use Rattle.questions.specs.declared.Asked.{Asked}
-use Rattle.questions.specs.declared.Asked.the-variants as Asked
-use Rattle.questions.specs.declared.Sought.{Sought}
-use Rattle.questions.specs.declared.Sought.the-variants as Sought
+use Rattle.queries.specs.declared.Asked.{Asked}
+use Rattle.queries.specs.declared.Asked.the-variants as Asked
+use Rattle.queries.specs.declared.Sought.{Sought}
+use Rattle.queries.specs.declared.Sought.the-variants as Sought
 use Rattle.history.specs.Call.{State, Reply, taking, dropping, limitOf}
 use Rattle.history.specs.Asking.{locating, showing, telling, naming, finding}
 use Rattle.history.specs.Ready.{OfBytes, slots-sound}

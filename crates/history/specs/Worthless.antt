@@ -19,22 +19,22 @@ use Rattle.answer.specs.declared.Answer.the-variants as Answer
 use Rattle.answer.specs.declared.Refusal.the-variants as Refusal
 use Rattle.counts.specs.declared.Counts.{Counts}
 use Rattle.counts.specs.Counted.{ceiling, noneYet, counted}
-use Rattle.group.specs.declared.Kind.{Kind}
-use Rattle.group.specs.declared.Kind.the-variants.{Carries, Other}
-use Rattle.group.specs.declared.Segment.{Segment as Carried}
-use Rattle.group.specs.declared.Reading.the-variants.{Read, Refused}
-use Rattle.group.specs.Wire.{typeNumber}
-use Rattle.group.specs.Reading.{kindOf, readingOf}
-use Rattle.group.specs.declared.Reading.{Reading}
+use Rattle.wire.specs.declared.Kind.{Kind}
+use Rattle.wire.specs.declared.Kind.the-variants.{Carries, Other}
+use Rattle.wire.specs.declared.Segment.{Segment as Carried}
+use Rattle.wire.specs.declared.Reading.the-variants.{Read, Refused}
+use Rattle.wire.specs.Wire.{typeNumber}
+use Rattle.wire.specs.Reading.{kindOf, readingOf}
+use Rattle.wire.specs.declared.Reading.{Reading}
 use Rattle.cut.specs.Lists.{Among, pick}
 use Rattle.cut.specs.Requirement.{Segment, Fits, Finished}
 use Rattle.cut.specs.LawsSegment.{sends-sits, inside}
 use Rattle.cut.specs.Decision.{both}
 use Rattle.cut.specs.LawsDecision.{false-true}
-use Rattle.gathering.specs.Offers.{SentBy}
-use Rattle.gathering.specs.declared.Slot.{Slot}
-use Rattle.gathering.specs.declared.Stage.{Stage}
-use Rattle.gathering.specs.declared.Stage.the-variants as Stage
+use Rattle.object.specs.Offers.{SentBy}
+use Rattle.object.specs.declared.Slot.{Slot}
+use Rattle.object.specs.declared.Stage.{Stage}
+use Rattle.object.specs.declared.Stage.the-variants as Stage
 use Rattle.slots.specs.declared.Found.{Found}
 use Rattle.slots.specs.declared.Found.the-variants.{Nothing, At}
 use Rattle.slots.specs.Find.{isFree}

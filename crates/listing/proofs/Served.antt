@@ -9,9 +9,9 @@ use lib.Seq.{take-at}
 use Rattle.octets.specs.Octets.{over}
 use Rattle.slots.specs.Stores.{Stores}
 use Rattle.collector.specs.Calls.{Answered, takeGroup, dropNumber}
-use Rattle.lines.specs.declared.Line.the-variants.{Group, Drop, Malformed}
-use Rattle.lines.specs.Line.{Asked, taking, dropping, neither, askedOf, told, left}
-use Rattle.lines.specs.Run.{over-nothing}
+use Rattle.listing_input.specs.declared.Line.the-variants.{Group, Drop, Malformed}
+use Rattle.listing_input.specs.Line.{Asked, taking, dropping, neither, askedOf, told, left}
+use Rattle.listing_input.specs.Run.{over-nothing}
 use Rattle.listing.specs.declared.Held.{Held}
 use Rattle.listing.specs.Listed.{Served, servedBy, servedAs, served}
 

@@ -10,11 +10,11 @@ use lib.Seq.{drop-drop, take-nil}
 use borrow.Author.Tests.{ne-eqb, lt-ltb, le-ltb}
 use Rattle.octets.specs.Octets.{over}
 use Rattle.slots.specs.Stores.{Stores}
-use Rattle.lines.specs.declared.Gathered.{Gathered}
-use Rattle.lines.specs.Split.{newline}
-use Rattle.lines.specs.Gather.{most, before, roomFor, lineEnd, gathered, lineAfter}
-use Rattle.lines.specs.Run.{over-nothing, over-on}
-use Rattle.lines.specs.Chunks.{before-newline, before-other, front-joined, ends-in, goes-past}
+use Rattle.listing_input.specs.declared.Gathered.{Gathered}
+use Rattle.listing_input.specs.Split.{newline}
+use Rattle.listing_input.specs.Gather.{most, before, roomFor, lineEnd, gathered, lineAfter}
+use Rattle.listing_input.specs.Run.{over-nothing, over-on}
+use Rattle.listing_input.specs.Chunks.{before-newline, before-other, front-joined, ends-in, goes-past}
 use Rattle.listing.specs.declared.Held.{Held}
 use Rattle.listing.specs.Listed.{Served, served, Listed, listedAs, nextOf, numbered, lineListed, pieceListed, inputListed, endListed, Reads}
 

@@ -9,9 +9,9 @@ use lib.ListN.{length, take}
 use Rattle.octets.specs.Octets.{over}
 use Rattle.slots.specs.Stores.{Stores}
 use Rattle.collector.specs.Calls.{Answered, takeGroup, dropNumber}
-use Rattle.lines.specs.Split.{newline}
-use Rattle.lines.specs.Gather.{most, roomFor}
-use Rattle.lines.specs.Line.{Asked, taking, dropping, neither, askedOf}
+use Rattle.listing_input.specs.Split.{newline}
+use Rattle.listing_input.specs.Gather.{most, roomFor}
+use Rattle.listing_input.specs.Line.{Asked, taking, dropping, neither, askedOf}
 use Rattle.listing.specs.declared.Held.{Held}
 use Rattle.listing.specs.declared.Listing.{Listing}
 

@@ -6,11 +6,11 @@ use Prim.Native.Nat.{ℕ}
 use native.Mathlib.Decide.{ℕ-discrete}
 use native.Mathlib.Omega.{arith}
 use lib.ListN.{length, length-take}
-use Rattle.lines.specs.Split.{newline, ended, behind, unended, linesOf}
-use Rattle.lines.specs.Gather.{most}
-use Rattle.lines.specs.Line.{Asked, askedOf}
-use Rattle.lines.specs.Chunks.{Holds, holds-nothing, holds-more, ended-newline, ended-other, behind-newline, behind-other}
-use Rattle.lines.specs.Theorems.{front-asks}
+use Rattle.listing_input.specs.Split.{newline, ended, behind, unended, linesOf}
+use Rattle.listing_input.specs.Gather.{most}
+use Rattle.listing_input.specs.Line.{Asked, askedOf}
+use Rattle.listing_input.specs.Chunks.{Holds, holds-nothing, holds-more, ended-newline, ended-other, behind-newline, behind-other}
+use Rattle.listing_input.specs.Theorems.{front-asks}
 use Rattle.listing.specs.Listed.{Served, servedAs, served, Listed, lineListed, pieceListed, inputListed, endListed}
 use Rattle.listing.specs.Laws.{listed-newline, listed-other, end-some, end-none}
 

@@ -10,7 +10,7 @@ use collector::Opened;
 use counts::Counts;
 use libc::STDIN_FILENO;
 use libc::STDOUT_FILENO;
-use lines::Line;
+use listing_input::Line;
 ghost use mathlib.Core.Path.{_≡_};
 ghost use Prim.Native.Nat.{_≤_};
 ghost use lib.ListN.{length, take};
@@ -92,7 +92,7 @@ fn opened(
     ensures { λ r. ⌜ record { opening = r .opened .opening; collector = r .opened .collector; counts = r .counts; marks = now (marks .exit) } ≡ openedBy limit count counts (record { header = now (header .entry); body = now (body .entry); marks = now (marks .entry) }) ⌝ }
 {
     let mut kept = counts;
-    let opened = lent::open(limit, count, &mut kept, header, body, marks);
+    let opened = lent_calls::open(limit, count, &mut kept, header, body, marks);
     Begun {
         counts: kept,
         opened,
@@ -110,7 +110,7 @@ fn taken(
     ensures { λ r. ⌜ record { answer = r .answered .answer; collector = r .answered .collector; counts = r .counts; stores = record { header = now (header .exit); body = now (body .exit); marks = now (marks .exit) } } ≡ takeGroup (now (group .entry)) collector counts (record { header = now (header .entry); body = now (body .entry); marks = now (marks .entry) }) ⌝ }
 {
     let mut kept = counts;
-    let answered = lent::take(collector, &mut kept, group, header, body, marks);
+    let answered = lent_calls::take(collector, &mut kept, group, header, body, marks);
     Done {
         counts: kept,
         answered,
@@ -128,7 +128,7 @@ fn dropped(
     ensures { λ r. ⌜ record { answer = r .answered .answer; collector = r .answered .collector; counts = r .counts; stores = record { header = now (header .entry); body = now (body .entry); marks = now (marks .exit) } } ≡ dropNumber number collector counts (record { header = now (header .entry); body = now (body .entry); marks = now (marks .entry) }) ⌝ }
 {
     let mut kept = counts;
-    let answered = lent::drop(collector, &mut kept, number, header, body, marks);
+    let answered = lent_calls::drop(collector, &mut kept, number, header, body, marks);
     Done {
         counts: kept,
         answered,
@@ -142,20 +142,20 @@ fn write(out: &[u8; 128], count: usize) {
 
 fn say(line: u64, answer: Answer) {
     let mut out = [0u8; 128];
-    let count = texts::write_answer(line, answer, &mut out);
+    let count = listing_output::write_answer(line, answer, &mut out);
     write(&out, count);
 }
 
 fn say_malformed(line: u64) {
     let mut out = [0u8; 128];
-    let count = texts::write_malformed(line, &mut out);
+    let count = listing_output::write_malformed(line, &mut out);
     write(&out, count);
 }
 
 fn say_counts(held: Held) {
     let mut out = [0u8; 128];
     let counts = held.counts;
-    let count = texts::write_counts(
+    let count = listing_output::write_counts(
         counts.taken,
         counts.repeated,
         counts.refused,
@@ -181,7 +181,7 @@ fn say_done(line: u64, done: Done) -> Held
 // One line: what it asks for is done, and the answer written.
 fn list_line(
     line: &[u8],
-    group: &mut [u8; lines::GROUP_MOST],
+    group: &mut [u8; listing_input::GROUP_MOST],
     header: &mut [u8; HEADER_STORE],
     body: &mut [u8; BODY_STORE],
     marks: &mut [u8; MARKS],
@@ -192,7 +192,7 @@ fn list_line(
 {
     let collector = held.collector;
     let counts = held.counts;
-    match lines::read(line, group) {
+    match listing_input::read(line, group) {
         Line::Group(count) => {
             let done = taken(collector, counts, front(group, count), header, body, marks);
             say_done(number, done)
@@ -210,8 +210,8 @@ fn list_line(
 
 // The line that is kept, which a newline or the input's end has ended.
 fn list_kept(
-    line: &[u8; lines::LINE_ROOM],
-    group: &mut [u8; lines::GROUP_MOST],
+    line: &[u8; listing_input::LINE_ROOM],
+    group: &mut [u8; listing_input::GROUP_MOST],
     header: &mut [u8; HEADER_STORE],
     body: &mut [u8; BODY_STORE],
     marks: &mut [u8; MARKS],
@@ -241,8 +241,8 @@ fn list_kept(
 // The lines that a chunk of the input ends, and the start of the next one.
 fn list_chunk(
     chunk: &[u8],
-    line: &mut [u8; lines::LINE_ROOM],
-    group: &mut [u8; lines::GROUP_MOST],
+    line: &mut [u8; listing_input::LINE_ROOM],
+    group: &mut [u8; listing_input::GROUP_MOST],
     header: &mut [u8; HEADER_STORE],
     body: &mut [u8; BODY_STORE],
     marks: &mut [u8; MARKS],
@@ -253,7 +253,7 @@ fn list_chunk(
     let mut now = listing;
     let mut from = 0;
     while from < chunk.len() {
-        let gathered = lines::gather(chunk, from, line, now.kept);
+        let gathered = listing_input::gather(chunk, from, line, now.kept);
         from = gathered.next;
         now.kept = gathered.kept;
         if gathered.whole {
@@ -266,8 +266,8 @@ fn list_chunk(
 // Reads once, and lists what came.
 fn list_some(
     chunk: &mut [u8; 65536],
-    line: &mut [u8; lines::LINE_ROOM],
-    group: &mut [u8; lines::GROUP_MOST],
+    line: &mut [u8; listing_input::LINE_ROOM],
+    group: &mut [u8; listing_input::GROUP_MOST],
     header: &mut [u8; HEADER_STORE],
     body: &mut [u8; BODY_STORE],
     marks: &mut [u8; MARKS],
@@ -295,8 +295,8 @@ fn list_some(
 // Lists to the input's end. A proved loop has to end, and nothing says that the input does: the
 // turns count down from a number that no run uses up.
 fn list_all(
-    line: &mut [u8; lines::LINE_ROOM],
-    group: &mut [u8; lines::GROUP_MOST],
+    line: &mut [u8; listing_input::LINE_ROOM],
+    group: &mut [u8; listing_input::GROUP_MOST],
     header: &mut [u8; HEADER_STORE],
     body: &mut [u8; BODY_STORE],
     marks: &mut [u8; MARKS],
@@ -320,8 +320,8 @@ fn list_all(
 
 // The input's end ends a line of which there are characters.
 fn list_end(
-    line: &[u8; lines::LINE_ROOM],
-    group: &mut [u8; lines::GROUP_MOST],
+    line: &[u8; listing_input::LINE_ROOM],
+    group: &mut [u8; listing_input::GROUP_MOST],
     header: &mut [u8; HEADER_STORE],
     body: &mut [u8; BODY_STORE],
     marks: &mut [u8; MARKS],
@@ -336,8 +336,8 @@ fn list_end(
 }
 
 fn main() {
-    let mut line = [0u8; lines::LINE_ROOM];
-    let mut group = [0u8; lines::GROUP_MOST];
+    let mut line = [0u8; listing_input::LINE_ROOM];
+    let mut group = [0u8; listing_input::GROUP_MOST];
     let mut header = [0u8; HEADER_STORE];
     let mut body = [0u8; BODY_STORE];
     let mut marks = [0u8; MARKS];

@@ -6,7 +6,7 @@ use Prim.Native.Nat.{ℕ, _+_, _≤_, _<_}
 use native.Mathlib.Numerals.{add-one}
 use native.Mathlib.Omega.{arith}
 use lib.ListN.{length, getD, take, drop}
-use Rattle.gathering.specs.declared.Slot.{Slot}
+use Rattle.object.specs.declared.Slot.{Slot}
 use Rattle.slots.specs.Stores.{freeSlot}
 use Rattle.slots.specs.StateTests.{spent, one-more}
 use Rattle.names.specs.declared.Holder.{Holder}

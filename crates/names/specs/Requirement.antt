@@ -5,8 +5,8 @@ use mathlib.Core.List.{List}
 use Prim.Native.Nat.{ℕ, _≤_, _<_}
 use lib.ListN.{take, drop}
 use Rattle.cut.specs.Requirement.{headerMost}
-use Rattle.gathering.specs.declared.Slot.{Slot}
-use Rattle.gathering.specs.declared.Stage.the-variants.{Finished}
+use Rattle.object.specs.declared.Slot.{Slot}
+use Rattle.object.specs.declared.Stage.the-variants.{Finished}
 use Rattle.header.specs.declared.Fields.{Fields}
 use Rattle.header.specs.declared.Name.the-variants.{Data}
 use Rattle.header.specs.declared.Reading.the-variants.{Read}

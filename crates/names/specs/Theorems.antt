@@ -13,9 +13,9 @@ use lib.Seq.{getD-take}
 use Rattle.octets.specs.Over.{part-length}
 use Rattle.cut.specs.Requirement.{headerMost}
 use Rattle.cut.specs.Lists.{pick}
-use Rattle.gathering.specs.declared.Slot.{Slot}
-use Rattle.gathering.specs.declared.Stage.{Stage}
-use Rattle.gathering.specs.declared.Stage.the-variants.{Free, Gathering, Finished}
+use Rattle.object.specs.declared.Slot.{Slot}
+use Rattle.object.specs.declared.Stage.{Stage}
+use Rattle.object.specs.declared.Stage.the-variants.{Free, Gathering, Finished}
 use Rattle.header.specs.declared.Name.{Name}
 use Rattle.header.specs.declared.Name.the-variants.{Absent, Data}
 use Rattle.header.specs.declared.Reading.{Reading}

@@ -1,8 +1,8 @@
 // Finished objects and their names (document 01, "Parameters and names"): ContentName's data as a part
 // of a header, and the lowest transport number among the finished objects that have a name. What is
 // read may be any bytes: a header that is refused has no name.
-use gathering::Slot;
-use gathering::Stage;
+use object::Slot;
+use object::Stage;
 use header::Found;
 use header::Name;
 use header::Parameter;

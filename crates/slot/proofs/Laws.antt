@@ -21,8 +21,8 @@ use Rattle.cut.specs.declared.Record.{Record}
 use Rattle.cut.specs.Lists.{pick}
 use Rattle.cut.specs.Decision.{both, all, boundsOf, room, roomAs, openTests, endedTests}
 use Rattle.cut.specs.Sums.{ended, acceptsIn}
-use Rattle.gathering.specs.Memory.{placeOf, movedAs}
-use Rattle.gathering.specs.Sound.{endRight}
+use Rattle.object.specs.Memory.{placeOf, movedAs}
+use Rattle.object.specs.Sound.{endRight}
 use Rattle.slot.specs.Inner.{marksOf}
 use Rattle.cut.specs.LawsDecision.{all-true}
 

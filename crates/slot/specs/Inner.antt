@@ -15,11 +15,11 @@ use Rattle.cut.specs.declared.Core.the-variants.{Unseen, Seen}
 use Rattle.cut.specs.Lists.{pick}
 use Rattle.cut.specs.Decision.{both, boundsOf, coreFits, joins, addPart, settle, finished, derived}
 use Rattle.cut.specs.Sums.{fullIn, acceptsIn, possibleIn}
-use Rattle.gathering.specs.declared.Slot.{Slot}
-use Rattle.gathering.specs.Memory.{placeOf, lengthOf, movedAs}
-use Rattle.gathering.specs.Take.{Lent, Parts, partsOf, lentOf, slotWith, stageBy, sameFlag}
-use Rattle.gathering.specs.Sound.{endRight, soundParts, soundSlot}
-use Rattle.gathering.specs.Shape.{numbersOf}
+use Rattle.object.specs.declared.Slot.{Slot}
+use Rattle.object.specs.Memory.{placeOf, lengthOf, movedAs}
+use Rattle.object.specs.Take.{Lent, Parts, partsOf, lentOf, slotWith, stageBy, sameFlag}
+use Rattle.object.specs.Sound.{endRight, soundParts, soundSlot}
+use Rattle.object.specs.Shape.{numbersOf}
 
 abbrev pub otherPart : Part → Part
 otherPart Header = Body

@@ -16,14 +16,14 @@ use Rattle.cut.specs.declared.Core.{Core}
 use Rattle.cut.specs.Decision.{both, boundsOf, coreAfter, all}
 use Rattle.cut.specs.Sums.{suitsIn}
 use Rattle.octets.specs.Octets.{sumOf, largestOf}
-use Rattle.gathering.specs.declared.Slot.{Slot}
-use Rattle.gathering.specs.Memory.{lengthOf, movedAs, settled, put, segmentAt}
-use Rattle.gathering.specs.declared.Outcome.{Outcome}
-use Rattle.gathering.specs.declared.Outcome.the-variants.{Conflict}
-use Rattle.gathering.specs.Take.{Lent, Parts, partsOf, memoryOf, coreIn, takesIn, recordWith, recordWithin, partsWith, lentOf, slotWith, stageOf, sameSegment, unchanged, outcomeBy, storedAs, ifNew, ifHeld, byMark, takeInto}
-use Rattle.gathering.specs.Sound.{recordRight, sameStage, soundParts, soundSlot}
-use Rattle.gathering.specs.Shape.{numbersOf, Shaped, coreWith, recordAfter}
-use Rattle.gathering.specs.Inside.{takes-beyond, takes-inside, settled-inside, body-inside, marked-inside, lent-shaped, lent-bits}
+use Rattle.object.specs.declared.Slot.{Slot}
+use Rattle.object.specs.Memory.{lengthOf, movedAs, settled, put, segmentAt}
+use Rattle.object.specs.declared.Outcome.{Outcome}
+use Rattle.object.specs.declared.Outcome.the-variants.{Conflict}
+use Rattle.object.specs.Take.{Lent, Parts, partsOf, memoryOf, coreIn, takesIn, recordWith, recordWithin, partsWith, lentOf, slotWith, stageOf, sameSegment, unchanged, outcomeBy, storedAs, ifNew, ifHeld, byMark, takeInto}
+use Rattle.object.specs.Sound.{recordRight, sameStage, soundParts, soundSlot}
+use Rattle.object.specs.Shape.{numbersOf, Shaped, coreWith, recordAfter}
+use Rattle.object.specs.Inside.{takes-beyond, takes-inside, settled-inside, body-inside, marked-inside, lent-shaped, lent-bits}
 use Rattle.slot.specs.Inner.{marksOf, keptOf, coreFrom, takesAs, recordAs, recordStill, sameAs, shareOf, CanMove, CanPut, putIn, slotFrom, Left, headerStored, bodyStored, leftOf, Ready, Offered, rightAs, soundBy, marksRight}
 
 -- a last test, and two tests the other way round

@@ -7,9 +7,9 @@ use cut::Bounds;
 use cut::Core;
 use cut::HEADER_NUMBERS;
 use cut::Record;
-use gathering::Outcome;
-use gathering::Slot;
-use gathering::Stage;
+use object::Outcome;
+use object::Slot;
+use object::Stage;
 ghost use mathlib.Core.Path.{_≡_};
 ghost use Prim.Native.Nat.{suc, _+_, _*_, _≤_, _<_};
 ghost use lib.Dec.{eqb, ltb};
@@ -20,9 +20,9 @@ ghost use Rattle.cut.specs.declared.Core.the-variants.{Seen};
 ghost use Rattle.cut.specs.Lists.{pick};
 ghost use Rattle.cut.specs.Decision.{finished};
 ghost use Rattle.cut.specs.Sums.{ended, possibleIn, acceptsIn, suitsIn};
-ghost use Rattle.gathering.specs.Memory.{placeOf, lengthOf, movedAs};
-ghost use Rattle.gathering.specs.Take.{stageBy, sameFlag, outcomeBy, takeInto};
-ghost use Rattle.gathering.specs.Sound.{endRight, sameStage};
+ghost use Rattle.object.specs.Memory.{placeOf, lengthOf, movedAs};
+ghost use Rattle.object.specs.Take.{stageBy, sameFlag, outcomeBy, takeInto};
+ghost use Rattle.object.specs.Sound.{endRight, sameStage};
 ghost use Rattle.slot.specs.Inner.{otherPart, marksOf, keptOf, coreFrom, takesAs, recordAs, recordStill, putIn, slotFrom, sameAs, CanMove, CanPut, headerStored, bodyStored, Ready, Offered, rightAs, soundBy, marksRight};
 
 fn other_part(part: Part) -> Part

@@ -19,10 +19,10 @@ use Rattle.cut.specs.declared.Bounds.{Bounds}
 use Rattle.cut.specs.declared.Record.{Record}
 use Rattle.cut.specs.Decision.{both, room, alone, addPart}
 use Rattle.cut.specs.Sums.{acceptsIn}
-use Rattle.gathering.specs.declared.Slot.{Slot}
-use Rattle.gathering.specs.declared.Stage.{Stage}
-use Rattle.gathering.specs.declared.Stage.the-variants.{Free, Gathering, Finished}
-use Rattle.gathering.proofs.Stage.{the-type}
+use Rattle.object.specs.declared.Slot.{Slot}
+use Rattle.object.specs.declared.Stage.{Stage}
+use Rattle.object.specs.declared.Stage.the-variants.{Free, Gathering, Finished}
+use Rattle.object.proofs.Stage.{the-type}
 use Rattle.slots.specs.declared.Found.the-variants.{Nothing, At}
 use Rattle.slots.specs.Stores.{noRecord, freeSlot}
 use Rattle.slots.specs.Find.{firstFrom}

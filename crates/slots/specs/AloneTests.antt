@@ -11,9 +11,9 @@ use Rattle.cut.specs.Requirement.{bodyNumbers, Segment}
 use Rattle.cut.specs.declared.Core.{Core}
 use Rattle.cut.specs.Decision.{both, all, boundsOf, coreFits, alone, addPart}
 use Rattle.cut.specs.Sums.{acceptsIn, possibleIn}
-use Rattle.gathering.specs.Take.{Parts, coreIn, takesIn}
-use Rattle.gathering.specs.Shape.{numbersOf}
-use Rattle.gathering.specs.Inside.{takes-beyond}
+use Rattle.object.specs.Take.{Parts, coreIn, takesIn}
+use Rattle.object.specs.Shape.{numbersOf}
+use Rattle.object.specs.Inside.{takes-beyond}
 use Rattle.slot.specs.Inner.{otherPart}
 use Rattle.slots.specs.Stores.{noRecord}
 use Rattle.slots.specs.Alone.{fitsAlone, coreAlone}

@@ -17,10 +17,10 @@ use Rattle.cut.specs.declared.Record.{Record}
 use Rattle.cut.specs.declared.Core.the-variants.{Unseen}
 use Rattle.cut.specs.Decision.{boundsOf, coreFits, alone, room, addPart, coreAfter}
 use Rattle.cut.specs.Sums.{possibleIn, suitsIn, acceptsIn, fullIn, takes}
-use Rattle.gathering.specs.Memory.{Memory}
-use Rattle.gathering.specs.declared.Stage.the-variants.{Gathering}
-use Rattle.gathering.specs.Take.{Lent, partsOf, memoryOf, coreIn, takesIn, stageOf, ifNew, takeInto}
-use Rattle.gathering.specs.Sound.{recordRight, soundParts}
+use Rattle.object.specs.Memory.{Memory}
+use Rattle.object.specs.declared.Stage.the-variants.{Gathering}
+use Rattle.object.specs.Take.{Lent, partsOf, memoryOf, coreIn, takesIn, stageOf, ifNew, takeInto}
+use Rattle.object.specs.Sound.{recordRight, soundParts}
 use Rattle.slot.specs.Inner.{Offered}
 use Rattle.slots.specs.Stores.{Stores, lentAt, noRecord, freshSlot}
 use Rattle.slots.specs.Alone.{fitsAlone}

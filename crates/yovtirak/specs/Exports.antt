@@ -15,7 +15,7 @@ use Rattle.answer.specs.declared.Returned.{Returned}
 use Rattle.answer.specs.declared.Returned.the-variants.{Segment, Number, Nothing}
 use Rattle.cut.specs.Lists.{pick}
 use Rattle.cut.specs.Decision.{both}
-use Rattle.gathering.specs.declared.Stage.{Stage}
+use Rattle.object.specs.declared.Stage.{Stage}
 use Rattle.slots.specs.Stores.{Stores, slotAt}
 use Rattle.collector.specs.declared.Collector.{Collector}
 use Rattle.collector.specs.declared.Located.{Located}
@@ -23,17 +23,17 @@ use Rattle.collector.specs.declared.Located.the-variants as Located
 use Rattle.collector.specs.declared.Opening.{Opening}
 use Rattle.collector.specs.declared.Opening.the-variants as Opening
 use Rattle.collector.specs.Calls.{Answered, Opened, takeGroup, dropNumber, openedBy, locate}
-use Rattle.questions.specs.declared.Asked.{Asked}
-use Rattle.questions.specs.declared.Asked.the-variants as Asked
-use Rattle.questions.specs.declared.Sought.{Sought}
-use Rattle.questions.specs.declared.Sought.the-variants as Sought
-use Rattle.questions.specs.Questions.{parameters, find}
+use Rattle.queries.specs.declared.Asked.{Asked}
+use Rattle.queries.specs.declared.Asked.the-variants as Asked
+use Rattle.queries.specs.declared.Sought.{Sought}
+use Rattle.queries.specs.declared.Sought.the-variants as Sought
+use Rattle.queries.specs.Questions.{parameters, find}
 use Rattle.header.specs.declared.Fields.{Fields}
 use Rattle.header.specs.declared.Name.{Name}
 use Rattle.header.specs.declared.Name.the-variants as Name
 use Rattle.header.specs.declared.Priority.{Priority}
 use Rattle.header.specs.declared.Priority.the-variants as Priority
-use Rattle.words.specs.Layout.{headerWord, bodyWord, wordsOf, countWords, collectorFrom, countsFrom, readable}
+use Rattle.layout.specs.Layout.{headerWord, bodyWord, wordsOf, countWords, collectorFrom, countsFrom, readable}
 
 -- ---- an answer in one word: its number, then the part, the transport number and the segment's number
 

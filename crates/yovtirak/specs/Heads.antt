@@ -10,7 +10,7 @@ use Rattle.slots.specs.Stores.{Stores}
 use Rattle.history.specs.Call.{State}
 use Rattle.history.specs.History.{Question, Call, hand, ask, Start, reached}
 use Rattle.history.specs.Ours.{ours}
-use Rattle.words.specs.Layout.{countsFrom}
+use Rattle.layout.specs.Layout.{countsFrom}
 use Rattle.yovtirak.specs.Exports.{Called, answerWord, openCall, takeCall, dropCall, Told, placeTold, finishedCall, fieldsTold, readCall, soughtWord, findCall}
 
 -- what a head has in hand between two calls

@@ -9,7 +9,7 @@ use borrow.Author.Tests.{ne-eqb}
 use lib.ListN.{length, set}
 use Rattle.answer.specs.declared.Part.{Part}
 use Rattle.answer.specs.declared.Part.the-variants.{Header, Body}
-use Rattle.words.specs.Layout.{readable}
+use Rattle.layout.specs.Layout.{readable}
 use Rattle.yovtirak.specs.Exports.{partWord}
 
 pub part-small : (part : Part) → partWord part ≤ 1

@@ -15,9 +15,9 @@ use Rattle.answer.specs.declared.Part.the-variants.{Header, Body}
 use Rattle.cut.specs.Lists.{pick, Each}
 use Rattle.cut.specs.Requirement.{headerMost}
 use Rattle.cut.specs.Decision.{both}
-use Rattle.gathering.specs.declared.Slot.{Slot}
-use Rattle.gathering.specs.declared.Stage.{Stage}
-use Rattle.gathering.specs.declared.Stage.the-variants as Stage
+use Rattle.object.specs.declared.Slot.{Slot}
+use Rattle.object.specs.declared.Stage.{Stage}
+use Rattle.object.specs.declared.Stage.the-variants as Stage
 use Rattle.slots.specs.declared.Found.{Found}
 use Rattle.slots.specs.declared.Found.the-variants.{Nothing, At}
 use Rattle.slots.specs.Stores.{Stores, slotAt}
@@ -26,7 +26,7 @@ use Rattle.slots.specs.Show.{startOf, shownOf}
 use Rattle.slots.specs.State.{withinLimits}
 use Rattle.slots.specs.StateTests.{limits-hold}
 use Rattle.collector.specs.Calls.{openedBy, locate, show}
-use Rattle.questions.specs.Questions.{find}
+use Rattle.queries.specs.Questions.{find}
 use Rattle.history.specs.Call.{State, Reply, taking, dropping, opening, sound}
 use Rattle.history.specs.Ready.{OfBytes, used-inside, found-used}
 use Rattle.history.specs.Shown.{held-lengths}
@@ -38,8 +38,8 @@ use Rattle.history.specs.Numbers.{Sixteen, reached-low}
 use Rattle.history.specs.Ours.{ours}
 use Rattle.history.specs.Promise.{Run, tallied}
 use Rattle.history.specs.Promises.{promised}
-use Rattle.words.specs.Layout.{wordsOf, countWords, collectorFrom, countsFrom}
-use Rattle.words.specs.ReadBack.{Numbered, written-back, written-reads}
+use Rattle.layout.specs.Layout.{wordsOf, countWords, collectorFrom, countsFrom}
+use Rattle.layout.specs.ReadBack.{Numbered, written-back, written-reads}
 use Rattle.yovtirak.specs.Exports.{answerWord, changes, lentRight, left, takeCall, dropCall, leftOpen, openCall, finishedCall, readCall, findCall}
 use Rattle.yovtirak.specs.Heads.{Lent, HeadCall, GroupBytes, leftBy, begins, leaves, returns, after, asStart, asCalls, reachedBy, inWords, Fitting}
 

@@ -1,5 +1,5 @@
 // The library that a receiving head links: the collector's calls on numbers and slices. All memory
-// is the caller's, the state and the counts too, as words (crate `words`). Words that are no sound
+// is the caller's, the state and the counts too, as words (crate `layout`). Words that are no sound
 // state are answered with STATE, whatever they hold. What each call returns and leaves is one
 // definition (specs/Exports.antt) over the collector's own.
 use answer::Answer;
@@ -10,19 +10,19 @@ use collector::Collector;
 use collector::CountedAnswer;
 use collector::Located;
 use collector::Opening;
-use gathering::Slot;
-use gathering::Stage;
+use object::Slot;
+use object::Stage;
 use header::Fields;
 use header::Name;
 use header::Priority;
-use questions::Asked;
-use questions::Sought;
+use queries::Asked;
+use queries::Sought;
 ghost use mathlib.Core.Path.{_≡_};
 ghost use Prim.Native.Nat.{_<_};
 ghost use lib.ListN.{length};
 ghost use Rattle.cut.specs.Lists.{pick};
 ghost use Rattle.slots.specs.Stores.{slotAt};
-ghost use Rattle.words.specs.Layout.{wordsOf, countWords};
+ghost use Rattle.layout.specs.Layout.{wordsOf, countWords};
 ghost use Rattle.yovtirak.specs.Exports.{openingWord, isOpen, openCall, partWord, heardWord, returnedWord, answerWord, changes, takeCall, dropCall, refusedWord, placeWords, finishedCall, priorityWord, nameStart, nameLength, fieldWords, unreadWord, readCall, soughtWord, findCall};
 
 // The answers that are given of wrong words, before there is a collector.
@@ -98,7 +98,7 @@ fn keep(state: &mut [u64], answer: Answer, next: Collector)
     if !changes(answer) {
         return;
     }
-    words::put_collector(state, next);
+    layout::put_collector(state, next);
 }
 
 // What a call leaves in words, and its answer's word.
@@ -109,7 +109,7 @@ fn leave(state: &mut [u64], counts: &mut [u32], after: CountedAnswer) -> u64
     let answered = after.answered;
     let answer = answered.answer;
     let next = answered.collector;
-    words::put_counts(counts, after.counts);
+    layout::put_counts(counts, after.counts);
     keep(state, answer, next);
     answer_word(answer)
 }
@@ -150,7 +150,7 @@ fn keep_opened(state: &mut [u64], opening: Opening, fresh: Collector)
     if !is_open(opening) {
         return;
     }
-    words::put_collector(state, fresh);
+    layout::put_collector(state, fresh);
 }
 
 // Opens a collector over lent memory. A refusal, LIMITS, changes nothing.
@@ -166,18 +166,18 @@ pub extern "C" fn yovtirak_open(
 ) -> u64
     ensures { λ r. ⌜ record { result = r; state = now (state .exit); counts = now (counts .exit); stores = record { header = now (header .entry); body = now (body .entry); marks = now (marks .exit) } } ≡ openCall limit slots (now (state .entry)) (now (counts .entry)) (record { header = now (header .entry); body = now (body .entry); marks = now (marks .entry) }) ⌝ }
 {
-    if state.len() != words::STATE {
+    if state.len() != layout::STATE {
         return LIMITS;
     }
-    if counts.len() != words::COUNTS {
+    if counts.len() != layout::COUNTS {
         return LIMITS;
     }
-    let before = words::counts_from(counts);
+    let before = layout::counts_from(counts);
     let opened = Collector::opened(limit, slots, before, header, body, marks);
     let handed = opened.opened;
     let opening = handed.opening;
     let fresh = handed.collector;
-    words::put_counts(counts, opened.counts);
+    layout::put_counts(counts, opened.counts);
     keep_opened(state, opening, fresh);
     opening_word(opening)
 }
@@ -194,14 +194,14 @@ pub extern "C" fn yovtirak_take(
 ) -> u64
     ensures { λ r. ⌜ record { result = r; state = now (state .exit); counts = now (counts .exit); stores = record { header = now (header .exit); body = now (body .exit); marks = now (marks .exit) } } ≡ takeCall (now (group .entry)) (now (state .entry)) (now (counts .entry)) (record { header = now (header .entry); body = now (body .entry); marks = now (marks .entry) }) ⌝ }
 {
-    if counts.len() != words::COUNTS {
+    if counts.len() != layout::COUNTS {
         return STATE;
     }
-    if !words::readable(state) {
+    if !layout::readable(state) {
         return STATE;
     }
-    let collector = words::collector_from(state);
-    let before = words::counts_from(counts);
+    let collector = layout::collector_from(state);
+    let before = layout::counts_from(counts);
     let after = collector.taken(before, group, header, body, marks);
     leave(state, counts, after)
 }
@@ -218,14 +218,14 @@ pub extern "C" fn yovtirak_drop(
 ) -> u64
     ensures { λ r. ⌜ record { result = r; state = now (state .exit); counts = now (counts .exit); stores = record { header = now (header .entry); body = now (body .entry); marks = now (marks .exit) } } ≡ dropCall number (now (state .entry)) (now (counts .entry)) (record { header = now (header .entry); body = now (body .entry); marks = now (marks .entry) }) ⌝ }
 {
-    if counts.len() != words::COUNTS {
+    if counts.len() != layout::COUNTS {
         return STATE;
     }
-    if !words::readable(state) {
+    if !layout::readable(state) {
         return STATE;
     }
-    let collector = words::collector_from(state);
-    let before = words::counts_from(counts);
+    let collector = layout::collector_from(state);
+    let before = layout::counts_from(counts);
     let after = collector.dropped(before, number, header, body, marks);
     leave(state, counts, after)
 }
@@ -245,8 +245,8 @@ fn put_place(place: &mut [u64], i: usize, stage: Stage)
     ensures { λ r. ⌜ now (place .exit) ≡ placeWords i stage ⌝ }
 {
     place[0] = i as u64;
-    place[1] = words::header_word(stage);
-    place[2] = words::body_word(stage);
+    place[1] = layout::header_word(stage);
+    place[2] = layout::body_word(stage);
 }
 
 // Where a finished object is: its slot, and how long its header and its body are. They stand at the
@@ -266,14 +266,14 @@ pub extern "C" fn yovtirak_finished(
     if place.len() != 3 {
         return STATE;
     }
-    if counts.len() != words::COUNTS {
+    if counts.len() != layout::COUNTS {
         return STATE;
     }
-    if !words::readable(state) {
+    if !layout::readable(state) {
         return STATE;
     }
-    let collector = words::collector_from(state);
-    let counted = words::counts_from(counts);
+    let collector = layout::collector_from(state);
+    let counted = layout::counts_from(counts);
     let located = collector.locate(counted, number, header, body, marks);
     let Located::At(i) = located else {
         return refused_word(located);
@@ -350,15 +350,15 @@ pub extern "C" fn yovtirak_read<'a>(
     if told.len() != 7 {
         return STATE;
     }
-    if counts.len() != words::COUNTS {
+    if counts.len() != layout::COUNTS {
         return STATE;
     }
-    if !words::readable(state) {
+    if !layout::readable(state) {
         return STATE;
     }
-    let collector = words::collector_from(state);
-    let counted = words::counts_from(counts);
-    let asked = questions::parameters(collector, counted, number, header, body, marks);
+    let collector = layout::collector_from(state);
+    let counted = layout::counts_from(counts);
+    let asked = queries::parameters(collector, counted, number, header, body, marks);
     let Asked::Fields(fields) = asked else {
         return unread_word(asked);
     };
@@ -387,13 +387,13 @@ pub extern "C" fn yovtirak_find(
 ) -> u64
     ensures { λ r. ⌜ r ≡ findCall (now (name .entry)) (now (state .entry)) (now (counts .entry)) (record { header = now (header .entry); body = now (body .entry); marks = now (marks .entry) }) ⌝ }
 {
-    if counts.len() != words::COUNTS {
+    if counts.len() != layout::COUNTS {
         return STATE;
     }
-    if !words::readable(state) {
+    if !layout::readable(state) {
         return STATE;
     }
-    let collector = words::collector_from(state);
-    let counted = words::counts_from(counts);
-    sought_word(questions::find(collector, counted, name, header, body, marks))
+    let collector = layout::collector_from(state);
+    let counted = layout::counts_from(counts);
+    sought_word(queries::find(collector, counted, name, header, body, marks))
 }

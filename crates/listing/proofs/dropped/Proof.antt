@@ -55,10 +55,10 @@ use Rattle.collector.proofs.Answered.Laws as T2′
 use Rattle.collector.specs.declared.Collector.{Collector}
 use Rattle.collector.proofs.Collector as T3
 use Rattle.collector.proofs.Collector.Laws as T3′
-use Rattle.lent.proofs.drop as core
-use Rattle.lent.proofs.drop.Symbol as core-def
-use Rattle.lent.proofs.drop.Symbol.{name as #core}
-use Rattle.lent.proofs.drop.Met as core-thm
+use Rattle.lent_calls.proofs.drop as core
+use Rattle.lent_calls.proofs.drop.Symbol as core-def
+use Rattle.lent_calls.proofs.drop.Symbol.{name as #core}
+use Rattle.lent_calls.proofs.drop.Met as core-thm
 use Rattle.listing.proofs.dropped.Key.{name as #f}
 use Rattle.listing.proofs.dropped as f
 use Rattle.listing.proofs.dropped.Statement as stated

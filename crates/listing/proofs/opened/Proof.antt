@@ -52,10 +52,10 @@ use Rattle.listing.proofs.Begun.Laws as T1′
 use Rattle.collector.specs.declared.Opened.{Opened}
 use Rattle.collector.proofs.Opened as T2
 use Rattle.collector.proofs.Opened.Laws as T2′
-use Rattle.lent.proofs.open as core
-use Rattle.lent.proofs.open.Symbol as core-def
-use Rattle.lent.proofs.open.Symbol.{name as #core}
-use Rattle.lent.proofs.open.Met as core-thm
+use Rattle.lent_calls.proofs.open as core
+use Rattle.lent_calls.proofs.open.Symbol as core-def
+use Rattle.lent_calls.proofs.open.Symbol.{name as #core}
+use Rattle.lent_calls.proofs.open.Met as core-thm
 use Rattle.listing.proofs.opened.Key.{name as #f}
 use Rattle.listing.proofs.opened as f
 use Rattle.listing.proofs.opened.Statement as stated

@@ -54,10 +54,10 @@ use Rattle.collector.proofs.Answered.Laws as T2′
 use Rattle.collector.specs.declared.Collector.{Collector}
 use Rattle.collector.proofs.Collector as T3
 use Rattle.collector.proofs.Collector.Laws as T3′
-use Rattle.lent.proofs.take as core
-use Rattle.lent.proofs.take.Symbol as core-def
-use Rattle.lent.proofs.take.Symbol.{name as #core}
-use Rattle.lent.proofs.take.Met as core-thm
+use Rattle.lent_calls.proofs.take as core
+use Rattle.lent_calls.proofs.take.Symbol as core-def
+use Rattle.lent_calls.proofs.take.Symbol.{name as #core}
+use Rattle.lent_calls.proofs.take.Met as core-thm
 use Rattle.listing.proofs.taken.Key.{name as #f}
 use Rattle.listing.proofs.taken as f
 use Rattle.listing.proofs.taken.Statement as stated

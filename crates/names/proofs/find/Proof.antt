@@ -9,8 +9,8 @@ use lib.ListN.{length, getD, take, drop, length-take}
 use Rattle.header.specs.declared.Found.the-variants.{One}
 use Rattle.header.specs.Parameters.{foundAt}
 use Rattle.header.specs.Laws.{found-known, found-on}
-use Rattle.gathering.specs.declared.Slot.{Slot}
-use Rattle.gathering.specs.declared.Stage.the-variants.{Free}
+use Rattle.object.specs.declared.Slot.{Slot}
+use Rattle.object.specs.declared.Stage.the-variants.{Free}
 use Rattle.slots.specs.Stores.{noRecord, freeSlot}
 use Rattle.names.specs.declared.Holder.{Holder}
 use Rattle.names.specs.declared.Holder.the-variants.{Number}

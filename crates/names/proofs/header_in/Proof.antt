@@ -7,9 +7,9 @@ use Prim.Native.Nat.{ℕ}
 use native.Mathlib.Omega.{arith}
 use types.Run.{OneOf}
 use denote.Enum.Declared.{tagOf}
-use Rattle.gathering.specs.declared.Stage.{Stage}
-use Rattle.gathering.specs.declared.Stage.the-variants.{Free, Gathering, Finished}
-use Rattle.gathering.proofs.Stage.{the-type}
+use Rattle.object.specs.declared.Stage.{Stage}
+use Rattle.object.specs.declared.Stage.the-variants.{Free, Gathering, Finished}
+use Rattle.object.proofs.Stage.{the-type}
 use Rattle.names.specs.Finding.{headerAs, headerIn}
 use borrow.Author.Needs.{needs}
 use Rattle.names.proofs.header_in.Statement.{statement}

@@ -3,8 +3,8 @@
 use Rattle.slot.proofs.Laws.{through₂, through₃, marks-numbers, header-numbers, both-only}
 use Rattle.slot.specs.Meets.{sound-tests}
 use Rattle.slot.specs.Inner.{marksOf, coreFrom, marksRight, rightAs, slotFrom}
-use Rattle.gathering.specs.Sound.{sameStage}
-use Rattle.gathering.specs.Take.{stageBy}
+use Rattle.object.specs.Sound.{sameStage}
+use Rattle.object.specs.Take.{stageBy}
 use Rattle.cut.specs.Decision.{finished}
 use Rattle.cut.specs.Sums.{suitsIn}
 use Rattle.cut.specs.declared.Core.{Core}

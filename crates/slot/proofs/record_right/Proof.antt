@@ -2,7 +2,7 @@
 -- Assumes nothing.
 use Rattle.slot.proofs.Laws.{through₂, full-by}
 use Rattle.slot.specs.Inner.{rightAs}
-use Rattle.gathering.specs.Sound.{endRight}
+use Rattle.object.specs.Sound.{endRight}
 use Rattle.cut.specs.Decision.{settle}
 use Rattle.cut.specs.declared.Record.{Record}
 use Rattle.cut.specs.declared.Bounds.{Bounds}

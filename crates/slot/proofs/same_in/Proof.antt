@@ -1,9 +1,9 @@
 -- `slot::same_in` meets its contract: the flags, then the bytes that are held.
 -- Assumes nothing.
 use Rattle.slot.specs.Inner.{sameAs}
-use Rattle.gathering.specs.Take.{sameFlag}
+use Rattle.object.specs.Take.{sameFlag}
 use borrow.Author.Tests.{not-true, not-false}
-use Rattle.gathering.specs.Memory.{placeOf, lengthOf}
+use Rattle.object.specs.Memory.{placeOf, lengthOf}
 use Rattle.octets.specs.Octets.{equal}
 use lib.ListN.{length, take, drop}
 use lib.Dec.{eqb}

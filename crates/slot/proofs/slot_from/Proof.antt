@@ -2,8 +2,8 @@
 -- Assumes nothing.
 use borrow.Author.Needs.{needs}
 use Rattle.slot.specs.Inner.{coreFrom}
-use Rattle.gathering.specs.Take.{stageBy}
-use Rattle.gathering.specs.declared.Stage.{Stage}
+use Rattle.object.specs.Take.{stageBy}
+use Rattle.object.specs.declared.Stage.{Stage}
 use Rattle.cut.specs.Decision.{finished}
 use Rattle.slot.proofs.Laws.{through₂, through₃}
 use mathlib.Core.Path.{refl, ap}

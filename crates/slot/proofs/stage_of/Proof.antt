@@ -1,7 +1,7 @@
 -- `slot::stage_of` meets its contract.
 -- Assumes nothing.
 use mathlib.Core.Path.{refl}
-use Rattle.gathering.specs.Take.{stageBy}
+use Rattle.object.specs.Take.{stageBy}
 use Rattle.slot.proofs.Laws.{through₂}
 use borrow.Author.Needs.{needs}
 use Rattle.slot.proofs.stage_of.Statement.{statement}

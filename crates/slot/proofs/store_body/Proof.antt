@@ -1,7 +1,7 @@
 -- `slot::store_body` meets its contract: what each call leaves, put together.
 -- Assumes nothing.
 use Rattle.slot.specs.Inner.{bodyStored}
-use Rattle.gathering.specs.declared.Slot.{Slot}
+use Rattle.object.specs.declared.Slot.{Slot}
 use lib.ListN.{set}
 use Prim.Native.Nat.{ℕ, _+_}
 use mathlib.Core.List.{List}

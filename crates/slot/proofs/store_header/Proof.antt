@@ -2,7 +2,7 @@
 -- Assumes nothing.
 use Rattle.slot.proofs.Laws.{through₃}
 use Rattle.slot.specs.Inner.{slotFrom, headerStored}
-use Rattle.gathering.specs.declared.Slot.{Slot}
+use Rattle.object.specs.declared.Slot.{Slot}
 use Rattle.cut.specs.declared.Record.{Record}
 use lib.ListN.{set, length-set}
 use Prim.Native.Nat.{ℕ}

@@ -3,7 +3,7 @@
 use Rattle.slot.proofs.Laws.{pos, through₂, body-mark}
 use Rattle.slot.specs.Meets.{core-meets, record-meets, body-meets, take-held, take-new, take-beyond, taken-as, marks-long, held-inside, fits-ready}
 use Rattle.slot.specs.Inner.{marksOf, coreFrom, Offered}
-use Rattle.gathering.specs.Take.{Lent, partsOf, partsWith}
+use Rattle.object.specs.Take.{Lent, partsOf, partsWith}
 use Rattle.cut.specs.Requirement.{Segment}
 use Rattle.answer.specs.declared.Part.the-variants.{Header, Body}
 use borrow.Author.Tests.{not-true, not-false}

@@ -3,7 +3,7 @@
 use Rattle.slot.proofs.Laws.{pos, through₂, header-mark}
 use Rattle.slot.specs.Meets.{core-meets, record-meets, header-meets, take-held, take-new, take-beyond, taken-as, marks-long, held-inside, fits-ready, still-ready}
 use Rattle.slot.specs.Inner.{marksOf, coreFrom, Offered}
-use Rattle.gathering.specs.Take.{Lent, partsOf, partsWith}
+use Rattle.object.specs.Take.{Lent, partsOf, partsWith}
 use Rattle.cut.specs.Decision.{coreAfter}
 use Rattle.cut.specs.declared.Core.{Core}
 use Rattle.cut.specs.Requirement.{Segment}

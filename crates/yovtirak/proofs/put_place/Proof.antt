@@ -1,6 +1,6 @@
 -- `yovtirak::put_place` meets its contract.
 -- Assumes nothing.
-use Rattle.words.specs.Layout.{headerWord, bodyWord}
+use Rattle.layout.specs.Layout.{headerWord, bodyWord}
 use Rattle.yovtirak.specs.Laws.{three-put}
 use borrow.Author.Needs.{needs}
 use Rattle.yovtirak.proofs.put_place.Statement.{statement}

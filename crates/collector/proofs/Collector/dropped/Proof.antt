@@ -5,7 +5,7 @@ use Rattle.collector.specs.Calls.{withSlots, dropNumber}
 use Rattle.slots.specs.Ready.{found-inside}
 use Rattle.slots.specs.Take.{DroppedAt}
 use Rattle.slots.specs.Stores.{Stores}
-use Rattle.gathering.specs.declared.Slot.{Slot}
+use Rattle.object.specs.declared.Slot.{Slot}
 use borrow.Author.Tests.{not-true, not-false}
 use mathlib.Core.List.{List}
 use mathlib.Core.Path.{sym, ap, _∙_}

@@ -1,0 +1,53 @@
+-- `layout::slot_at` meets its contract.
+-- Assumes nothing.
+use mathlib.Core.Path.{refl}
+use Rattle.layout.specs.Layout.{slotIn}
+use borrow.Author.Needs.{needs}
+use Rattle.layout.proofs.slot_at.Statement.{statement}
+use Rattle.layout.proofs.slot_at.Tie as tie
+
+mul-number : tie.Need-mul-number
+mul-number c = search needs
+
+shared-slice-read-number : tie.Need-shared-slice-read-number
+shared-slice-read-number c = search needs
+
+number-from-requires : tie.Need-number-from-requires
+number-from-requires c κs = search needs
+
+add-stage-at : tie.Need-add-stage-at
+add-stage-at c = search needs
+
+stage-at-requires : tie.Need-stage-at-requires
+stage-at-requires c κs = search needs
+
+add-record-at : tie.Need-add-record-at
+add-record-at c = search needs
+
+record-at-requires : tie.Need-record-at-requires
+record-at-requires c κs = search needs
+
+add-record-at-2 : tie.Need-add-record-at-2
+add-record-at-2 c = search needs
+
+record-at-requires-2 : tie.Need-record-at-requires-2
+record-at-requires-2 c κs = search needs
+
+returns : tie.Need-returns
+unfolding slotIn
+returns c = rw (c .before .before .before .number-from .ensures, c .before .before .stage-at .ensures, c .before .record-at .ensures, c .record-at2 .ensures) refl
+
+pub slot-at-spec : {M : Type 1} → statement M
+slot-at-spec =
+    tie.close
+    (tie.spec
+    mul-number
+    shared-slice-read-number
+    number-from-requires
+    add-stage-at
+    stage-at-requires
+    add-record-at
+    record-at-requires
+    add-record-at-2
+    record-at-requires-2
+    returns)

@@ -1,0 +1,41 @@
+-- Document 01's output, line for line, as the definitions spell it.
+use mathlib.Core.Path.{_≡_, refl}
+use mathlib.Core.List.{List, [], _∷_, _++_}
+use Prim.Native.Nat.{ℕ}
+use Prim.Native.String.{String}
+use Rattle.answer.specs.declared.Part.the-variants.{Header, Body}
+use Rattle.answer.specs.declared.Refusal.the-variants.{Kind, Length}
+use Rattle.answer.specs.declared.Answer.the-variants.{Stored, Complete, Repeat, Refused, Dropped, NotHeld}
+use Rattle.answer.specs.Letters.{letters}
+use Rattle.listing_output.specs.Number.{digit, digitsOf, decimal, fourDigits}
+use Rattle.listing_output.specs.Text.{newline, answerText, malformedText, countsText}
+
+abbrev line : String → List ℕ
+line text = letters text ++ (newline ∷ [])
+
+pub record Example : Type 0 where
+  pub first : answerText 1 (Stored (record { number = 5; part = Body; segment = 1 })) ≡ line "1 STORED 0005 B 1"
+  pub second : answerText 2 (Stored (record { number = 5; part = Header; segment = 0 })) ≡ line "2 STORED 0005 H 0"
+  pub third : answerText 3 (Complete (record { number = 5; part = Body; segment = 0 })) ≡ line "3 COMPLETE 0005 B 0"
+  pub fourth : answerText 4 (Repeat (record { number = 5; part = Body; segment = 1 })) ≡ line "4 REPEAT 0005 B 1"
+  pub fifth : answerText 5 (Refused Kind) ≡ line "5 KIND - - -"
+  pub sixth : answerText 6 (Refused Length) ≡ line "6 LENGTH - - -"
+  pub seventh : answerText 7 (Dropped 5) ≡ line "7 DROPPED 0005 - -"
+  pub counts : countsText 3 1 2 1 1 ≡ line "T 3 1 2 1 1"
+  pub malformed : malformedText 10 ≡ line "10 LINE - - -"
+  pub not-held : answerText 1024 NotHeld ≡ line "1024 NOTHELD - - -"
+
+pub example : Example
+unfolding answerText malformedText countsText decimal digitsOf fourDigits digit
+example = record {
+  first = refl;
+  second = refl;
+  third = refl;
+  fourth = refl;
+  fifth = refl;
+  sixth = refl;
+  seventh = refl;
+  counts = refl;
+  malformed = refl;
+  not-held = refl;
+}

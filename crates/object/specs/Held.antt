@@ -1,0 +1,74 @@
+-- Which segments a slot with its shares holds, as a relation, so that their order never matters.
+use mathlib.Core.Path.{_≡_}
+use mathlib.Core.Bool.{Bool}
+use mathlib.Core.List.{List}
+use Prim.Native.Nat.{ℕ}
+use lib.ListN.{length, take, drop}
+use Rattle.octets.specs.Octets.{sumOf}
+use Rattle.answer.specs.declared.Part.{Part}
+use Rattle.answer.specs.declared.Part.the-variants.{Header, Body}
+use Rattle.cut.specs.Lists.{Each}
+use Rattle.cut.specs.Requirement.{headerNumbers, bodyNumbers, Segment, Fits, Finished, joined}
+use Rattle.cut.specs.declared.Bounds.{Bounds}
+use Rattle.cut.specs.Decision.{boundsOf, summary, recordOf, coreOf}
+use Rattle.cut.specs.LawsSegment.{Numbered}
+use Rattle.cut.specs.LawsObject.{headersWith, bodiesWith, those}
+use Rattle.cut.specs.Marks.{Marked}
+use Rattle.object.specs.declared.Slot.{Slot}
+use Rattle.object.specs.declared.Stage.{Stage}
+use Rattle.object.specs.declared.Stage.the-variants as Stage
+use Rattle.object.specs.Memory.{Memory, placeOf}
+use Rattle.object.specs.Take.{Lent, Parts, partsOf, Taken}
+use Rattle.object.specs.Shape.{Shaped, IsLent}
+
+-- a segment's bytes are laid in their place in the share, under a size
+abbrev pub LaidAs : Bool → ℕ → List ℕ → ℕ → List ℕ → Type 0
+LaidAs last size share n bytes = take (length bytes) (drop (placeOf last size (length share) n (length bytes)) share) ≡ bytes
+
+unfoldable pub Laid : ℕ → List ℕ → Segment → Type 0
+Laid size share s = LaidAs (s .last) size share (s .number) (s .bytes)
+
+-- a part's memory keeps these segments: the record is the one that they give within the bounds, their bytes are laid in
+-- their places, and the marks are theirs
+pub record Keeps (b : Bounds) (m : Memory) (ss : List Segment) : Type 0 where
+  pub kept : m .kept ≡ recordOf b (summary ss)
+  pub laid : Each (Laid (m .kept .size) (m .share)) ss
+  pub marked : Marked (m .marks) ss
+
+-- a slot's two parts hold these segments of a header and of a body, which fit some object and cut
+pub record Gathers (limit : ℕ) (ps : Parts) (hs bs : List Segment) : Type 0 where
+  pub object : Fits limit hs bs
+  pub shape : Shaped limit ps
+  pub header : Keeps (boundsOf Header limit (coreOf hs)) (ps .header) hs
+  pub body : Keeps (boundsOf Body limit (coreOf hs)) (ps .body) bs
+
+-- the stage that segments give which fit an object: finished with its two lengths, once every segment of it is in
+abbrev pub StageFor : {limit : ℕ} {hs bs : List Segment} → Fits limit hs bs → Stage → Type 0
+StageFor f Stage.Free = ⊥
+StageFor f Stage.Gathering = ¬ (Finished f)
+StageFor f (Stage.Finished header body) = Finished f × (header ≡ length (f .header)) × (body ≡ length (f .body))
+
+-- a slot with what is lent for it holds these segments, and its stage is the one that they give
+pub record Holds (limit : ℕ) (slot : Slot) (lent : Lent) (hs bs : List Segment) : Type 0 where
+  pub gathers : Gathers limit (partsOf slot lent) hs bs
+  pub stage : StageFor (gathers .object) (slot .stage)
+
+-- a slot that holds nothing yet: its records are empty and no mark is set
+pub record Vacant (limit : ℕ) (slot : Slot) (lent : Lent) : Type 0 where
+  pub lends : IsLent limit lent
+  pub header : slot .header ≡ record { size = 0; end = 0; tail = 0 }
+  pub body : slot .body ≡ record { size = 0; end = 0; tail = 0 }
+  pub marks : sumOf (lent .marks) ≡ 0
+
+-- the segment is of a new number and fits, and is held now with the others
+pub record Added (part : Part) (limit : ℕ) (s : Segment) (slot : Slot) (hs bs : List Segment) (t : Taken) : Type 0 where
+  pub new : ¬ (Numbered (s .number) (those part hs bs))
+  pub holds : Holds limit (t .slot) (t .lent) (headersWith part s hs) (bodiesWith part s bs)
+  pub number : t .slot .number ≡ slot .number
+
+-- the first bytes of the shares, as many as the two lengths say, are the header and the body of every object that fits, and
+-- there is one; and they are the segments joined by number
+pub record Shows (limit : ℕ) (lent : Lent) (header body : ℕ) (hs bs : List Segment) : Type 0 where
+  pub object : Fits limit hs bs
+  pub every : (f : Fits limit hs bs) → (take header (lent .header) ≡ f .header) × (take body (lent .body) ≡ f .body)
+  pub byNumber : (take header (lent .header) ≡ joined headerNumbers hs) × (take body (lent .body) ≡ joined bodyNumbers bs)

@@ -1,0 +1,98 @@
+-- The sizes of what is lent for a slot, and where in a share its bytes lie: all that code needs to stay inside.
+use mathlib.Core.Path.{_≡_}
+use mathlib.Core.Bool.{Bool}
+use mathlib.Core.List.{List}
+use Prim.Native.Nat.{ℕ, _+_, _-_, _*_, _≤_, _<_}
+use lib.ListN.{length, getD}
+use Rattle.octets.specs.Octets.{largestOf}
+use Rattle.answer.specs.declared.Part.{Part}
+use Rattle.answer.specs.declared.Part.the-variants.{Header, Body}
+use Rattle.cut.specs.Lists.{Bytes}
+use Rattle.cut.specs.Requirement.{headerMost, sizeMost, headerNumbers, bodyNumbers, Segment}
+use Rattle.cut.specs.declared.Core.{Core}
+use Rattle.cut.specs.declared.Record.{Record}
+use Rattle.cut.specs.Decision.{coreAfter, boundsOf}
+use Rattle.object.specs.declared.Slot.{Slot}
+use Rattle.object.specs.Memory.{placeOf}
+use Rattle.object.specs.Take.{Lent, Parts, partsOf, memoryOf, coreIn, recordWith, Taken}
+
+-- how many bytes a part's share has, and how many marks
+abbrev pub widthOf : Part → ℕ → ℕ
+widthOf Header limit = headerMost
+widthOf Body limit = limit
+
+abbrev pub numbersOf : Part → ℕ
+numbersOf Header = headerNumbers
+numbersOf Body = bodyNumbers
+
+pub record Shaped (limit : ℕ) (ps : Parts) : Type 0 where
+  pub headerShare : length (ps .header .share) ≡ headerMost
+  pub bodyShare : length (ps .body .share) ≡ limit
+  pub headerMarks : length (ps .header .marks) ≡ headerNumbers
+  pub bodyMarks : length (ps .body .marks) ≡ bodyNumbers
+
+-- the marks are 0 or 1
+abbrev pub Bits : Parts → Type 0
+Bits ps = (largestOf (ps .header .marks) ≤ 1) × (largestOf (ps .body .marks) ≤ 1)
+
+-- what is lent for a slot has document 01's lengths, and its stores are bytes
+pub record IsLent (limit : ℕ) (lent : Lent) : Type 0 where
+  pub headerLength : length (lent .header) ≡ headerMost
+  pub bodyLength : length (lent .body) ≡ limit
+  pub marksLength : length (lent .marks) ≡ headerNumbers + bodyNumbers
+  pub headerBytes : Bytes (lent .header)
+  pub bodyBytes : Bytes (lent .body)
+
+-- what header segment 0 says once a segment of a part is in
+abbrev pub coreWith : Part → Segment → Core → Core
+coreWith Header s c = coreAfter s c
+coreWith Body s c = c
+
+-- the record of the part that gets a segment
+abbrev pub recordAfter : Part → ℕ → Segment → Parts → Record
+recordAfter part limit s ps = recordWith (boundsOf part limit (coreWith part s (coreIn (ps .header)))) s (memoryOf part ps)
+
+-- a segment of k bytes lies inside its share, both at its number times the size and where it stands
+pub record Placed (width numbers : ℕ) (last : Bool) (size n k : ℕ) : Type 0 where
+  pub number : n < numbers
+  pub product : n * size + k ≤ width
+  pub place : placeOf last size width n k + k ≤ width
+
+-- the numbers of a record: the size, the last segment, and their products
+pub record Small (width numbers : ℕ) (p : Record) : Type 0 where
+  pub size : p .size ≤ sizeMost
+  pub end : p .end ≤ numbers
+  pub tail : p .tail ≤ sizeMost
+  pub product : p .end * p .size ≤ bodyNumbers * sizeMost
+  pub last : (p .end - 1) * p .size + p .tail ≤ width
+
+-- a last segment that is copied from the end of the share to its place, once the size is known
+pub record Moves (width : ℕ) (old new : Record) : Type 0 where
+  pub tail : old .tail ≤ width
+  pub place : (old .end - 1) * new .size + old .tail ≤ width
+
+-- a slot's record of a part, and the part's share of what is lent
+abbrev pub keptOf : Part → Slot → Record
+keptOf Header slot = slot .header
+keptOf Body slot = slot .body
+
+abbrev pub shareOf : Part → Lent → List ℕ
+shareOf Header lent = lent .header
+shareOf Body lent = lent .body
+
+-- byte i of a share lies where a last segment is copied to, or where a segment is written
+pub record Copied (old new : Record) (i : ℕ) : Type 0 where
+  pub unknown : old .size ≡ 0
+  pub known : 0 < new .size
+  pub later : 2 ≤ old .end
+  pub from : (old .end - 1) * new .size ≤ i
+  pub before : i < (old .end - 1) * new .size + old .tail
+
+pub record Written (s : Segment) (size width i : ℕ) : Type 0 where
+  pub from : placeOf (s .last) size width (s .number) (length (s .bytes)) ≤ i
+  pub before : i < placeOf (s .last) size width (s .number) (length (s .bytes)) + length (s .bytes)
+
+-- what a call leaves of a slot: each byte but those that are written or copied to, and each mark but the segment's
+pub record Leaves (part : Part) (s : Segment) (slot : Slot) (lent : Lent) (t : Taken) : Type 0 where
+  pub bytes : (p : Part) (i : ℕ) → ¬ (Copied (keptOf p slot) (keptOf p (t .slot)) i) → (p ≡ part → ¬ (Written s (keptOf p (t .slot) .size) (length (shareOf p lent)) i)) → getD (shareOf p (t .lent)) i 0 ≡ getD (shareOf p lent) i 0
+  pub marks : (p : Part) (n : ℕ) → ¬ ((p ≡ part) × (n ≡ s .number)) → getD (memoryOf p (partsOf (t .slot) (t .lent)) .marks) n 0 ≡ getD (memoryOf p (partsOf slot lent) .marks) n 0

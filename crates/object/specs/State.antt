@@ -1,0 +1,32 @@
+-- A held slot that is not damaged: document 01's list for STATE, in its words and order.
+use mathlib.Core.Path.{_≡_}
+use mathlib.Core.Logic.{_⊎_}
+use mathlib.Core.List.{List}
+use Prim.Native.Nat.{ℕ}
+use lib.ListN.{getD}
+use Rattle.answer.specs.declared.Part.{Part}
+use Rattle.answer.specs.declared.Part.the-variants.{Header, Body}
+use Rattle.cut.specs.Lists.{Each}
+use Rattle.cut.specs.Requirement.{Segment, Fits}
+use Rattle.cut.specs.Decision.{boundsOf, summary, recordOf, coreOf}
+use Rattle.object.specs.declared.Slot.{Slot}
+use Rattle.object.specs.Memory.{heldIn}
+use Rattle.object.specs.Take.{Lent, partsOf, memoryOf}
+use Rattle.object.specs.Held.{StageFor}
+
+-- the marked segments of a part, with their recorded lengths and stored bytes
+abbrev pub markedSegments : Part → Slot → Lent → List Segment
+markedSegments part slot lent = heldIn (memoryOf part (partsOf slot lent))
+
+pub record Sound (limit : ℕ) (slot : Slot) (lent : Lent) : Type 0 where
+  -- each mark is 0 or 1
+  pub marks : Each (λ m. (m ≡ 0) ⊎ (m ≡ 1)) (lent .marks)
+  -- a mark is set
+  pub some : (n : ℕ) × (getD (lent .marks) n 0 ≡ 1)
+  -- the marked segments fit some object and cut
+  pub object : Fits limit (markedSegments Header slot lent) (markedSegments Body slot lent)
+  -- the records are those that these segments give, within the bounds that segment 0 has set
+  pub header : slot .header ≡ recordOf (boundsOf Header limit (coreOf (markedSegments Header slot lent))) (summary (markedSegments Header slot lent))
+  pub body : slot .body ≡ recordOf (boundsOf Body limit (coreOf (markedSegments Header slot lent))) (summary (markedSegments Body slot lent))
+  -- and so is the stage
+  pub stage : StageFor object (slot .stage)

@@ -1,0 +1,68 @@
+-- How a group is read: document 01's checks in document 01's order, and what is read off a group that passes them all.
+use mathlib.Core.List.{List}
+use mathlib.Core.Bool.{Bool, true, false, not, cond, _||_, _&&_}
+use Prim.Native.Nat.{ℕ, _+_, _-_}
+use lib.ListN.{length}
+use lib.Dec.{eqb, ltb}
+use Rattle.crc.specs.CheckWord.{checkWord}
+use Rattle.answer.specs.declared.Part.{Part}
+use Rattle.answer.specs.declared.Part.the-variants.{Header, Body}
+use Rattle.answer.specs.declared.Refusal.{Refusal}
+use Rattle.answer.specs.declared.Refusal.the-variants as Refusal
+use Rattle.wire.specs.declared.Kind.{Kind}
+use Rattle.wire.specs.declared.Kind.the-variants.{Carries, Other}
+use Rattle.wire.specs.declared.Segment.{Segment}
+use Rattle.wire.specs.declared.Reading.{Reading}
+use Rattle.wire.specs.declared.Reading.the-variants.{Read, Refused}
+use Rattle.wire.specs.Wire.{groupLeast, groupMost, segmentLeast, segmentMost, fullLeast, crcFlag, segmentFlag, userAccessFlag, typeNumber, lastFlag, segmentNumber, userAccess, transportFlag, lengthIndicator, transportNumber, segmentSize, segmentStart, checkStart, checkField, checkCovers}
+
+infixr 1 _if_otherwise_
+-- the refusal where the test holds, and otherwise what follows
+abbrev pub _if_otherwise_ : Refusal → Bool → Reading → Reading
+refusal if true otherwise next = Refused refusal
+refusal if false otherwise next = next
+
+-- type 3 is a header segment, type 4 a body segment, and every other type is another kind
+unfoldable pub kindOf : ℕ → Kind
+kindOf number = cond (eqb number 3) (Carries Header) (cond (eqb number 4) (Carries Body) Other)
+
+-- the check word that the group carries is the one of everything before it
+unfoldable pub checkHolds : List ℕ → Bool
+checkHolds group = eqb (checkField group) (checkWord (checkCovers group))
+
+-- a size field is wrong: 0, not equal to the bytes left, over 8,189, or, not last, under 16
+unfoldable pub sizeWrong : ℕ → ℕ → Bool → Bool
+sizeWrong size left last =
+    ltb size segmentLeast || not (eqb size left) || ltb segmentMost size || (not last && ltb size fullLeast)
+
+-- what a group carries, once it has passed the checks
+unfoldable pub segmentOf : List ℕ → Part → Segment
+segmentOf group part = record {
+  number = transportNumber group;
+  part = part;
+  segment = segmentNumber group;
+  last = lastFlag group;
+  start = segmentStart group;
+  length = segmentSize group;
+}
+
+-- what follows for the part that a group carries; a group of another kind is refused
+abbrev pub carried : Kind → (Part → Reading) → Reading
+carried (Carries part) next = next part
+carried Other next = Refused Refusal.Kind
+
+-- LENGTH (under 2 or over 8,215); NOCHECK; LENGTH (under 4); BADCHECK; KIND; NOSEGMENT; LENGTH (up to the user access
+-- byte); ADDRESS; LENGTH (up to the segmentation header); SIZE
+unfoldable pub readingOf : List ℕ → Reading
+readingOf group =
+    Refusal.Length if ltb (length group) groupLeast || ltb groupMost (length group) otherwise
+    Refusal.NoCheck if eqb (crcFlag group) 0 otherwise
+    Refusal.Length if ltb (length group) 4 otherwise
+    Refusal.BadCheck if not (checkHolds group) otherwise
+    carried (kindOf (typeNumber group)) λ part.
+    Refusal.NoSegment if eqb (segmentFlag group) 0 || eqb (userAccessFlag group) 0 otherwise
+    Refusal.Length if ltb (checkStart group) (userAccess group + 1) otherwise
+    Refusal.Address if eqb (transportFlag group) 0 || ltb (lengthIndicator group) 2 otherwise
+    Refusal.Length if ltb (checkStart group) (segmentStart group) otherwise
+    Refusal.Size if sizeWrong (segmentSize group) (checkStart group - segmentStart group) (lastFlag group) otherwise
+    Read (segmentOf group part)

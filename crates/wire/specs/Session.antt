@@ -1,0 +1,31 @@
+-- The second half of document 01's order: what is asked of a group whose check word holds and whose kind is known.
+use mathlib.Core.Path.{_≡_, refl}
+use mathlib.Core.List.{List}
+use mathlib.Core.Bool.{not, _||_}
+use Prim.Native.Nat.{ℕ, _+_, _-_}
+use lib.ListN.{length}
+use lib.Dec.{eqb, ltb}
+use Rattle.answer.specs.declared.Part.{Part}
+use Rattle.answer.specs.declared.Refusal.the-variants as Refusal
+use Rattle.wire.specs.declared.Reading.{Reading}
+use Rattle.wire.specs.declared.Reading.the-variants.{Read}
+use Rattle.wire.specs.Wire.{groupLeast, groupMost, crcFlag, segmentFlag, userAccessFlag, typeNumber, lastFlag, userAccess, transportFlag, lengthIndicator, segmentSize, segmentStart, checkStart}
+use Rattle.wire.specs.Reading.{_if_otherwise_, kindOf, checkHolds, sizeWrong, segmentOf, carried, readingOf}
+
+unfoldable pub sessionOf : List ℕ → Part → Reading
+sessionOf group part =
+    Refusal.NoSegment if eqb (segmentFlag group) 0 || eqb (userAccessFlag group) 0 otherwise
+    Refusal.Length if ltb (checkStart group) (userAccess group + 1) otherwise
+    Refusal.Address if eqb (transportFlag group) 0 || ltb (lengthIndicator group) 2 otherwise
+    Refusal.Length if ltb (checkStart group) (segmentStart group) otherwise
+    Refusal.Size if sizeWrong (segmentSize group) (checkStart group - segmentStart group) (lastFlag group) otherwise
+    Read (segmentOf group part)
+
+pub in-two-halves : (group : List ℕ) → readingOf group ≡ (
+    Refusal.Length if ltb (length group) groupLeast || ltb groupMost (length group) otherwise
+    Refusal.NoCheck if eqb (crcFlag group) 0 otherwise
+    Refusal.Length if ltb (length group) 4 otherwise
+    Refusal.BadCheck if not (checkHolds group) otherwise
+    carried (kindOf (typeNumber group)) (sessionOf group))
+unfolding readingOf sessionOf
+in-two-halves group = refl

@@ -1,0 +1,165 @@
+-- What holds of every group that is read: its bytes lie inside the group, within document 01's bounds, and what document
+-- 01 ignores plays no part.
+use mathlib.Core.Path.{_≡_, refl, ap, _∙_, subst}
+use mathlib.Core.Bool.{Bool, true, false, not, _||_, _&&_}
+use mathlib.Core.List.{List}
+use Prim.Native.Nat.{ℕ, _+_, _-_, _≤_}
+use native.Mathlib.Omega.{arith}
+use lib.ListN.{length, take, drop}
+use lib.Dec.{eqb, ltb}
+use borrow.Author.Tests.{ltb-false, eqb-true, not-false}
+use Rattle.answer.specs.declared.Part.{Part}
+use Rattle.answer.specs.declared.Refusal.{Refusal}
+use Rattle.wire.specs.declared.Kind.{Kind}
+use Rattle.wire.specs.declared.Kind.the-variants.{Carries, Other}
+use Rattle.wire.specs.declared.Segment.{Segment}
+use Rattle.wire.specs.declared.Reading.{Reading}
+use Rattle.wire.specs.declared.Reading.the-variants.{Read}
+use Rattle.wire.specs.Wire.{groupLeast, groupMost, segmentLeast, segmentMost, fullLeast, checkBytes, byteAt, crcFlag, segmentFlag, userAccessFlag, typeNumber, lastFlag, segmentNumber, userAccess, transportFlag, lengthIndicator, transportNumber, segmentSize, segmentStart, checkStart}
+use Rattle.wire.specs.Reading.{_if_otherwise_, kindOf, checkHolds, sizeWrong, segmentOf, carried, readingOf}
+
+-- ---- a group is read exactly when it passes every check
+
+-- what a group has passed that carries a segment of a part
+pub record Passes (group : List ℕ) (part : Part) : Type 0 where
+  pub bounded : (ltb (length group) groupLeast || ltb groupMost (length group)) ≡ false
+  pub checked : eqb (crcFlag group) 0 ≡ false
+  pub headed : ltb (length group) 4 ≡ false
+  pub holds : checkHolds group ≡ true
+  pub kind : kindOf (typeNumber group) ≡ Carries part
+  pub flagged : (eqb (segmentFlag group) 0 || eqb (userAccessFlag group) 0) ≡ false
+  pub accessed : ltb (checkStart group) (userAccess group + 1) ≡ false
+  pub addressed : (eqb (transportFlag group) 0 || ltb (lengthIndicator group) 2) ≡ false
+  pub segmented : ltb (checkStart group) (segmentStart group) ≡ false
+  pub sized : sizeWrong (segmentSize group) (checkStart group - segmentStart group) (lastFlag group) ≡ false
+
+passed : (refusal : Refusal) (test : Bool) (next : Reading) (segment : Segment) → (refusal if test otherwise next) ≡ Read segment → (test ≡ false) × (next ≡ Read segment)
+passed refusal true next segment e = let z : _≡_ {A = ℕ} 0 1 = cc in absurd (omega arith)
+passed refusal false next segment e = (refl, e)
+
+carried-part : (kind : Kind) (next : Part → Reading) (segment : Segment) → carried kind next ≡ Read segment → (part : Part) × (kind ≡ Carries part) × (next part ≡ Read segment)
+carried-part (Carries part) next segment e = (part, refl, e)
+carried-part Other next segment e = let z : _≡_ {A = ℕ} 0 1 = cc in absurd (omega arith)
+
+pub read-passes : (group : List ℕ) (segment : Segment) → readingOf group ≡ Read segment → (part : Part) × Passes group part × (segmentOf group part ≡ segment)
+unfolding readingOf
+read-passes group segment e =
+    let bounded = passed _ _ _ segment e in
+    let checked = passed _ _ _ segment (bounded .1) in
+    let headed = passed _ _ _ segment (checked .1) in
+    let holds = passed _ _ _ segment (headed .1) in
+    let kind = carried-part _ _ segment (holds .1) in
+    let flagged = passed _ _ _ segment (kind .2) in
+    let accessed = passed _ _ _ segment (flagged .1) in
+    let addressed = passed _ _ _ segment (accessed .1) in
+    let segmented = passed _ _ _ segment (addressed .1) in
+    let sized = passed _ _ _ segment (segmented .1) in
+    let passes : Passes group (kind .0) = record {
+      bounded = bounded .0;
+      checked = checked .0;
+      headed = headed .0;
+      holds = not-false (checkHolds group) (holds .0);
+      kind = kind .1;
+      flagged = flagged .0;
+      accessed = accessed .0;
+      addressed = addressed .0;
+      segmented = segmented .0;
+      sized = sized .0;
+    } in
+    let same : _≡_ {A = Reading} (Read (segmentOf group (kind .0))) (Read segment) = sized .1 in
+    (kind .0, passes, cc)
+
+pub passes-read : (group : List ℕ) (part : Part) → Passes group part → readingOf group ≡ Read (segmentOf group part)
+unfolding readingOf
+passes-read group part p = rw (p .bounded, p .checked, p .headed, p .holds, p .kind, p .flagged, p .accessed, p .addressed, p .segmented, p .sized)
+
+-- ---- where the bytes lie
+
+-- the segment's bytes: between the segmentation header and the check word, 1 to 8,189 of them, and at least 16 where
+-- the segment is not the last one
+pub record Inside (group : List ℕ) (segment : Segment) : Type 0 where
+  pub ends : segment .start + segment .length + checkBytes ≡ length group
+  pub some : segmentLeast ≤ segment .length
+  pub most : segment .length ≤ segmentMost
+  pub enough : segment .last ≡ false → fullLeast ≤ segment .length
+
+either-false : (a b : Bool) → (a || b) ≡ false → (a ≡ false) × (b ≡ false)
+either-false true b e = let z : _≡_ {A = ℕ} 0 1 = cc in absurd (omega arith)
+either-false false b e = (refl, e)
+
+long-enough : (last : Bool) (size : ℕ) → (not last && ltb size fullLeast) ≡ false → last ≡ false → fullLeast ≤ size
+long-enough true size e f = let z : _≡_ {A = ℕ} 0 1 = cc in absurd (omega arith)
+long-enough false size e f = ltb-false size fullLeast e
+
+size-right : (size left : ℕ) (last : Bool) → sizeWrong size left last ≡ false → (size ≡ left) × (segmentLeast ≤ size) × (size ≤ segmentMost) × (last ≡ false → fullLeast ≤ size)
+unfolding sizeWrong
+size-right size left last e =
+    let tests = either-false _ (not last && ltb size fullLeast) e in
+    let most = either-false _ (ltb segmentMost size) (tests .0) in
+    let equal = either-false (ltb size segmentLeast) _ (most .0) in
+    let same : size ≡ left = eqb-true size left (not-false (eqb size left) (equal .1)) in
+    (same, ltb-false size _ (equal .0), ltb-false _ size (most .1), long-enough last size (tests .1))
+
+inside-passes : (group : List ℕ) (part : Part) → Passes group part → Inside group (segmentOf group part)
+unfolding segmentOf
+inside-passes group part p =
+    let size = size-right (segmentSize group) (checkStart group - segmentStart group) (lastFlag group) (p .sized) in
+    let whole : groupLeast ≤ length group = ltb-false (length group) groupLeast (either-false _ _ (p .bounded) .0) in
+    let starts : segmentStart group ≤ checkStart group = ltb-false (checkStart group) (segmentStart group) (p .segmented) in
+    record { ends = omega (arith, size .0); some = size .1; most = size .2; enough = size .3 }
+
+pub inside : (group : List ℕ) (segment : Segment) → readingOf group ≡ Read segment → Inside group segment
+inside group segment e =
+    let read = read-passes group segment e in
+    subst (Inside group) (read .2) (inside-passes group (read .0) (read .1))
+
+-- ---- what is ignored
+
+-- two groups that differ only in what is ignored, and in their check words: the extension field, the two indices, the
+-- spare bits, the repetition count and the end user address
+pub record SameButIgnored (group other : List ℕ) : Type 0 where
+  pub long : length other ≡ length group
+  pub flags : byteAt other 0 ≡ byteAt group 0
+  pub last : lastFlag other ≡ lastFlag group
+  pub number : segmentNumber other ≡ segmentNumber group
+  pub addressed : transportFlag other ≡ transportFlag group
+  pub indicated : lengthIndicator other ≡ lengthIndicator group
+  pub transport : transportNumber other ≡ transportNumber group
+  pub size : segmentSize other ≡ segmentSize group
+  pub bytes : take (segmentSize group) (drop (segmentStart group) other) ≡ take (segmentSize group) (drop (segmentStart group) group)
+
+-- the bytes that a segment has in its group
+abbrev pub bytesIn : List ℕ → Segment → List ℕ
+bytesIn group segment = take (segment .length) (drop (segment .start) group)
+
+same-passes : (group other : List ℕ) (part : Part) → SameButIgnored group other → checkHolds other ≡ true → Passes group part → Passes other part
+same-passes group other part same holds p = record {
+  bounded = cc;
+  checked = cc;
+  headed = cc;
+  holds = holds;
+  kind = cc;
+  flagged = cc;
+  accessed = cc;
+  addressed = cc;
+  segmented = cc;
+  sized = cc;
+}
+
+same-segment : (group other : List ℕ) (part : Part) → SameButIgnored group other → segmentOf other part ≡ segmentOf group part
+unfolding segmentOf
+same-segment group other part same = cc
+
+same-bytes : (group other : List ℕ) (part : Part) → SameButIgnored group other → bytesIn other (segmentOf group part) ≡ bytesIn group (segmentOf group part)
+unfolding segmentOf
+same-bytes group other part same = same .bytes
+
+-- the other group, with a check word of its own that holds, is read as the same segment of the same bytes
+pub ignored : (group other : List ℕ) (segment : Segment) → SameButIgnored group other → checkHolds other ≡ true → readingOf group ≡ Read segment
+    → (readingOf other ≡ Read segment) × (bytesIn other segment ≡ bytesIn group segment)
+ignored group other segment same holds e =
+    let read = read-passes group segment e in
+    let other-passes = same-passes group other (read .0) same holds (read .1) in (
+      passes-read other (read .0) other-passes ∙ ap Read (same-segment group other (read .0) same ∙ read .2),
+      subst (λ (s : Segment). bytesIn other s ≡ bytesIn group s) (read .2) (same-bytes group other (read .0) same),
+    )

@@ -1,0 +1,166 @@
+// One group read off the wire (EN 300 401, clause 5.3.3): the segment that it carries and where in
+// the group that segment's bytes stand, or the first refusal in document 01's order. Any bytes of
+// any length are read; nothing past them is looked at.
+use answer::Part;
+use answer::Refusal;
+ghost use mathlib.Core.Path.{_≡_};
+ghost use Prim.Native.Nat.{_+_, _≤_, _<_};
+ghost use lib.ListN.{length};
+ghost use Rattle.wire.specs.Wire.{checkBytes, wordAt};
+ghost use Rattle.wire.specs.Reading.{kindOf, checkHolds, sizeWrong, readingOf};
+ghost use Rattle.wire.specs.Session.{sessionOf};
+
+// Bytes of a group.
+pub const GROUP_LEAST: usize = 2;
+
+pub const GROUP_MOST: usize = 8215;
+
+// Bytes of a segment.
+pub const SEGMENT_LEAST: usize = 1;
+
+pub const SEGMENT_MOST: usize = 8189;
+
+// Of a segment that is not the last.
+pub const FULL_LEAST: usize = 16;
+
+// Bytes of the check word, which ends a group.
+const CHECK_BYTES: usize = 2;
+
+// What a group carries.
+pub enum Kind {
+    Carries(Part),
+    Other,
+}
+
+// A segment as it came: its transport number, its part, its segment number, whether it is the last
+// one, and where in the group its bytes start and how many they are.
+pub struct Segment {
+    pub number: u16,
+    pub part: Part,
+    pub segment: u16,
+    pub last: bool,
+    pub start: usize,
+    pub length: usize,
+}
+
+pub enum Reading {
+    Read(Segment),
+    Refused(Refusal),
+}
+
+// Which kind a group is, by its type number.
+pub fn kind_of(type_number: u8) -> Kind
+    ensures { λ r. ⌜ r ≡ kindOf «type_number» ⌝ }
+{
+    match type_number {
+        3 => Kind::Carries(Part::Header),
+        4 => Kind::Carries(Part::Body),
+        0..=2 | 5..=255 => Kind::Other,
+    }
+}
+
+// A field of two bytes.
+fn word_at(group: &[u8], at: usize) -> u16
+    requires { ⌜ at + 1 < length (now group) ⌝ }
+    ensures { λ r. ⌜ r ≡ wordAt (now (group .entry)) at ⌝ }
+{
+    (group[at] as u16) * 256 + (group[at + 1] as u16)
+}
+
+// Whether the check word at the end is the one of everything before it.
+fn check_holds(group: &[u8]) -> bool
+    requires { ⌜ checkBytes ≤ length (now group) ⌝ }
+    ensures { λ r. ⌜ r ≡ checkHolds (now (group .entry)) ⌝ }
+{
+    let end = group.len() - CHECK_BYTES;
+    word_at(group, end) == crc::check_word(&group[..end])
+}
+
+// Whether a size field is wrong for the bytes that are left.
+fn size_wrong(size: usize, left: usize, last: bool) -> bool
+    ensures { λ r. ⌜ r ≡ sizeWrong size left last ⌝ }
+{
+    if size < SEGMENT_LEAST {
+        return true;
+    }
+    if size != left {
+        return true;
+    }
+    if SEGMENT_MOST < size {
+        return true;
+    }
+    if last {
+        return false;
+    }
+    size < FULL_LEAST
+}
+
+// The rest of a group whose check word holds and whose part is known.
+fn session(group: &[u8], part: Part) -> Reading
+    requires { ⌜ 4 ≤ length (now group) ⌝ }
+    ensures { λ r. ⌜ r ≡ sessionOf (now (group .entry)) part ⌝ }
+{
+    let flags = group[0];
+    if flags / 32 % 2 == 0 {
+        return Reading::Refused(Refusal::NoSegment);
+    }
+    if flags / 16 % 2 == 0 {
+        return Reading::Refused(Refusal::NoSegment);
+    }
+    let end = group.len() - CHECK_BYTES;
+    let field = 2 + (flags / 128) as usize * 2;
+    let access = field + 2;
+    if end < access + 1 {
+        return Reading::Refused(Refusal::Length);
+    }
+    let indicator = (group[access] % 16) as usize;
+    if group[access] / 16 % 2 == 0 {
+        return Reading::Refused(Refusal::Address);
+    }
+    if indicator < 2 {
+        return Reading::Refused(Refusal::Address);
+    }
+    let start = access + 1 + indicator + 2;
+    if end < start {
+        return Reading::Refused(Refusal::Length);
+    }
+    let size = (word_at(group, access + 1 + indicator) % 8192) as usize;
+    let last = word_at(group, field) / 32768 == 1;
+    if size_wrong(size, end - start, last) {
+        return Reading::Refused(Refusal::Size);
+    }
+    Reading::Read(Segment {
+        number: word_at(group, access + 1),
+        part,
+        segment: word_at(group, field) % 32768,
+        last,
+        start,
+        length: size,
+    })
+}
+
+// What a group carries, or the first refusal in document 01's order.
+pub fn read(group: &[u8]) -> Reading
+    ensures { λ r. ⌜ r ≡ readingOf (now (group .entry)) ⌝ }
+{
+    if group.len() < GROUP_LEAST {
+        return Reading::Refused(Refusal::Length);
+    }
+    if GROUP_MOST < group.len() {
+        return Reading::Refused(Refusal::Length);
+    }
+    let flags = group[0];
+    if flags / 64 % 2 == 0 {
+        return Reading::Refused(Refusal::NoCheck);
+    }
+    if group.len() < 4 {
+        return Reading::Refused(Refusal::Length);
+    }
+    if !check_holds(group) {
+        return Reading::Refused(Refusal::BadCheck);
+    }
+    let Kind::Carries(part) = kind_of(flags % 16) else {
+        return Reading::Refused(Refusal::Kind);
+    };
+    session(group, part)
+}
