@@ -5,16 +5,16 @@ use crate::repository::{Item, Repository};
 
 /// What is promised. Of a file with no names behind it all that stands in it, of another what is named.
 const PROMISED: [(&str, &[&str]); 7] = [
-    ("crates/collector/specs/Outcome.antt", &[]),
+    ("crates/collector/specs/laws/Outcome.antt", &[]),
     ("crates/history/specs/Promise.antt", &[]),
     ("crates/history/specs/Ours.antt", &[]),
-    ("crates/history/specs/Promises.antt", &[]),
+    ("crates/history/specs/laws/Promises.antt", &[]),
     (
-        "crates/queries/specs/Theorems.antt",
+        "crates/queries/specs/laws/Theorems.antt",
         &["name-told", "find-lowest", "find-nobody"],
     ),
     (
-        "crates/yovtirak/specs/Reaches.antt",
+        "crates/yovtirak/specs/laws/Reaches.antt",
         &[
             "words-reached",
             "returned-reached",
@@ -22,7 +22,7 @@ const PROMISED: [(&str, &[&str]); 7] = [
             "finished-there",
         ],
     ),
-    ("crates/listing/specs/Theorems.antt", &["lines-done"]),
+    ("crates/listing/specs/laws/Theorems.antt", &["lines-done"]),
 ];
 
 /// The file whose own words the promises are.

@@ -4,7 +4,7 @@ use mathlib.Core.Bool.{true}
 use Prim.Native.Nat.{_<_}
 use lib.Dec.{leb, ltb}
 use borrow.Author.Tests.{ltb-true}
-use Rattle.cut.specs.LawsDecision.{both-true}
+use Rattle.cut.specs.laws.Decision.{both-true}
 use Rattle.cases.specs.declared.Piece.{Piece}
 use Rattle.cases.specs.Pieces.{isThere}
 

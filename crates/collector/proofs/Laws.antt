@@ -8,7 +8,7 @@ use Rattle.counts.specs.declared.Counts.{Counts}
 use Rattle.counts.specs.Counted.{counted, within}
 use Rattle.wire.specs.declared.Segment.{Segment as Carried}
 use Rattle.cut.specs.Requirement.{Segment}
-use Rattle.cut.specs.LawsDecision.{both-true}
+use Rattle.cut.specs.laws.Decision.{both-true}
 use Rattle.object.specs.declared.Slot.{Slot}
 use Rattle.object.specs.Take.{takeInto}
 use Rattle.slots.specs.Stores.{slotsMost, Stores, lentAt}

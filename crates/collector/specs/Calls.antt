@@ -16,7 +16,7 @@ use Rattle.wire.specs.declared.Segment.{Segment as Carried}
 use Rattle.wire.specs.declared.Reading.{Reading}
 use Rattle.wire.specs.declared.Reading.the-variants.{Read, Refused}
 use Rattle.wire.specs.Reading.{readingOf}
-use Rattle.wire.specs.Theorems.{bytesIn}
+use Rattle.wire.specs.laws.Theorems.{bytesIn}
 use Rattle.cut.specs.Lists.{pick}
 use Rattle.cut.specs.Requirement.{Segment}
 use Rattle.cut.specs.Decision.{both}

@@ -1,2 +1,2 @@
 pub mod CheckWord
-pub mod Laws
+pub mod laws

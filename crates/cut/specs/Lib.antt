@@ -1,14 +1,5 @@
 pub mod Lists
 pub mod Requirement
 pub mod Decision
-pub mod LawsCore
-pub mod LawsSegment
-pub mod LawsDecision
-pub mod LawsObject
-pub mod LawsOrder
-pub mod Theorem
-pub mod Finished
-pub mod Known
-pub mod Marks
 pub mod Sums
-pub mod Cases
+pub mod laws

@@ -19,11 +19,11 @@ use Rattle.cut.specs.declared.Core.{Core}
 use Rattle.cut.specs.declared.Bounds.{Bounds}
 use Rattle.cut.specs.declared.Record.{Record}
 use Rattle.cut.specs.Decision.{both, all, boundsOf, coreFits, endedTests, room, alone, possible, addPart, addTop, summary, joins, someFull, settle, recordOf, coreAfter, coreOf, suits, suitsBoth, accepts, openTests, roomAs}
-use Rattle.cut.specs.LawsSegment.{Numbered, Agree}
-use Rattle.cut.specs.LawsDecision.{Clear, all-true}
-use Rattle.cut.specs.LawsObject.{headersWith, bodiesWith, those, Passes, fits-passes}
-use Rattle.cut.specs.Theorem.{end-numbered, accepted}
-use Rattle.cut.specs.Marks.{total-some, topFrom, Marked, top-kept, top-open, top-ended}
+use Rattle.cut.specs.laws.Segment.{Numbered, Agree}
+use Rattle.cut.specs.laws.Decision.{Clear, all-true}
+use Rattle.cut.specs.laws.Object.{headersWith, bodiesWith, those, Passes, fits-passes}
+use Rattle.cut.specs.laws.Theorem.{end-numbered, accepted}
+use Rattle.cut.specs.laws.Marks.{total-some, topFrom, Marked, top-kept, top-open, top-ended}
 
 -- 1 if the last one is in, else 0
 abbrev pub ended : Record → ℕ

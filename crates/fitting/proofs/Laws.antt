@@ -14,7 +14,7 @@ use Rattle.cut.specs.Requirement.{sizeLeast, sizeMost}
 use Rattle.cut.specs.declared.Bounds.{Bounds}
 use Rattle.cut.specs.declared.Record.{Record}
 use Rattle.cut.specs.Decision.{all, openTests, endedTests, roomOpen, roomEnded, roomAs, room, laterTests, aloneTests, possible}
-use Rattle.cut.specs.LawsDecision.{some-fails, true-all, pick-fails}
+use Rattle.cut.specs.laws.Decision.{some-fails, true-all, pick-fails}
 
 pub refused : (bs : List Bool) → ¬ (Each (λ b. b ≡ true) bs) → false ≡ all bs
 refused bs h = sym (some-fails bs h)

@@ -11,7 +11,7 @@ ghost use Rattle.octets.specs.Octets.{both};
 ghost use Rattle.cut.specs.Requirement.{headerLeast};
 ghost use Rattle.header.specs.Parameters.{lengthAt, within, foundAt, widthFits, single, priorityOf, nameOf, fieldsOf, readHeader, nameIn};
 ghost use Rattle.header.specs.Names.{unslashed, nameMatches};
-ghost use Rattle.header.specs.Scan.{either, note, scanHeader, Inside};
+ghost use Rattle.header.specs.laws.Scan.{either, note, scanHeader, Inside};
 
 // Bytes of the core, before the first parameter: the shortest header is its core.
 pub const CORE: usize = cut::HEADER_LEAST;

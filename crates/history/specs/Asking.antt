@@ -7,7 +7,7 @@ use Rattle.collector.specs.Calls.{locate, show}
 use Rattle.queries.specs.declared.Asked.{Asked}
 use Rattle.queries.specs.declared.Sought.{Sought}
 use Rattle.queries.specs.Questions.{parameters, name, find}
-use Rattle.history.specs.Call.{State}
+use Rattle.history.specs.laws.Call.{State}
 
 -- where a finished object is
 abbrev pub locating : ℕ → State → Located

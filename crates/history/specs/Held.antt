@@ -6,7 +6,7 @@ use Rattle.object.specs.declared.Stage.{Stage}
 use Rattle.object.specs.declared.Stage.the-variants as Stage
 use Rattle.slots.specs.declared.Found.{Found}
 use Rattle.slots.specs.declared.Found.the-variants.{Nothing, At}
-use Rattle.history.specs.Call.{State, limitOf, slotOf, lentOf, find, free}
+use Rattle.history.specs.laws.Call.{State, limitOf, slotOf, lentOf, find, free}
 
 -- the stage of the slot that holds a number; free where none does
 abbrev pub stageAt : Found → State → Stage

@@ -18,16 +18,16 @@ use Rattle.wire.specs.declared.Reading.the-variants.{Read, Refused}
 use Rattle.wire.specs.Reading.{readingOf}
 use Rattle.cut.specs.Lists.{pick, Bytes}
 use Rattle.cut.specs.Requirement.{Segment}
-use Rattle.cut.specs.LawsObject.{headersWith, bodiesWith}
+use Rattle.cut.specs.laws.Object.{headersWith, bodiesWith}
 use Rattle.slots.specs.Stores.{Stores}
-use Rattle.slots.specs.StateTests.{Limits}
+use Rattle.slots.specs.laws.StateTests.{Limits}
 use Rattle.collector.specs.declared.Located.{Located}
 use Rattle.collector.specs.declared.Opening.{Opening}
 use Rattle.collector.specs.Calls.{segmentIn, openedBy}
 use Rattle.queries.specs.declared.Asked.{Asked}
 use Rattle.queries.specs.declared.Sought.{Sought}
-use Rattle.history.specs.Call.{State, Reply, taking, dropping, opening}
-use Rattle.history.specs.Ready.{OfBytes}
+use Rattle.history.specs.laws.Call.{State, Reply, taking, dropping, opening}
+use Rattle.history.specs.laws.Ready.{OfBytes}
 use Rattle.history.specs.Asking.{locating, showing, telling, naming, finding}
 
 -- a part of a finished object is asked for, what its header says, its name, or whose a name is

@@ -23,7 +23,7 @@ use Rattle.wire.specs.Reading.{readingOf}
 use Rattle.cut.specs.Lists.{pick, Each, Among, Bytes}
 use Rattle.cut.specs.Requirement.{headerNumbers, bodyNumbers, Segment, Fits, Finished, joined}
 use Rattle.cut.specs.Decision.{both}
-use Rattle.cut.specs.LawsObject.{headersWith, bodiesWith}
+use Rattle.cut.specs.laws.Object.{headersWith, bodiesWith}
 use Rattle.header.specs.declared.Reading.{Reading}
 use Rattle.header.specs.Parameters.{readHeader}
 use Rattle.object.specs.declared.Stage.the-variants as Stage
@@ -38,10 +38,10 @@ use Rattle.collector.specs.Calls.{heardAs, segmentIn, allFree}
 use Rattle.queries.specs.declared.Asked.the-variants as Asked
 use Rattle.queries.specs.declared.Sought.the-variants as Sought
 use Rattle.queries.specs.Questions.{askedAs}
-use Rattle.history.specs.Call.{State, limitOf, slotOf, find, free}
-use Rattle.history.specs.Ready.{OfBytes}
-use Rattle.history.specs.State.{InOrder}
-use Rattle.history.specs.Answers.{markedUnder}
+use Rattle.history.specs.laws.Call.{State, limitOf, slotOf, find, free}
+use Rattle.history.specs.laws.Ready.{OfBytes}
+use Rattle.history.specs.laws.State.{InOrder}
+use Rattle.history.specs.laws.Answers.{markedUnder}
 use Rattle.history.specs.Held.{stageFor, SlotFor, Same}
 use Rattle.history.specs.History.{Question, Call, drop, CallBytes, Elsewhere, shown, read, named, found, Event, handed, dropped, asked, Start, Within, Allowed, Collecting, after, reached, told, under, storedUnder}
 

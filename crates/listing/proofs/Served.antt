@@ -11,7 +11,7 @@ use Rattle.slots.specs.Stores.{Stores}
 use Rattle.collector.specs.Calls.{Answered, takeGroup, dropNumber}
 use Rattle.listing_input.specs.declared.Line.the-variants.{Group, Drop, Malformed}
 use Rattle.listing_input.specs.Line.{Asked, taking, dropping, neither, askedOf, told, left}
-use Rattle.listing_input.specs.Run.{over-nothing}
+use Rattle.listing_input.specs.laws.Run.{over-nothing}
 use Rattle.listing.specs.declared.Held.{Held}
 use Rattle.listing.specs.Listed.{Served, servedBy, servedAs, served}
 

@@ -1,3 +1,2 @@
 pub mod Listed
-pub mod Laws
-pub mod Theorems
+pub mod laws

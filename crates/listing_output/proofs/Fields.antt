@@ -13,7 +13,7 @@ use Rattle.answer.specs.declared.Refusal.the-variants as Refusal
 use Rattle.answer.specs.Letters.{letters, Spells}
 use Rattle.answer.specs.Table.{nameOf}
 use Rattle.listing_output.specs.Number.{decimal}
-use Rattle.listing_output.specs.Put.{Put}
+use Rattle.listing_output.specs.laws.Put.{Put}
 use Rattle.listing_output.proofs.Digits.{decimal-short}
 
 -- no name has more than ten letters

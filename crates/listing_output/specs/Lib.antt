@@ -1,4 +1,3 @@
 pub mod Number
-pub mod Put
 pub mod Text
-pub mod Example
+pub mod laws

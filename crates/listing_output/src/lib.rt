@@ -13,7 +13,7 @@ ghost use Rattle.answer.specs.Letters.{letters as spelling};
 ghost use Rattle.answer.specs.Table.{nameOf};
 ghost use Rattle.octets.specs.Octets.{over};
 ghost use Rattle.listing_output.specs.Number.{digit as digitFor, decimal as decimalOf, fourDigits};
-ghost use Rattle.listing_output.specs.Put.{Put};
+ghost use Rattle.listing_output.specs.laws.Put.{Put};
 ghost use Rattle.listing_output.specs.Text.{space, textOf, partOf, valuesOf, answerText, malformedText, countsText};
 
 // A number's decimal digits: those from `start` on.

@@ -11,7 +11,7 @@ use Rattle.object.specs.declared.Stage.the-variants.{Free, Gathering, Finished}
 use Rattle.header.specs.declared.Name.{Name}
 use Rattle.header.specs.declared.Name.the-variants.{Absent, Data}
 use Rattle.header.specs.Parameters.{readHeader, nameIn}
-use Rattle.header.specs.Search.{namedAs}
+use Rattle.header.specs.laws.Search.{namedAs}
 use Rattle.slots.specs.Show.{startOf}
 use Rattle.names.specs.declared.Holder.{Holder}
 use Rattle.names.specs.declared.Holder.the-variants.{Nobody, Number}

@@ -1,5 +1,3 @@
 pub mod Requirement
 pub mod Finding
-pub mod Legible
-pub mod Lower
-pub mod Theorems
+pub mod laws

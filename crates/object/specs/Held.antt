@@ -11,9 +11,9 @@ use Rattle.cut.specs.Lists.{Each}
 use Rattle.cut.specs.Requirement.{headerNumbers, bodyNumbers, Segment, Fits, Finished, joined}
 use Rattle.cut.specs.declared.Bounds.{Bounds}
 use Rattle.cut.specs.Decision.{boundsOf, summary, recordOf, coreOf}
-use Rattle.cut.specs.LawsSegment.{Numbered}
-use Rattle.cut.specs.LawsObject.{headersWith, bodiesWith, those}
-use Rattle.cut.specs.Marks.{Marked}
+use Rattle.cut.specs.laws.Segment.{Numbered}
+use Rattle.cut.specs.laws.Object.{headersWith, bodiesWith, those}
+use Rattle.cut.specs.laws.Marks.{Marked}
 use Rattle.object.specs.declared.Slot.{Slot}
 use Rattle.object.specs.declared.Stage.{Stage}
 use Rattle.object.specs.declared.Stage.the-variants as Stage

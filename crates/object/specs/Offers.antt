@@ -7,7 +7,7 @@ use Prim.Native.Nat.{ℕ}
 use Rattle.answer.specs.declared.Part.{Part}
 use Rattle.cut.specs.Lists.{Among, Bytes}
 use Rattle.cut.specs.Requirement.{Segment, Sends, Fits}
-use Rattle.cut.specs.LawsObject.{headersWith, bodiesWith, partOf, cutOf}
+use Rattle.cut.specs.laws.Object.{headersWith, bodiesWith, partOf, cutOf}
 use Rattle.object.specs.declared.Slot.{Slot}
 use Rattle.object.specs.declared.Outcome.{Outcome}
 use Rattle.object.specs.declared.Outcome.the-variants.{Stored, Complete, Repeat, Conflict}

@@ -1,4 +1,2 @@
 pub mod Octets
-pub mod Over
-pub mod Marks
-pub mod Shares
+pub mod laws

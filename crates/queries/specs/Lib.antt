@@ -1,2 +1,2 @@
 pub mod Questions
-pub mod Theorems
+pub mod laws

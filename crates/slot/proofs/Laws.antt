@@ -24,7 +24,7 @@ use Rattle.cut.specs.Sums.{ended, acceptsIn}
 use Rattle.object.specs.Memory.{placeOf, movedAs}
 use Rattle.object.specs.Sound.{endRight}
 use Rattle.slot.specs.Inner.{marksOf}
-use Rattle.cut.specs.LawsDecision.{all-true}
+use Rattle.cut.specs.laws.Decision.{all-true}
 
 picked : (test : Bool) (n most : ℕ) → (test ≡ true → n ≤ most) → pick test n 0 ≤ most
 picked true n most f = f refl

@@ -26,7 +26,7 @@ use Rattle.object.proofs.Stage.{the-type}
 use Rattle.slots.specs.declared.Found.the-variants.{Nothing, At}
 use Rattle.slots.specs.Stores.{noRecord, freeSlot}
 use Rattle.slots.specs.Find.{firstFrom}
-use Rattle.slots.specs.StateTests.{spent, one-more}
+use Rattle.slots.specs.laws.StateTests.{spent, one-more}
 use Rattle.slots.specs.Show.{startOf, shownAs}
 
 -- ---- a turn of a loop that looks for a slot

@@ -1,13 +1,7 @@
 pub mod Stores
 pub mod Find
 pub mod Alone
-pub mod AloneTests
 pub mod State
-pub mod StateTests
-pub mod Keys
 pub mod Take
-pub mod Shares
-pub mod Fresh
 pub mod Show
-pub mod Ready
-pub mod Held
+pub mod laws

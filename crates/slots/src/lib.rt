@@ -24,7 +24,7 @@ ghost use Rattle.slots.specs.Stores.{slotsMost, slotMarks, noRecord, fre
 ghost use Rattle.slots.specs.Find.{isFree, holds, findIn, freeIn};
 ghost use Rattle.slots.specs.Alone.{coreAlone, fitsAlone};
 ghost use Rattle.slots.specs.State.{withinLimits, rightBy, soundSlots};
-ghost use Rattle.slots.specs.Keys.{keyOf, keysOf, unlikeKey, distinctKeys};
+ghost use Rattle.slots.specs.laws.Keys.{keyOf, keysOf, unlikeKey, distinctKeys};
 ghost use Rattle.slots.specs.Show.{startOf, shownOf};
 ghost use Rattle.slots.specs.Take.{placedAt, dropAt, Inside};
 

@@ -11,7 +11,7 @@ use Rattle.answer.specs.declared.Refusal.the-variants as Refusal
 use Rattle.wire.specs.declared.Reading.the-variants.{Read, Refused}
 use Rattle.wire.specs.Wire.{wordAt, segmentFlag, userAccessFlag, segmentField, userAccess, transportFlag, lengthIndicator, transportNumber, segmentationHeader, segmentStart, checkStart}
 use Rattle.wire.specs.Reading.{sizeWrong, segmentOf}
-use Rattle.wire.specs.Session.{sessionOf}
+use Rattle.wire.specs.laws.Session.{sessionOf}
 
 module _ (group : List ℕ) (part : Part) where
   pub no-segment : segmentFlag group ≡ 0 → Refused Refusal.NoSegment ≡ sessionOf group part

@@ -1,4 +1,3 @@
 pub mod Wire
 pub mod Reading
-pub mod Session
-pub mod Theorems
+pub mod laws

@@ -8,7 +8,7 @@ ghost use Prim.Native.Nat.{_+_, _≤_, _<_};
 ghost use lib.ListN.{length};
 ghost use Rattle.wire.specs.Wire.{checkBytes, wordAt};
 ghost use Rattle.wire.specs.Reading.{kindOf, checkHolds, sizeWrong, readingOf};
-ghost use Rattle.wire.specs.Session.{sessionOf};
+ghost use Rattle.wire.specs.laws.Session.{sessionOf};
 
 // Bytes of a group.
 pub const GROUP_LEAST: usize = 2;

@@ -7,7 +7,7 @@ use lib.ListN.{length}
 use Rattle.answer.specs.declared.Part.the-variants.{Header}
 use Rattle.cut.specs.Lists.{Bytes}
 use Rattle.slots.specs.Stores.{Stores}
-use Rattle.history.specs.Call.{State}
+use Rattle.history.specs.laws.Call.{State}
 use Rattle.history.specs.History.{Question, Call, hand, ask, Start, reached}
 use Rattle.history.specs.Ours.{ours}
 use Rattle.layout.specs.Layout.{countsFrom}

@@ -1,4 +1,3 @@
 pub mod Exports
-pub mod Laws
 pub mod Heads
-pub mod Reaches
+pub mod laws

@@ -9,7 +9,7 @@ use lib.Bits.{bitXor, xor-lt}
 use lib.ListN.{length, drop, getD, drop-of-length-le}
 use borrow.Author.Needs.{needs}
 use Rattle.crc.specs.CheckWord.{step, divided, checkWord}
-use Rattle.crc.specs.Laws.{steps, steps-small, byte-entered, divided-on}
+use Rattle.crc.specs.laws.Remainders.{steps, steps-small, byte-entered, divided-on}
 use Rattle.crc.proofs.Table.{Follows, entry-of}
 use Rattle.crc.proofs.check_word.Statement.{statement}
 use Rattle.crc.proofs.check_word.Tie as tie

@@ -4,7 +4,7 @@ use Prim.Native.Nat.{ℕ, _*_}
 use native.Mathlib.Omega.{arith}
 use borrow.Author.Tests.{leb-true, le-leb}
 use Rattle.cut.specs.Decision.{laterTests}
-use Rattle.cut.specs.LawsDecision.{largest-high}
+use Rattle.cut.specs.laws.Decision.{largest-high}
 use Rattle.fitting.proofs.Laws.{refused, granted}
 use borrow.Author.Needs.{needs}
 use Rattle.fitting.proofs.alone_later.Statement.{statement}

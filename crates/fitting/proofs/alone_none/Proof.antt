@@ -4,7 +4,7 @@ use native.Mathlib.Omega.{arith}
 use borrow.Author.Tests.{leb-true, le-leb}
 use Rattle.cut.specs.Decision.{nothingTests}
 use Rattle.fitting.proofs.Laws.{refused, granted}
-use Rattle.cut.specs.LawsDecision.{false-true}
+use Rattle.cut.specs.laws.Decision.{false-true}
 use borrow.Author.Needs.{needs}
 use Rattle.fitting.proofs.alone_none.Statement.{statement}
 use Rattle.fitting.proofs.alone_none.Tie as tie

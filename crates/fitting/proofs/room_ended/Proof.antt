@@ -2,7 +2,7 @@
 use native.Mathlib.Omega.{arith}
 use borrow.Author.Tests.{leb-true, le-leb}
 use Rattle.cut.specs.Decision.{endedTests}
-use Rattle.cut.specs.LawsDecision.{pick-fails, pick-passes}
+use Rattle.cut.specs.laws.Decision.{pick-fails, pick-passes}
 use Rattle.fitting.proofs.Laws.{ends-past, ends-within}
 use borrow.Author.Needs.{needs}
 use Rattle.fitting.proofs.room_ended.Statement.{statement}

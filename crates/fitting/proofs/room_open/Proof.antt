@@ -4,7 +4,7 @@ use Prim.Native.Nat.{_-_, _/_, min}
 use native.Mathlib.Omega.{arith}
 use borrow.Author.Tests.{leb-true, le-leb}
 use Rattle.cut.specs.Decision.{openTests}
-use Rattle.cut.specs.LawsDecision.{pick-fails, pick-passes, false-true}
+use Rattle.cut.specs.laws.Decision.{pick-fails, pick-passes, false-true}
 use borrow.Author.Needs.{needs}
 use Rattle.fitting.proofs.room_open.Statement.{statement}
 use Rattle.fitting.proofs.room_open.Tie as tie

@@ -3,7 +3,7 @@ use Prim.Native.Nat.{_+_}
 use mathlib.Core.Path.{sym}
 use borrow.Author.Tests.{lt-ltb, le-ltb}
 use Rattle.header.specs.Parameters.{lengthAt}
-use Rattle.header.specs.Laws.{within-not, length-known}
+use Rattle.header.specs.laws.Parameters.{within-not, length-known}
 use borrow.Author.Needs.{needs}
 use native.Mathlib.Omega.{arith}
 use Rattle.header.proofs.measured_at.Statement.{statement}

@@ -6,9 +6,9 @@ use borrow.Author.Tests.{not-true, not-false}
 use lib.ListN.{length}
 use Rattle.header.specs.declared.Found.the-variants.{One}
 use Rattle.header.specs.Parameters.{parametersFrom, foundAt, widthFits}
-use Rattle.header.specs.Scan.{scanned, scanHeader}
-use Rattle.header.specs.Laws.{Known, found-known, found-on}
-use Rattle.header.specs.Exact.{scan-end, scan-broken, scan-one}
+use Rattle.header.specs.laws.Scan.{scanned, scanHeader}
+use Rattle.header.specs.laws.Parameters.{Known, found-known, found-on}
+use Rattle.header.specs.laws.Exact.{scan-end, scan-broken, scan-one}
 use borrow.Author.Needs.{needs}
 use native.Mathlib.Omega.{arith}
 use Rattle.header.proofs.note_all.Statement.{statement}

@@ -1,6 +1,6 @@
 -- Each arm says which case of `note` holds.
 use borrow.Author.Tests.{ne-eqb}
-use Rattle.header.specs.Scan.{note}
+use Rattle.header.specs.laws.Scan.{note}
 use borrow.Author.Needs.{needs}
 use Rattle.header.proofs.noted.Statement.{statement}
 use Rattle.header.proofs.noted.Tie as tie

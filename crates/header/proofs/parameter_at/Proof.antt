@@ -3,7 +3,7 @@ use Prim.Native.Nat.{_/_}
 use mathlib.Core.Path.{_≡_, sym}
 use lib.ListN.{getD}
 use Rattle.header.specs.Parameters.{foundAt, parameterAt}
-use Rattle.header.specs.Laws.{found-past}
+use Rattle.header.specs.laws.Parameters.{found-past}
 use borrow.Author.Needs.{needs}
 use native.Mathlib.Omega.{arith}
 use Rattle.header.proofs.parameter_at.Statement.{statement}

@@ -2,8 +2,8 @@
 use mathlib.Core.Path.{_≡_, sym, _∙_}
 use Rattle.header.specs.declared.Scan.the-variants.{Whole}
 use Rattle.header.specs.Parameters.{readHeader}
-use Rattle.header.specs.Scan.{scanHeader}
-use Rattle.header.specs.Exact.{outcome, read-short, read-scanned, scan-inside}
+use Rattle.header.specs.laws.Scan.{scanHeader}
+use Rattle.header.specs.laws.Exact.{outcome, read-short, read-scanned, scan-inside}
 use borrow.Author.Needs.{needs}
 use native.Mathlib.Omega.{arith}
 use Rattle.header.proofs.read.Statement.{statement}

@@ -1,6 +1,6 @@
 -- The data ends by `end`, or not.
 use mathlib.Core.Path.{sym}
-use Rattle.header.specs.Laws.{within-is, within-not}
+use Rattle.header.specs.laws.Parameters.{within-is, within-not}
 use native.Mathlib.Omega.{arith}
 use Rattle.header.proofs.whole.Statement.{statement}
 use Rattle.header.proofs.whole.Tie as tie

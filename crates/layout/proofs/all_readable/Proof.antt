@@ -5,7 +5,7 @@ use mathlib.Core.Path.{_≡_, refl, sym, _∙_}
 use Prim.Native.Nat.{_+_, _-_, _*_, _≤_}
 use native.Mathlib.Omega.{arith}
 use Rattle.layout.specs.Layout.{readableFrom}
-use Rattle.layout.specs.Laws.{readable-none, readable-more}
+use Rattle.layout.specs.laws.Layout.{readable-none, readable-more}
 use borrow.Author.Needs.{needs}
 use Rattle.layout.proofs.all_readable.Statement.{statement}
 use Rattle.layout.proofs.all_readable.Tie as tie

@@ -3,7 +3,7 @@
 use mathlib.Core.Path.{refl, _∙_}
 use lib.ListN.{length-set}
 use Rattle.layout.specs.Layout.{wordsOf}
-use Rattle.layout.specs.Laws.{two-put}
+use Rattle.layout.specs.laws.Layout.{two-put}
 use borrow.Author.Needs.{needs}
 use Rattle.layout.proofs.put_collector.Statement.{statement}
 use Rattle.layout.proofs.put_collector.Tie as tie

@@ -1,6 +1,6 @@
 -- `layout::put_counts` meets its contract.
 -- Assumes nothing.
-use Rattle.layout.specs.Laws.{five-put}
+use Rattle.layout.specs.laws.Layout.{five-put}
 use borrow.Author.Needs.{needs}
 use Rattle.layout.proofs.put_counts.Statement.{statement}
 use Rattle.layout.proofs.put_counts.Tie as tie

@@ -1,6 +1,6 @@
 -- `layout::put_five` meets its contract.
 -- Assumes nothing.
-use Rattle.layout.specs.Laws.{five-put}
+use Rattle.layout.specs.laws.Layout.{five-put}
 use borrow.Author.Needs.{needs}
 use Rattle.layout.proofs.put_five.Statement.{statement}
 use Rattle.layout.proofs.put_five.Tie as tie

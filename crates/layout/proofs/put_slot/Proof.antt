@@ -1,7 +1,7 @@
 -- `layout::put_slot` meets its contract.
 -- Assumes nothing.
 use Rattle.layout.specs.Layout.{stageTag, headerWord, bodyWord}
-use Rattle.layout.specs.Laws.{ten-put}
+use Rattle.layout.specs.laws.Layout.{ten-put}
 use borrow.Author.Needs.{needs}
 use Rattle.layout.proofs.put_slot.Statement.{statement}
 use Rattle.layout.proofs.put_slot.Tie as tie

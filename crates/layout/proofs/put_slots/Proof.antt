@@ -8,7 +8,7 @@ use Prim.Native.Nat.{_+_, _-_, _*_, _≤_}
 use native.Mathlib.Omega.{arith}
 use lib.ListN.{length, take, drop}
 use Rattle.layout.specs.Layout.{slotsWords}
-use Rattle.layout.specs.Laws.{put-length, put-turn, put-end}
+use Rattle.layout.specs.laws.Layout.{put-length, put-turn, put-end}
 use borrow.Author.Needs.{needs}
 use Rattle.layout.proofs.put_slots.Statement.{statement}
 use Rattle.layout.proofs.put_slots.Tie as tie

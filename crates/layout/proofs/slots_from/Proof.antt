@@ -7,7 +7,7 @@ use Prim.Native.Nat.{_+_, _-_, _*_, _≤_}
 use native.Mathlib.Omega.{arith}
 use lib.ListN.{length, take, length-set}
 use Rattle.layout.specs.Layout.{slotsFrom}
-use Rattle.layout.specs.Laws.{from-turn}
+use Rattle.layout.specs.laws.Layout.{from-turn}
 use borrow.Author.Needs.{needs}
 use Rattle.layout.proofs.slots_from.Statement.{statement}
 use Rattle.layout.proofs.slots_from.Tie as tie

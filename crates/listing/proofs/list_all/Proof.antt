@@ -3,7 +3,7 @@
 use native.Mathlib.Omega.{arith}
 use borrow.Author.Needs.{needs}
 use Rattle.listing.specs.Listed.{storesOf, listedAs, Reads}
-use Rattle.listing.specs.Laws.{reads-none, reads-on}
+use Rattle.listing.specs.laws.Listed.{reads-none, reads-on}
 use Rattle.listing.proofs.list_all.Statement.{statement}
 use Rattle.listing.proofs.list_all.Tie as tie
 

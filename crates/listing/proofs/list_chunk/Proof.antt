@@ -8,9 +8,9 @@ use native.Mathlib.Omega.{arith}
 use lib.ListN.{length, drop, drop-of-length-le}
 use borrow.Author.Needs.{needs}
 use Rattle.listing_input.specs.declared.Gathered.{Gathered}
-use Rattle.listing_input.specs.Chunks.{further}
+use Rattle.listing_input.specs.laws.Chunks.{further}
 use Rattle.listing.specs.Listed.{Listed, storesOf, listedAs, inputListed}
-use Rattle.listing.specs.Laws.{input-none, turn-ended, turn-kept}
+use Rattle.listing.specs.laws.Listed.{input-none, turn-ended, turn-kept}
 use Rattle.listing.proofs.list_chunk.Statement.{statement}
 use Rattle.listing.proofs.list_chunk.Tie as tie
 

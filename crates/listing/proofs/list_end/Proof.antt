@@ -3,7 +3,7 @@
 use mathlib.Core.Path.{sym, _∙_}
 use borrow.Author.Needs.{needs}
 use Rattle.listing.specs.Listed.{storesOf, listedAs}
-use Rattle.listing.specs.Laws.{end-some, end-none}
+use Rattle.listing.specs.laws.Listed.{end-some, end-none}
 use Rattle.listing.proofs.list_end.Statement.{statement}
 use Rattle.listing.proofs.list_end.Tie as tie
 

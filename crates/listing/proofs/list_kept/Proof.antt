@@ -2,7 +2,7 @@
 -- Assumes nothing.
 use borrow.Author.Needs.{needs}
 use Rattle.listing.specs.Listed.{storesOf, listedAs}
-use Rattle.listing.specs.Laws.{line-listed}
+use Rattle.listing.specs.laws.Listed.{line-listed}
 use Rattle.listing.proofs.list_kept.Statement.{statement}
 use Rattle.listing.proofs.list_kept.Tie as tie
 

@@ -8,7 +8,7 @@ use native.Mathlib.Omega.{arith}
 use lib.ListN.{length, set, length-set, length-take}
 use borrow.Author.Needs.{needs}
 use Rattle.octets.specs.Octets.{over}
-use Rattle.octets.specs.Over.{over-none, over-more}
+use Rattle.octets.specs.laws.Over.{over-none, over-more}
 use Rattle.listing_input.specs.Line.{checkOf}
 use Rattle.listing_input.proofs.add_check.Statement.{statement}
 use Rattle.listing_input.proofs.add_check.Tie as tie

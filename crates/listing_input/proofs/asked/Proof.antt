@@ -8,12 +8,12 @@ use native.Mathlib.Omega.{arith}
 use lib.ListN.{length, take, length-append}
 use borrow.Author.Needs.{needs}
 use Rattle.octets.specs.Octets.{over}
-use Rattle.octets.specs.Over.{over-inside}
+use Rattle.octets.specs.laws.Over.{over-inside}
 use Rattle.listing_input.specs.declared.Line.the-variants.{Group, Drop}
 use Rattle.listing_input.specs.Hex.{bytesOf}
 use Rattle.listing_input.specs.Line.{checkOf}
-use Rattle.listing_input.specs.Run.{over-nothing, over-joined}
-use Rattle.listing_input.specs.Theorems.{bytes-length}
+use Rattle.listing_input.specs.laws.Run.{over-nothing, over-joined}
+use Rattle.listing_input.specs.laws.Theorems.{bytes-length}
 use Rattle.listing_input.proofs.Cases.{asks-whole, asks-unchecked, asks-drop, asks-other-count, asks-other-letter}
 use Rattle.listing_input.proofs.asked.Statement.{statement}
 use Rattle.listing_input.proofs.asked.Tie as tie

@@ -9,9 +9,9 @@ use lib.ListN.{length, take, getD, set, length-set}
 use lib.Seq.{take-all}
 use borrow.Author.Needs.{needs}
 use Rattle.octets.specs.Octets.{over}
-use Rattle.octets.specs.Over.{over-none, over-more}
+use Rattle.octets.specs.laws.Over.{over-none, over-more}
 use Rattle.listing_input.specs.Hex.{bytesOf}
-use Rattle.listing_input.specs.Theorems.{bytes-length}
+use Rattle.listing_input.specs.laws.Theorems.{bytes-length}
 use Rattle.listing_input.proofs.Hex.{hex-digit, byte-at}
 use Rattle.listing_input.proofs.decode.Statement.{statement}
 use Rattle.listing_input.proofs.decode.Tie as tie

@@ -11,7 +11,7 @@ use borrow.Author.Tests.{lt-ltb, le-ltb}
 use borrow.Author.Needs.{needs}
 use Rattle.octets.specs.Octets.{over}
 use Rattle.listing_input.specs.Gather.{most, before, roomFor, lineEnd, gathered, lineAfter}
-use Rattle.listing_input.specs.Run.{over-nothing}
+use Rattle.listing_input.specs.laws.Run.{over-nothing}
 use Rattle.listing_input.proofs.Pieces.{none-left, end-here, starts-before, ends-within, piece-is}
 use Rattle.listing_input.proofs.gather.Statement.{statement}
 use Rattle.listing_input.proofs.gather.Tie as tie

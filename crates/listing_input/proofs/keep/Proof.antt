@@ -7,9 +7,9 @@ use lib.ListN.{length, take, length-take, length-drop}
 use lib.Seq.{length-take-le}
 use borrow.Rule.Slice.PartMut.{putMid}
 use borrow.Author.Needs.{needs}
-use Rattle.octets.specs.Over.{over-start}
+use Rattle.octets.specs.laws.Over.{over-start}
 use Rattle.listing_input.specs.Gather.{roomFor}
-use Rattle.listing_input.specs.Run.{over-nothing}
+use Rattle.listing_input.specs.laws.Run.{over-nothing}
 use Rattle.listing_input.proofs.Pieces.{no-room, room-for-all}
 use Rattle.listing_input.proofs.keep.Statement.{statement}
 use Rattle.listing_input.proofs.keep.Tie as tie

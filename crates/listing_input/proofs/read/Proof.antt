@@ -9,8 +9,8 @@ use lib.Seq.{take-all}
 use borrow.Author.Tests.{not-true, not-false}
 use borrow.Author.Needs.{needs}
 use Rattle.listing_input.specs.Hex.{isHex}
-use Rattle.listing_input.specs.Run.{over-nothing}
-use Rattle.listing_input.specs.Theorems.{too-long}
+use Rattle.listing_input.specs.laws.Run.{over-nothing}
+use Rattle.listing_input.specs.laws.Theorems.{too-long}
 use Rattle.listing_input.proofs.Cases.{too-short, no-tab, no-hex, well-formed}
 use Rattle.listing_input.proofs.read.Statement.{statement}
 use Rattle.listing_input.proofs.read.Tie as tie

@@ -8,8 +8,8 @@ use lib.ListN.{length, set, length-append}
 use borrow.Author.Needs.{needs}
 use borrow.Rule.Slice.PartMut.{putMid}
 use Rattle.octets.specs.Octets.{over}
-use Rattle.octets.specs.Over.{over-one, over-length, over-start}
-use Rattle.listing_input.specs.Run.{over-joined}
+use Rattle.octets.specs.laws.Over.{over-one, over-length, over-start}
+use Rattle.listing_input.specs.laws.Run.{over-joined}
 use Rattle.listing_output.proofs.put.Statement.{statement}
 use Rattle.listing_output.proofs.put.Tie as tie
 

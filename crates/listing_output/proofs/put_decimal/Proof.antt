@@ -4,7 +4,7 @@ use borrow.Author.Needs.{needs}
 use mathlib.Core.Path.{ap, _∙_}
 use mathlib.Core.List.{List, [], _∷_, _++_}
 use Prim.Native.Nat.{ℕ}
-use Rattle.listing_output.specs.Put.{put-same}
+use Rattle.listing_output.specs.laws.Put.{put-same}
 use Rattle.listing_output.proofs.Fields.{decimal-ends, to-the-end}
 use Rattle.listing_output.proofs.put_decimal.Statement.{statement}
 use Rattle.listing_output.proofs.put_decimal.Tie as tie

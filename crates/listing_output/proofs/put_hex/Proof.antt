@@ -3,7 +3,7 @@
 use borrow.Author.Needs.{needs}
 use native.Mathlib.Omega.{arith}
 use Rattle.listing_output.specs.Number.{fourDigits}
-use Rattle.listing_output.specs.Put.{put-same}
+use Rattle.listing_output.specs.laws.Put.{put-same}
 use Rattle.listing_output.proofs.put_hex.Statement.{statement}
 use Rattle.listing_output.proofs.put_hex.Tie as tie
 

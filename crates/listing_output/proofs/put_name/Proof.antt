@@ -6,7 +6,7 @@ use mathlib.Core.List.{List, [], _∷_, _++_}
 use Prim.Native.Nat.{ℕ}
 use native.Mathlib.Omega.{arith}
 use lib.ListN.{length-take}
-use Rattle.listing_output.specs.Put.{put-same}
+use Rattle.listing_output.specs.laws.Put.{put-same}
 use Rattle.listing_output.specs.Text.{space}
 use Rattle.listing_output.proofs.Fields.{name-short, name-ends, spelt-within, spelt-front}
 use Rattle.listing_output.proofs.put_name.Statement.{statement}

@@ -5,7 +5,7 @@ use mathlib.Core.Path.{sym, ap}
 use mathlib.Core.List.{[], _∷_, _++_}
 use native.Mathlib.Omega.{arith}
 use Rattle.answer.specs.declared.Part.{Part}
-use Rattle.listing_output.specs.Put.{put-same}
+use Rattle.listing_output.specs.laws.Put.{put-same}
 use Rattle.listing_output.specs.Text.{space, partOf}
 use Rattle.listing_output.proofs.put_part.Statement.{statement}
 use Rattle.listing_output.proofs.put_part.Tie as tie

@@ -4,7 +4,7 @@ use borrow.Author.Needs.{needs}
 use mathlib.Core.Path.{sym, ap}
 use native.Mathlib.Omega.{arith}
 use Rattle.answer.specs.declared.Returned.{Returned}
-use Rattle.listing_output.specs.Put.{put-same, put-then}
+use Rattle.listing_output.specs.laws.Put.{put-same, put-then}
 use Rattle.listing_output.specs.Text.{textOf, valuesOf}
 use Rattle.listing_output.proofs.put_returned.Statement.{statement}
 use Rattle.listing_output.proofs.put_returned.Tie as tie

@@ -2,7 +2,7 @@
 -- Assumes nothing.
 use borrow.Author.Needs.{needs}
 use native.Mathlib.Omega.{arith}
-use Rattle.listing_output.specs.Put.{put-then}
+use Rattle.listing_output.specs.laws.Put.{put-then}
 use Rattle.listing_output.proofs.put_segment.Statement.{statement}
 use Rattle.listing_output.proofs.put_segment.Tie as tie
 

@@ -10,7 +10,7 @@ use Rattle.answer.specs.declared.Returned.the-variants.{Segment, Number, Nothin
 use Rattle.answer.specs.Letters.{letters}
 use Rattle.answer.specs.Table.{nameOf, returnedWith}
 use Rattle.listing_output.specs.Number.{decimal}
-use Rattle.listing_output.specs.Put.{put-same, put-then, put-whole}
+use Rattle.listing_output.specs.laws.Put.{put-same, put-then, put-whole}
 use Rattle.listing_output.specs.Text.{space, textOf, valuesOf, answerText}
 use Rattle.listing_output.proofs.write_answer.Statement.{statement}
 use Rattle.listing_output.proofs.write_answer.Tie as tie

@@ -2,7 +2,7 @@
 -- Assumes nothing.
 use borrow.Author.Needs.{needs}
 use native.Mathlib.Omega.{arith}
-use Rattle.listing_output.specs.Put.{put-then, put-whole}
+use Rattle.listing_output.specs.laws.Put.{put-then, put-whole}
 use Rattle.listing_output.specs.Text.{countsText}
 use Rattle.listing_output.proofs.write_counts.Statement.{statement}
 use Rattle.listing_output.proofs.write_counts.Tie as tie

@@ -8,15 +8,15 @@ use native.Mathlib.Omega.{arith}
 use lib.ListN.{length, getD, take, drop, length-take}
 use Rattle.header.specs.declared.Found.the-variants.{One}
 use Rattle.header.specs.Parameters.{foundAt}
-use Rattle.header.specs.Laws.{found-known, found-on}
+use Rattle.header.specs.laws.Parameters.{found-known, found-on}
 use Rattle.object.specs.declared.Slot.{Slot}
 use Rattle.object.specs.declared.Stage.the-variants.{Free}
 use Rattle.slots.specs.Stores.{noRecord, freeSlot}
 use Rattle.names.specs.declared.Holder.{Holder}
 use Rattle.names.specs.declared.Holder.the-variants.{Number}
 use Rattle.names.specs.Finding.{headerIn, lower, holderIn, lowestFrom, foundByName}
-use Rattle.names.specs.Legible.{Left, left-first, left-none, left-whole, left-here, left-on}
-use Rattle.names.specs.Lower.{lower-nobody, lower-zero, holder-not, holder-is, lowest-none, lowest-on}
+use Rattle.names.specs.laws.Legible.{Left, left-first, left-none, left-whole, left-here, left-on}
+use Rattle.names.specs.laws.Lower.{lower-nobody, lower-zero, holder-not, holder-is, lowest-none, lowest-on}
 use borrow.Author.Needs.{needs}
 use Rattle.names.proofs.find.Statement.{statement}
 use Rattle.names.proofs.find.Tie as tie

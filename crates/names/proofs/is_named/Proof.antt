@@ -4,7 +4,7 @@ use mathlib.Core.Path.{_≡_}
 use Prim.Native.Nat.{_+_, _-_}
 use native.Mathlib.Omega.{arith}
 use borrow.Author.Tests.{eq-eqb, ne-eqb}
-use Rattle.header.specs.Search.{isNamed}
+use Rattle.header.specs.laws.Search.{isNamed}
 use borrow.Author.Needs.{needs}
 use Rattle.names.proofs.is_named.Statement.{statement}
 use Rattle.names.proofs.is_named.Tie as tie

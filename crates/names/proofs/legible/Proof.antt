@@ -1,7 +1,7 @@
 -- `names::legible` meets its contract: what reading the header gives decides.
 -- Assumes nothing.
 use mathlib.Core.Path.{sym, _∙_}
-use Rattle.names.specs.Legible.{legible}
+use Rattle.names.specs.laws.Legible.{legible}
 use borrow.Author.Needs.{needs}
 use Rattle.names.proofs.legible.Statement.{statement}
 use Rattle.names.proofs.legible.Tie as tie

@@ -7,7 +7,7 @@ use lib.ListN.{length}
 use Rattle.header.specs.declared.Name.the-variants.{Data}
 use Rattle.header.specs.Parameters.{readHeader, nameIn}
 use Rattle.names.specs.Finding.{nameData}
-use Rattle.names.specs.Theorems.{name-within}
+use Rattle.names.specs.laws.Theorems.{name-within}
 use borrow.Author.Needs.{needs}
 use Rattle.names.proofs.name_data.Statement.{statement}
 use Rattle.names.proofs.name_data.Tie as tie

@@ -5,7 +5,7 @@ use native.Mathlib.Nat.{zero-add}
 use lib.ListN.{length, take, length-set}
 use lib.Seq.{take-length}
 use Rattle.octets.specs.Octets.{over}
-use Rattle.octets.specs.Over.{over-none, over-more}
+use Rattle.octets.specs.laws.Over.{over-none, over-more}
 use borrow.Author.Needs.{needs}
 use native.Mathlib.Omega.{arith}
 use Rattle.octets.proofs.copy_in.Statement.{statement}

@@ -4,7 +4,7 @@ use mathlib.Core.Path.{_≡_, refl, sym, _∙_}
 use lib.ListN.{length, getD, take, drop, length-set, length-drop}
 use lib.Seq.{getD-drop, length-take-le}
 use Rattle.octets.specs.Octets.{over}
-use Rattle.octets.specs.Over.{over-none, over-more, over-past}
+use Rattle.octets.specs.laws.Over.{over-none, over-more, over-past}
 use borrow.Author.Needs.{needs}
 use native.Mathlib.Omega.{arith}
 use Rattle.octets.proofs.move_down.Statement.{statement}

@@ -5,8 +5,8 @@ use borrow.Author.Tests.{lt-leb}
 use lib.ListN.{length, take, drop}
 use lib.Seq.{drop-length, drop-drop}
 use Rattle.octets.specs.Octets.{sumOf, summed}
-use Rattle.octets.specs.Over.{part-length}
-use Rattle.octets.specs.Marks.{summed-short, sum-split}
+use Rattle.octets.specs.laws.Over.{part-length}
+use Rattle.octets.specs.laws.Marks.{summed-short, sum-split}
 use native.Mathlib.Omega.{arith}
 use borrow.Author.Needs.{needs}
 use Rattle.octets.proofs.sum.Statement.{statement}

@@ -2,10 +2,10 @@
 -- Assumes nothing.
 use mathlib.Core.Path.{sym, ap, _∙_}
 use borrow.Author.Tests.{not-true, not-false}
-use Rattle.slots.specs.Ready.{sound-limits}
+use Rattle.slots.specs.laws.Ready.{sound-limits}
 use Rattle.slots.specs.Stores.{Stores}
 use Rattle.queries.specs.Questions.{soughtAs, find}
-use Rattle.queries.specs.Theorems.{slots-sound}
+use Rattle.queries.specs.laws.Theorems.{slots-sound}
 use borrow.Author.Needs.{needs}
 use Rattle.queries.proofs.find.Statement.{statement}
 use Rattle.queries.proofs.find.Tie as tie

@@ -1,7 +1,7 @@
 -- `slot::is_sound` meets its contract, test by test.
 -- Assumes nothing.
 use Rattle.slot.proofs.Laws.{through₂, through₃, marks-numbers, header-numbers, both-only}
-use Rattle.slot.specs.Meets.{sound-tests}
+use Rattle.slot.specs.laws.Meets.{sound-tests}
 use Rattle.slot.specs.Inner.{marksOf, coreFrom, marksRight, rightAs, slotFrom}
 use Rattle.object.specs.Sound.{sameStage}
 use Rattle.object.specs.Take.{stageBy}

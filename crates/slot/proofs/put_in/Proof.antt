@@ -1,6 +1,6 @@
 use borrow.Author.Needs.{needs}
 use Rattle.slot.specs.Inner.{putIn}
-use Rattle.octets.specs.Over.{over-start}
+use Rattle.octets.specs.laws.Over.{over-start}
 use Rattle.octets.specs.Octets.{over}
 use borrow.Rule.Slice.PartMut.{putMid}
 use lib.ListN.{length}

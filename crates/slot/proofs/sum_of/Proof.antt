@@ -3,7 +3,7 @@
 use mathlib.Core.Path.{ap, _∙_}
 use native.Mathlib.Omega.{arith}
 use Rattle.octets.specs.Octets.{summed}
-use Rattle.octets.specs.Marks.{summed-short}
+use Rattle.octets.specs.laws.Marks.{summed-short}
 use Rattle.slot.specs.Inner.{marksOf}
 use Rattle.slot.proofs.Laws.{marks-short}
 use borrow.Author.Needs.{needs}

@@ -6,7 +6,7 @@ use native.Mathlib.Omega.{arith}
 use lib.ListN.{length, take, drop, length-take, length-drop}
 use lib.Seq.{take-all}
 use Rattle.octets.specs.Octets.{summed, sumOf}
-use Rattle.octets.specs.Marks.{summed-short, sum-split}
+use Rattle.octets.specs.laws.Marks.{summed-short, sum-split}
 use borrow.Author.Needs.{needs}
 use Rattle.slot.proofs.sum_past.Statement.{statement}
 use Rattle.slot.proofs.sum_past.Tie as tie

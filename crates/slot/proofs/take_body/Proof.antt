@@ -1,7 +1,7 @@
 -- `slot::take_body` meets its contract: beyond, held, or new, as the definition goes.
 -- Assumes nothing.
 use Rattle.slot.proofs.Laws.{pos, through₂, body-mark}
-use Rattle.slot.specs.Meets.{core-meets, record-meets, body-meets, take-held, take-new, take-beyond, taken-as, marks-long, held-inside, fits-ready}
+use Rattle.slot.specs.laws.Meets.{core-meets, record-meets, body-meets, take-held, take-new, take-beyond, taken-as, marks-long, held-inside, fits-ready}
 use Rattle.slot.specs.Inner.{marksOf, coreFrom, Offered}
 use Rattle.object.specs.Take.{Lent, partsOf, partsWith}
 use Rattle.cut.specs.Requirement.{Segment}

@@ -13,7 +13,7 @@ use Rattle.slots.specs.Alone.{coreAlone}
 use Rattle.slots.proofs.Laws.{both-only}
 use borrow.Author.Tests.{not-true, not-false}
 use Rattle.cut.specs.Requirement.{Segment}
-use Rattle.slots.specs.AloneTests.{alone-tests, alone-beyond}
+use Rattle.slots.specs.laws.AloneTests.{alone-tests, alone-beyond}
 use borrow.Author.Needs.{needs}
 use Rattle.slots.proofs.fits_alone.Statement.{statement}
 use Rattle.slots.proofs.fits_alone.Tie as tie

@@ -2,7 +2,7 @@
 -- Assumes nothing.
 use mathlib.Core.Path.{refl}
 use native.Mathlib.Omega.{arith}
-use Rattle.yovtirak.specs.Laws.{part-small}
+use Rattle.yovtirak.specs.laws.Exports.{part-small}
 use borrow.Author.Needs.{needs}
 use Rattle.yovtirak.proofs.heard_word.Statement.{statement}
 use Rattle.yovtirak.proofs.heard_word.Tie as tie

@@ -3,7 +3,7 @@
 use native.Mathlib.Omega.{arith}
 use lib.ListN.{length-set}
 use Rattle.yovtirak.specs.Exports.{priorityWord, nameStart, nameLength}
-use Rattle.yovtirak.specs.Laws.{seven-put}
+use Rattle.yovtirak.specs.laws.Exports.{seven-put}
 use borrow.Author.Needs.{needs}
 use Rattle.yovtirak.proofs.put_fields.Statement.{statement}
 use Rattle.yovtirak.proofs.put_fields.Tie as tie

@@ -1,7 +1,7 @@
 -- `yovtirak::put_place` meets its contract.
 -- Assumes nothing.
 use Rattle.layout.specs.Layout.{headerWord, bodyWord}
-use Rattle.yovtirak.specs.Laws.{three-put}
+use Rattle.yovtirak.specs.laws.Exports.{three-put}
 use borrow.Author.Needs.{needs}
 use Rattle.yovtirak.proofs.put_place.Statement.{statement}
 use Rattle.yovtirak.proofs.put_place.Tie as tie

@@ -2,7 +2,7 @@
 -- Assumes nothing.
 use Rattle.collector.proofs.Laws.{answered-as, state-slots}
 use Rattle.collector.specs.Calls.{withSlots, dropNumber}
-use Rattle.slots.specs.Ready.{found-inside}
+use Rattle.slots.specs.laws.Ready.{found-inside}
 use Rattle.slots.specs.Take.{DroppedAt}
 use Rattle.slots.specs.Stores.{Stores}
 use Rattle.object.specs.declared.Slot.{Slot}

@@ -1,7 +1,7 @@
 -- `collector::Collector::locate` meets its contract: STATE, NOTHELD, then the stage.
 -- Assumes nothing.
 use Rattle.collector.specs.Calls.{locate}
-use Rattle.slots.specs.Ready.{found-inside}
+use Rattle.slots.specs.laws.Ready.{found-inside}
 use Rattle.slots.specs.Stores.{Stores, freeSlot, slotAt}
 use Rattle.collector.proofs.Laws.{state-slots}
 use borrow.Author.Tests.{not-true, not-false}

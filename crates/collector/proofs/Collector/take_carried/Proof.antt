@@ -5,7 +5,7 @@ use native.Mathlib.Omega.{arith}
 use Rattle.cut.specs.Requirement.{Segment}
 use Rattle.slots.specs.Stores.{Stores, freeSlot, slotAt}
 use Rattle.slots.specs.Take.{OfferedAt, takeAt}
-use Rattle.slots.specs.Ready.{sound-offered}
+use Rattle.slots.specs.laws.Ready.{sound-offered}
 use Rattle.collector.proofs.Laws.{put-as}
 use borrow.Author.Needs.{needs}
 use Rattle.collector.proofs.Collector.take_carried.Statement.{statement}

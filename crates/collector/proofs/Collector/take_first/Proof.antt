@@ -5,8 +5,8 @@ use native.Mathlib.Omega.{arith}
 use Rattle.cut.specs.Requirement.{Segment}
 use Rattle.slots.specs.Stores.{Stores, freshSlot}
 use Rattle.slots.specs.Take.{OpenAt, takeNew}
-use Rattle.slots.specs.Ready.{sound-open}
-use Rattle.slots.specs.Fresh.{fresh-offered}
+use Rattle.slots.specs.laws.Ready.{sound-open}
+use Rattle.slots.specs.laws.Fresh.{fresh-offered}
 use Rattle.collector.proofs.Laws.{put-as}
 use borrow.Author.Tests.{not-true, not-false}
 use borrow.Author.Needs.{needs}

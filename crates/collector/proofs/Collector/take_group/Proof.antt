@@ -4,7 +4,7 @@ use Prim.Native.Nat.{_+_, _-_, _≤_}
 use mathlib.Core.Path.{_≡_, refl, sym, ap, _∙_}
 use native.Mathlib.Omega.{arith}
 use lib.ListN.{length}
-use Rattle.wire.specs.Theorems.{inside}
+use Rattle.wire.specs.laws.Theorems.{inside}
 use Rattle.collector.specs.Calls.{refusalOf, segmentIn, takeGroup}
 use Rattle.collector.proofs.Laws.{state-slots}
 use borrow.Author.Tests.{not-true, not-false}

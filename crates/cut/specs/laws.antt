@@ -1,0 +1,10 @@
+pub mod Core
+pub mod Segment
+pub mod Decision
+pub mod Object
+pub mod Order
+pub mod Theorem
+pub mod Finished
+pub mod Known
+pub mod Marks
+pub mod Cases

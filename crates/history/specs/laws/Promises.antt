@@ -1,0 +1,180 @@
+-- THE PROMISES: our collector keeps them, each a theorem of its own. A wrong collector is refused here, by name.
+use mathlib.Core.Path.{refl}
+use Rattle.history.specs.laws.Refused.{refused-group, unanswered-group, refused-drop, repeated-group, drop-stores, limits-exactly, opened-leaves, unopened-leaves}
+use Rattle.history.specs.laws.State.{group-state, drop-state, ask-state}
+use Rattle.history.specs.Ours.{ours}
+use Rattle.history.specs.Promise.{RefusedLeaves, UnansweredLeaves, RepeatLeaves, StateExactly, MarkedExactly, LimitsExactly, OpenedLeaves, UnopenedLeaves, NeverState, UndroppedLeaves, StateDropExactly, DropKeepsStores, StateAskExactly, AskedLeaves, OthersLeave, ShownJoined, UnfinishedUnshown, CountsTold, ConflictExactly, FullExactly, RepeatExactly, CompleteExactly, StoredExactly, LowestFreeTaken, UnreadRefused, DropExactly, UnheldExactly, NoneFreeExactly, FinishedExactly, FinishedLengths, NotHeldExactly, UnfinishedExactly, LocatedExactly, ReadExactly, NamesRead, FoundExactly, NotFoundExactly, OneCutAgrees, OneCutFinishes, Promised}
+use Rattle.history.specs.laws.Demands.{marked-answered, never-state, others-held, run-answered, finished-exactly, finished-lengths}
+use Rattle.history.specs.laws.Room.{none-free-exactly}
+use Rattle.history.specs.laws.Tally.{reached-counts}
+use Rattle.history.specs.laws.OneCut.{one-cut-agrees, one-cut-finishes}
+
+-- ---- demand 1
+
+pub refused-promised : RefusedLeaves ours
+refused-promised = refused-group
+
+pub unanswered-promised : UnansweredLeaves ours
+unanswered-promised = unanswered-group
+
+pub repeating-promised : RepeatLeaves ours
+repeating-promised = repeated-group
+
+pub state-promised : StateExactly ours
+state-promised = group-state
+
+pub marked-promised : MarkedExactly ours
+marked-promised = marked-answered
+
+pub limits-promised : LimitsExactly ours
+limits-promised = limits-exactly
+
+pub opened-promised : OpenedLeaves ours
+opened-promised = opened-leaves
+
+pub unopened-promised : UnopenedLeaves ours
+unopened-promised = unopened-leaves
+
+pub never-state-promised : NeverState ours
+never-state-promised r = never-state (r .start) (r .allowed) (r .calls) (r .bytes)
+
+pub undropped-promised : UndroppedLeaves ours
+undropped-promised = refused-drop
+
+pub state-drop-promised : StateDropExactly ours
+state-drop-promised = drop-state
+
+pub drop-keeps-promised : DropKeepsStores ours
+drop-keeps-promised = drop-stores
+
+pub state-ask-promised : StateAskExactly ours
+state-ask-promised = ask-state
+
+pub asking-promised : AskedLeaves ours
+asking-promised question s = refl
+
+pub others-promised : OthersLeave ours
+others-promised = others-held
+
+-- ---- demand 2
+
+pub shown-promised : ShownJoined ours
+shown-promised r = run-answered r .shown
+
+pub unshown-promised : UnfinishedUnshown ours
+unshown-promised r = run-answered r .unshown
+
+pub counts-promised : CountsTold ours
+counts-promised r = reached-counts (r .start) (r .allowed) (r .calls)
+
+-- ---- demand 3
+
+pub conflict-promised : ConflictExactly ours
+conflict-promised r = run-answered r .conflict
+
+pub full-promised : FullExactly ours
+full-promised r = run-answered r .full
+
+pub repeated-promised : RepeatExactly ours
+repeated-promised r = run-answered r .repeated
+
+pub complete-promised : CompleteExactly ours
+complete-promised r = run-answered r .complete
+
+pub storing-promised : StoredExactly ours
+storing-promised r = run-answered r .storing
+
+pub lowest-promised : LowestFreeTaken ours
+lowest-promised r = run-answered r .lowest
+
+pub unread-promised : UnreadRefused ours
+unread-promised r = run-answered r .unread
+
+pub dropping-promised : DropExactly ours
+dropping-promised r = run-answered r .dropping
+
+pub unheld-promised : UnheldExactly ours
+unheld-promised r = run-answered r .unheld
+
+pub none-free-promised : NoneFreeExactly ours
+none-free-promised r = none-free-exactly (r .start) (r .allowed) (r .calls) (r .bytes)
+
+pub finished-promised : FinishedExactly ours
+finished-promised = finished-exactly
+
+pub lengths-promised : FinishedLengths ours
+lengths-promised = finished-lengths
+
+pub agrees-promised : OneCutAgrees ours
+agrees-promised = one-cut-agrees
+
+pub finishes-promised : OneCutFinishes ours
+finishes-promised = one-cut-finishes
+
+-- ---- the questions
+
+pub not-held-promised : NotHeldExactly ours
+not-held-promised r = run-answered r .notHeld
+
+pub unfinished-promised : UnfinishedExactly ours
+unfinished-promised r = run-answered r .unfinished
+
+pub located-promised : LocatedExactly ours
+located-promised r = run-answered r .located
+
+pub reading-promised : ReadExactly ours
+reading-promised r = run-answered r .reading
+
+pub named-promised : NamesRead ours
+named-promised r = run-answered r .named
+
+pub found-promised : FoundExactly ours
+found-promised r = run-answered r .found
+
+pub not-found-promised : NotFoundExactly ours
+not-found-promised r = run-answered r .notFound
+
+-- ---- all of them
+
+pub promised : Promised ours
+promised = record {
+  refused = refused-promised;
+  unanswered = unanswered-promised;
+  repeating = repeating-promised;
+  state = state-promised;
+  marked = marked-promised;
+  limits = limits-promised;
+  opened = opened-promised;
+  unopened = unopened-promised;
+  neverState = never-state-promised;
+  undropped = undropped-promised;
+  stateDrop = state-drop-promised;
+  dropKeeps = drop-keeps-promised;
+  stateAsk = state-ask-promised;
+  asking = asking-promised;
+  others = others-promised;
+  shown = shown-promised;
+  unshown = unshown-promised;
+  counts = counts-promised;
+  conflict = conflict-promised;
+  full = full-promised;
+  repeated = repeated-promised;
+  complete = complete-promised;
+  storing = storing-promised;
+  lowest = lowest-promised;
+  unread = unread-promised;
+  dropping = dropping-promised;
+  unheld = unheld-promised;
+  noneFree = none-free-promised;
+  finished = finished-promised;
+  lengths = lengths-promised;
+  notHeld = not-held-promised;
+  unfinished = unfinished-promised;
+  located = located-promised;
+  reading = reading-promised;
+  named = named-promised;
+  found = found-promised;
+  notFound = not-found-promised;
+  agrees = agrees-promised;
+  finishes = finishes-promised;
+}

@@ -1,0 +1,271 @@
+-- A refusal leaves every store byte, every mark and every slot's record as they were, in any state, and no count but the
+-- refused one rises; what an opening and a drop leave, in any state.
+use mathlib.Core.Path.{_≡_, refl, ap, _∙_}
+use mathlib.Core.Bool.{Bool, true, false}
+use mathlib.Core.Logic.{_↔_}
+use mathlib.Core.List.{List}
+use Prim.Native.Nat.{ℕ, zero, suc, _≤_}
+use native.Mathlib.Omega.{arith}
+use lib.ListN.{length, getD}
+use lib.Seq.{set-getD}
+use Rattle.octets.specs.Octets.{zeros}
+use Rattle.answer.specs.declared.Answer.{Answer}
+use Rattle.answer.specs.declared.Answer.the-variants as Answer
+use Rattle.answer.specs.declared.Heard.{Heard}
+use Rattle.answer.specs.declared.Part.{Part}
+use Rattle.answer.specs.declared.Refusal.{Refusal}
+use Rattle.answer.specs.declared.Refusal.the-variants as Refusal
+use Rattle.answer.specs.Table.{numberOf}
+use Rattle.counts.specs.declared.Counts.{Counts}
+use Rattle.counts.specs.Counted.{noneYet, oneRepeated, oneRefused, counted}
+use Rattle.wire.specs.declared.Segment.{Segment as Carried}
+use Rattle.wire.specs.declared.Reading.{Reading}
+use Rattle.wire.specs.declared.Reading.the-variants.{Read, Refused}
+use Rattle.wire.specs.Reading.{readingOf}
+use Rattle.cut.specs.Lists.{pick}
+use Rattle.cut.specs.Requirement.{limitLeast, Segment}
+use Rattle.cut.specs.laws.Decision.{false-true}
+use Rattle.object.specs.declared.Slot.{Slot}
+use Rattle.object.specs.declared.Stage.{Stage}
+use Rattle.object.specs.declared.Stage.the-variants as Stage
+use Rattle.object.specs.declared.Outcome.{Outcome}
+use Rattle.object.specs.declared.Outcome.the-variants.{Stored, Complete, Repeat, Conflict}
+use Rattle.object.specs.Memory.{segmentAt}
+use Rattle.object.specs.Take.{Lent, partsOf, memoryOf, takesIn, partsWith, stageOf, outcomeBy, Taken, unchanged, sameSegment, ifNew, ifHeld, byMark, takeInto}
+use Rattle.slots.specs.declared.Found.{Found}
+use Rattle.slots.specs.declared.Found.the-variants.{Nothing, At}
+use Rattle.slots.specs.Stores.{freeSlot, freshSlot, slotAt}
+use Rattle.slots.specs.Alone.{fitsAlone}
+use Rattle.slots.specs.laws.Fresh.{fresh-taken}
+use Rattle.slots.specs.laws.StateTests.{limits-hold}
+use Rattle.collector.specs.declared.Opening.the-variants as Opening
+use Rattle.collector.specs.Calls.{answeredBy, heardAs, segmentIn, answerAs, dropFound, dropNumber, allFree, openedBy}
+use Rattle.history.specs.laws.Slots.{Used, limits-within}
+use Rattle.history.specs.laws.Call.{State, Reply, taking, dropping, groupAnswer, groupLeaves, dropAnswer, dropLeaves, sound, limitOf, slotOf, lentOf, find, answering, replacing, offering, Came, alone, full, first, more, group-damaged, unread, came, drop-damaged, none-dropped, found-dropped, lent-same, inLimits, opened-all, opened-none}
+use Rattle.history.specs.laws.State.{InOrder}
+use Rattle.history.specs.History.{Start, Within, begun}
+use Rattle.history.specs.laws.Ready.{used-inside, found-used, free-marks}
+
+-- ---- the offer of a segment
+
+-- what is neither stored nor completes the object changes nothing
+abbrev pub Leaving : Outcome → Type 0
+Leaving Stored = ⊥
+Leaving Complete = ⊥
+Leaving Repeat = Unit {0}
+Leaving Conflict = Unit {0}
+
+stage-stores : (stage : Stage) → Leaving (outcomeBy stage) → ⊥
+stage-stores Stage.Free l = l
+stage-stores Stage.Gathering l = l
+stage-stores (Stage.Finished header body) l = l
+
+offer-leaves : (part : Part) (limit : ℕ) (segment : Segment) (slot : Slot) (lent : Lent) → Leaving (takeInto part limit segment slot lent .outcome) → takeInto part limit segment slot lent ≡ unchanged (takeInto part limit segment slot lent .outcome) slot lent
+unfolding takeInto
+offer-leaves part limit segment slot lent = go (getD (memoryOf part (partsOf slot lent) .marks) (segment .number) 0)
+  where
+    new : (b : Bool) → Leaving (ifNew b part limit segment slot lent .outcome) → ifNew b part limit segment slot lent ≡ unchanged (ifNew b part limit segment slot lent .outcome) slot lent
+    new true l = absurd (stage-stores (stageOf (partsWith part limit segment (partsOf slot lent))) l)
+    new false l = refl
+
+    held : (b : Bool) → ifHeld b slot lent ≡ unchanged (ifHeld b slot lent .outcome) slot lent
+    held true = refl
+    held false = refl
+
+    go : (mark : ℕ) → Leaving (byMark mark part limit segment slot lent .outcome) → byMark mark part limit segment slot lent ≡ unchanged (byMark mark part limit segment slot lent .outcome) slot lent
+    go zero l = new (takesIn part limit segment (partsOf slot lent)) l
+    go (suc mark) l = held (sameSegment segment (segmentAt (memoryOf part (partsOf slot lent)) (segment .number)))
+
+-- the first segment of a number, where it fits alone, is stored
+first-stores : (part : Part) (limit number : ℕ) (segment : Segment) (lent : Lent) → fitsAlone part limit segment ≡ true → takeInto part limit segment (freshSlot number) lent ≡ ifNew (fitsAlone part limit segment) part limit segment (freshSlot number) lent → Leaving (takeInto part limit segment (freshSlot number) lent .outcome) → ⊥
+first-stores part limit number segment lent a e l = stage-stores (stageOf (partsWith part limit segment (partsOf (freshSlot number) lent))) (rw (e, a) at l)
+
+-- ---- a call that is refused, or answered REPEAT
+
+-- the answer leaves the slots and the stores as they were
+abbrev pub Kept : Answer → Type 0
+Kept (Answer.Stored heard) = ⊥
+Kept (Answer.Complete heard) = ⊥
+Kept (Answer.Dropped number) = ⊥
+Kept (Answer.Repeat heard) = Unit {0}
+Kept (Answer.Refused why) = Unit {0}
+Kept (Answer.Conflict heard) = Unit {0}
+Kept (Answer.Full heard) = Unit {0}
+Kept Answer.NotHeld = Unit {0}
+Kept Answer.Unfinished = Unit {0}
+Kept Answer.Header = Unit {0}
+Kept Answer.Duplicate = Unit {0}
+Kept Answer.Core = Unit {0}
+Kept Answer.NotFound = Unit {0}
+Kept Answer.Limits = Unit {0}
+Kept Answer.State = Unit {0}
+
+kept-leaving : (o : Outcome) (heard : Heard) → Kept (answerAs o heard) → Leaving o
+kept-leaving Stored heard k = k
+kept-leaving Complete heard k = k
+kept-leaving Repeat heard k = tt
+kept-leaving Conflict heard k = tt
+
+-- a slot that is replaced by itself and its own shares
+same-replaced : (answer : Answer) (i : ℕ) (s : State) → sound s ≡ true → Used (s .collector .count) i (s .collector .slots) → replacing answer i (slotOf i s) (lentOf i s) s ≡ answering answer s
+unfolding slotAt
+same-replaced answer i s good u = rw (set-getD (s .collector .slots) i freeSlot, lent-same (limitOf s) i (s .stores) (used-inside s good i u)) refl
+
+came-kept : (carried : Carried) (segment : Segment) (s : State) (t : Reply) → sound s ≡ true → Came carried segment s t → Kept (t .answer) → t ≡ answering (t .answer) s
+came-kept carried segment s t good (alone n a e) k = rw e refl
+came-kept carried segment s t good (full n a f e) k = rw e refl
+came-kept carried segment s t good (first i n a f e) k =
+    absurd (first-stores (carried .part) (limitOf s) (carried .number) segment (lentOf i s) a (fresh-taken (carried .part) (limitOf s) (carried .number) segment (lentOf i s) (free-marks s good i f))
+    (kept-leaving (takeInto (carried .part) (limitOf s) segment (freshSlot (carried .number)) (lentOf i s) .outcome) (heardAs carried) (rw e at k)))
+came-kept carried segment s t good (more i n e) k =
+    let x : Taken = takeInto (carried .part) (limitOf s) segment (slotOf i s) (lentOf i s) in
+    let same : x ≡ unchanged (x .outcome) (slotOf i s) (lentOf i s) = offer-leaves (carried .part) (limitOf s) segment (slotOf i s) (lentOf i s) (kept-leaving (x .outcome) (heardAs carried) (rw e at k)) in
+    rw e (ap (offering carried segment i s) same ∙ same-replaced (answerAs (x .outcome) (heardAs carried)) i s good (found-used s good (carried .number) i n))
+
+-- A GROUP that is refused, or that is a repeat, changes nothing but a count
+pub group-kept : (group : List ℕ) (s : State) → Kept (taking group s .answer) → taking group s ≡ answering (taking group s .answer) s
+group-kept group s k = go (sound s) refl (readingOf group) refl
+  where
+    go : (b : Bool) → sound s ≡ b → (reading : Reading) → readingOf group ≡ reading → taking group s ≡ answering (taking group s .answer) s
+    go false d reading e = rw (group-damaged group s d) refl
+    go true d (Refused why) e = rw (unread group s d why e) refl
+    go true d (Read carried) e = came-kept carried (segmentIn group carried) s (taking group s) d (came group s d carried e) k
+
+-- A DROP that is refused changes nothing at all
+pub drop-kept : (number : ℕ) (s : State) → Kept (dropping number s .answer) → dropping number s .left ≡ s
+drop-kept number s k = go (sound s) refl (find number s) refl
+  where
+    go : (b : Bool) → sound s ≡ b → (found : Found) → find number s ≡ found → dropping number s .left ≡ s
+    go false d found e = rw (drop-damaged number s d) refl
+    go true d Nothing e = rw (none-dropped number s d e) refl
+    go true d (At i) e = absurd (rw (found-dropped number s d i (used-inside s d i (found-used s d number i e)) e) at k)
+
+-- ---- demand 1, by the numbers of the answers
+
+unread-number : (why : Refusal) → numberOf (Answer.Refused why) ≤ 16
+unread-number Refusal.Length = omega arith
+unread-number Refusal.NoCheck = omega arith
+unread-number Refusal.BadCheck = omega arith
+unread-number Refusal.Kind = omega arith
+unread-number Refusal.NoSegment = omega arith
+unread-number Refusal.Address = omega arith
+unread-number Refusal.Size = omega arith
+
+refusal-kept : (a : Answer) → 10 ≤ numberOf a → Kept a
+refusal-kept (Answer.Stored heard) h = absurd (omega arith)
+refusal-kept (Answer.Complete heard) h = absurd (omega arith)
+refusal-kept (Answer.Repeat heard) h = tt
+refusal-kept (Answer.Dropped number) h = absurd (omega arith)
+refusal-kept (Answer.Refused why) h = tt
+refusal-kept (Answer.Conflict heard) h = tt
+refusal-kept (Answer.Full heard) h = tt
+refusal-kept Answer.NotHeld h = tt
+refusal-kept Answer.Unfinished h = tt
+refusal-kept Answer.Header h = tt
+refusal-kept Answer.Duplicate h = tt
+refusal-kept Answer.Core h = tt
+refusal-kept Answer.NotFound h = tt
+refusal-kept Answer.Limits h = tt
+refusal-kept Answer.State h = tt
+
+counted-refused : (a : Answer) (c : Counts) → 10 ≤ numberOf a → numberOf a ≤ 18 → counted a c ≡ oneRefused c
+counted-refused (Answer.Stored heard) c h g = absurd (omega arith)
+counted-refused (Answer.Complete heard) c h g = absurd (omega arith)
+counted-refused (Answer.Repeat heard) c h g = absurd (omega arith)
+counted-refused (Answer.Dropped number) c h g = absurd (omega arith)
+counted-refused (Answer.Refused why) c h g = refl
+counted-refused (Answer.Conflict heard) c h g = refl
+counted-refused (Answer.Full heard) c h g = refl
+counted-refused Answer.NotHeld c h g = absurd (omega arith)
+counted-refused Answer.Unfinished c h g = absurd (omega arith)
+counted-refused Answer.Header c h g = absurd (omega arith)
+counted-refused Answer.Duplicate c h g = absurd (omega arith)
+counted-refused Answer.Core c h g = absurd (omega arith)
+counted-refused Answer.NotFound c h g = absurd (omega arith)
+counted-refused Answer.Limits c h g = absurd (omega arith)
+counted-refused Answer.State c h g = absurd (omega arith)
+
+counted-not : (a : Answer) (c : Counts) → 19 ≤ numberOf a → counted a c ≡ c
+counted-not (Answer.Stored heard) c h = absurd (omega arith)
+counted-not (Answer.Complete heard) c h = absurd (omega arith)
+counted-not (Answer.Repeat heard) c h = absurd (omega arith)
+counted-not (Answer.Dropped number) c h = absurd (omega arith)
+counted-not (Answer.Refused why) c h = absurd (omega (arith, unread-number why))
+counted-not (Answer.Conflict heard) c h = absurd (omega arith)
+counted-not (Answer.Full heard) c h = absurd (omega arith)
+counted-not Answer.NotHeld c h = refl
+counted-not Answer.Unfinished c h = refl
+counted-not Answer.Header c h = refl
+counted-not Answer.Duplicate c h = refl
+counted-not Answer.Core c h = refl
+counted-not Answer.NotFound c h = refl
+counted-not Answer.Limits c h = refl
+counted-not Answer.State c h = refl
+
+-- A REFUSED GROUP, 10 to 18: one more is refused, and every other count, every store byte, every mark and every slot's record stay
+pub refused-group : (group : List ℕ) (s : State) → 10 ≤ numberOf (groupAnswer group s) → numberOf (groupAnswer group s) ≤ 18
+    → groupLeaves group s ≡ record { collector = s .collector; counts = oneRefused (s .counts); stores = s .stores }
+refused-group group s h g =
+    let a : Answer = taking group s .answer in
+    ap (λ (t : Reply). t .left) (group-kept group s (refusal-kept a h)) ∙ ap (λ (c : Counts). record { collector = s .collector; counts = c; stores = s .stores }) (counted-refused a (s .counts) h g)
+
+-- 19 to 26 change nothing, the counts neither
+pub unanswered-group : (group : List ℕ) (s : State) → 19 ≤ numberOf (groupAnswer group s) → groupLeaves group s ≡ s
+unanswered-group group s h =
+    let a : Answer = taking group s .answer in
+    ap (λ (t : Reply). t .left) (group-kept group s (refusal-kept a (omega arith))) ∙ ap (λ (c : Counts). record { collector = s .collector; counts = c; stores = s .stores }) (counted-not a (s .counts) h)
+
+-- A REFUSED DROP changes nothing
+pub refused-drop : (number : ℕ) (s : State) → 10 ≤ numberOf (dropAnswer number s) → dropLeaves number s ≡ s
+refused-drop number s h = drop-kept number s (refusal-kept (dropping number s .answer) h)
+
+-- A REPEAT: one more is repeated, and nothing else changes
+pub repeated-group : (group : List ℕ) (s : State) (heard : Heard) → groupAnswer group s ≡ Answer.Repeat heard
+    → groupLeaves group s ≡ record { collector = s .collector; counts = oneRepeated (s .counts); stores = s .stores }
+repeated-group group s heard e = ap (λ (t : Reply). t .left) (group-kept group s (rw e tt)) ∙ ap (λ (a : Answer). record { collector = s .collector; counts = counted a (s .counts); stores = s .stores }) e
+
+-- ---- a drop
+
+-- it touches no store byte
+pub drop-stores : (number : ℕ) (s : State) → (dropLeaves number s .stores .header ≡ s .stores .header) × (dropLeaves number s .stores .body ≡ s .stores .body)
+unfolding dropping dropNumber
+drop-stores number s = go (sound s) (find number s)
+  where
+    go : (b : Bool) (found : Found) → (pick b (dropFound found number (s .collector) (s .counts) (s .stores)) (answeredBy Answer.State (s .collector) (s .counts) (s .stores)) .stores .header ≡ s .stores .header) × (pick b (dropFound found number (s .collector) (s .counts) (s .stores)) (answeredBy Answer.State (s .collector) (s .counts) (s .stores)) .stores .body ≡ s .stores .body)
+    go false found = (refl, refl)
+    go true Nothing = (refl, refl)
+    go true (At i) = (refl, refl)
+
+-- ---- an opening
+
+module _ (start : Start) where
+  -- the test of the limits
+  abbrev kept-limits : Bool
+  kept-limits = inLimits (start .limit) (start .count) (start .stores)
+
+  within-kept : Within start → kept-limits ≡ true
+  within-kept w = limits-within (start .limit) (start .count) (length (start .stores .header)) (length (start .stores .body)) (length (start .stores .marks)) w
+
+  kept-within : kept-limits ≡ true → Within start
+  kept-within e = limits-hold (start .limit) (start .count) (length (start .stores .header)) (length (start .stores .body)) (length (start .stores .marks)) e
+
+  not-kept : (b : Bool) → kept-limits ≡ b → ¬ (Within start) → kept-limits ≡ false
+  not-kept false e n = e
+  not-kept true e n = absurd (n (kept-within e))
+
+  -- LIMITS exactly when it is outside them
+  pub limits-exactly : ((begun start .opening ≡ Opening.Refused Answer.Limits) ↔ (¬ (Within start))) × ((begun start .opening ≡ Opening.Open) ↔ Within start)
+  unfolding openedBy
+  limits-exactly = go kept-limits refl
+    where
+      go : (b : Bool) → kept-limits ≡ b → ((begun start .opening ≡ Opening.Refused Answer.Limits) ↔ (¬ (Within start))) × ((begun start .opening ≡ Opening.Open) ↔ Within start)
+      go true e = rw e (((λ d. let z : _≡_ {A = ℕ} 0 1 = cc in absurd (omega arith)), (λ n. absurd (n (kept-within e)))), ((λ d. kept-within e), (λ w. refl)))
+      go false e = rw e (((λ d w. false-true e (within-kept w)), (λ n. refl)), ((λ d. let z : _≡_ {A = ℕ} 0 1 = cc in absurd (omega arith)), (λ w. absurd (false-true e (within-kept w)))))
+
+  pub opened-leaves : Within start
+      → begun start .left ≡ record { collector = allFree (start .limit) (start .count); counts = noneYet; stores = record { header = start .stores .header; body = start .stores .body; marks = zeros (length (start .stores .marks)) } }
+  opened-leaves w = opened-all (start .limit) (start .count) (start .counts) (start .stores) (within-kept w)
+
+  -- a refused one leaves the counts and all that is lent, and hands back a state that every call answers with STATE
+  pub unopened-leaves : ¬ (Within start) → (begun start .left .counts ≡ start .counts) × (begun start .left .stores ≡ start .stores) × (¬ (InOrder (begun start .left)))
+  unopened-leaves n = rw (opened-none (start .limit) (start .count) (start .counts) (start .stores) (not-kept kept-limits refl n)) (refl, refl, (λ w. let h : limitLeast ≤ 0 = w .limits .least in absurd (omega arith)))

@@ -1,0 +1,305 @@
+-- What wrong collectors are tried with: small objects and their groups, runs of a few calls, states that no run
+-- reaches, and the collector's own definitions with one piece replaced.
+use mathlib.Core.Path.{_≡_, refl}
+use mathlib.Core.Logic.{inl}
+use mathlib.Core.Bool.{true}
+use mathlib.Core.List.{List, [], _∷_}
+use Prim.Native.Nat.{ℕ, zero, suc, _*_, _<_}
+use native.Mathlib.Omega.{arith}
+use lib.ListN.{replicate}
+use Rattle.answer.specs.declared.Part.{Part}
+use Rattle.answer.specs.declared.Part.the-variants.{Header, Body}
+use Rattle.answer.specs.Table.{numberOf}
+use Rattle.counts.specs.declared.Counts.{Counts}
+use Rattle.counts.specs.Counted.{ceiling, noneYet, within}
+use Rattle.wire.specs.declared.Reading.the-variants.{Read}
+use Rattle.wire.specs.Reading.{readingOf}
+use Rattle.cut.specs.Lists.{Bytes}
+use Rattle.cut.specs.Requirement.{bodySize, headerSize, Segment, Fits, Finished}
+use Rattle.cut.specs.laws.Segment.{Numbered}
+use Rattle.cut.specs.laws.Decision.{true-both}
+use Rattle.cut.specs.laws.Finished.{whole-numbers, whole-empty}
+use Rattle.object.specs.Offers.{Source}
+use Rattle.slots.specs.declared.Found.{Found}
+use Rattle.slots.specs.declared.Found.the-variants.{Nothing, At}
+use Rattle.slots.specs.Stores.{slotsMost, Stores}
+use Rattle.slots.specs.State.{soundSlots}
+use Rattle.collector.specs.declared.Opening.{Opening}
+use Rattle.collector.specs.declared.Opening.the-variants as Opening
+use Rattle.collector.specs.declared.Located.{Located}
+use Rattle.collector.specs.declared.Located.the-variants as Located
+use Rattle.collector.specs.Calls.{soundState}
+use Rattle.queries.specs.declared.Asked.{Asked}
+use Rattle.queries.specs.declared.Asked.the-variants as Asked
+use Rattle.queries.specs.declared.Sought.{Sought}
+use Rattle.queries.specs.declared.Sought.the-variants as Sought
+use Rattle.history.specs.laws.Call.{State, Reply, taking, dropping, limitOf}
+use Rattle.history.specs.Asking.{locating, showing, telling, naming, finding}
+use Rattle.history.specs.laws.Ready.{OfBytes, slots-sound}
+use Rattle.history.specs.laws.State.{InOrder, in-order-exactly}
+use Rattle.history.specs.History.{Question, hand, drop, Begun, Collecting, Start, Allowed, begun, asking, defined}
+use Rattle.history.specs.laws.Reached.{reached-intact}
+use Rattle.history.specs.Promise.{Run, reachedBy, Passing}
+use Rattle.history.specs.laws.Samples.{computing, small, allowed, pair, pair-allowed, bodyLast, header, readAs, oneCut, of-bytes-one}
+
+-- ---- an object of one segment: a header of 7 bytes and no body
+
+abbrev pub core : List ℕ
+core = 0x00 ∷ 0x00 ∷ 0x00 ∷ 0x00 ∷ 0x03 ∷ 0x84 ∷ 0x01 ∷ []
+
+abbrev pub whole : Segment
+whole = record { number = 0; last = true; bytes = core }
+
+pub fits : Fits 1024 (whole ∷ []) []
+unfolding bodySize headerSize
+fits = record {
+  header = core;
+  body = [];
+  object = record { headerLow = omega arith; headerHigh = omega arith; bodyHigh = omega arith; headerBytes = omega arith; bodyBytes = tt; saysBody = refl; saysHeader = refl };
+  headerCut = 16;
+  bodyCut = 16;
+  headerCuts = record { low = omega arith; high = omega arith; enough = omega arith };
+  bodyCuts = record { low = omega arith; high = omega arith; enough = omega arith };
+  headerSent = (record { starts = omega arith; holds = refl; ends = refl }, tt);
+  bodySent = tt;
+}
+
+done : Finished fits
+unfolding fits
+done = record { header = whole-numbers core 16 (whole ∷ []) (record { starts = omega arith; holds = refl; ends = refl }, tt) .1 number; body = whole-empty [] 16 [] refl }
+  where
+    number : (n : ℕ) → n * 16 < 7 → Numbered n (whole ∷ [])
+    number zero h = inl refl
+    number (suc n) h = absurd (omega arith)
+
+-- where its segment is stored, it is finished
+pub finished-core : (limit : ℕ) (hs bs : List Segment) → limit ≡ 1024 → hs ≡ whole ∷ [] → bs ≡ [] → (f : Fits limit hs bs) × Finished f × (f .header ≡ core)
+unfolding fits
+finished-core limit hs bs l h b = rw (l, h, b) (fits, done, refl)
+
+-- the object and its cut
+unfoldable pub single : Source 1024
+unfolding fits
+single = record { header = core; body = []; object = fits .object; headerCut = 16; bodyCut = 16; headerCuts = fits .headerCuts; bodyCuts = fits .bodyCuts; headerSent = tt; bodySent = tt }
+
+-- ---- the groups
+
+-- its one group, under number 5 and under number 6
+abbrev pub five : List ℕ
+five = 0x73 ∷ 0x00 ∷ 0x80 ∷ 0x00 ∷ 0x12 ∷ 0x00 ∷ 0x05 ∷ 0x00 ∷ 0x07 ∷ 0x00 ∷ 0x00 ∷ 0x00 ∷ 0x00 ∷ 0x03 ∷ 0x84 ∷ 0x01 ∷ 0x69 ∷ 0x0F ∷ []
+
+abbrev pub six : List ℕ
+six = 0x73 ∷ 0x00 ∷ 0x80 ∷ 0x00 ∷ 0x12 ∷ 0x00 ∷ 0x06 ∷ 0x00 ∷ 0x07 ∷ 0x00 ∷ 0x00 ∷ 0x00 ∷ 0x00 ∷ 0x03 ∷ 0x84 ∷ 0x01 ∷ 0xD8 ∷ 0xC0 ∷ []
+
+-- a header segment of 6 bytes, whole
+abbrev pub short : List ℕ
+short = 0x73 ∷ 0x00 ∷ 0x80 ∷ 0x00 ∷ 0x12 ∷ 0x00 ∷ 0x05 ∷ 0x00 ∷ 0x06 ∷ 0x00 ∷ 0x00 ∷ 0x00 ∷ 0x00 ∷ 0x03 ∷ 0x84 ∷ 0xB9 ∷ 0x16 ∷ []
+
+-- an object of no body and of the name "a", under number 5 and under number 6
+abbrev pub namedFive : List ℕ
+namedFive = 0x73 ∷ 0x00 ∷ 0x80 ∷ 0x00 ∷ 0x12 ∷ 0x00 ∷ 0x05 ∷ 0x00 ∷ 0x0B ∷ 0x00 ∷ 0x00 ∷ 0x00 ∷ 0x00 ∷ 0x05 ∷ 0x84 ∷ 0x01 ∷ 0xCC ∷ 0x02 ∷ 0x40 ∷ 0x61 ∷ 0xA9 ∷ 0x4F ∷ []
+
+abbrev pub namedSix : List ℕ
+namedSix = 0x73 ∷ 0x00 ∷ 0x80 ∷ 0x00 ∷ 0x12 ∷ 0x00 ∷ 0x06 ∷ 0x00 ∷ 0x0B ∷ 0x00 ∷ 0x00 ∷ 0x00 ∷ 0x00 ∷ 0x05 ∷ 0x84 ∷ 0x01 ∷ 0xCC ∷ 0x02 ∷ 0x40 ∷ 0x61 ∷ 0x24 ∷ 0xEC ∷ []
+
+-- the same with a body of 20 bytes
+abbrev pub namedFirst : List ℕ
+namedFirst = 0x73 ∷ 0x00 ∷ 0x80 ∷ 0x00 ∷ 0x12 ∷ 0x00 ∷ 0x05 ∷ 0x00 ∷ 0x0B ∷ 0x00 ∷ 0x00 ∷ 0x01 ∷ 0x40 ∷ 0x05 ∷ 0x84 ∷ 0x01 ∷ 0xCC ∷ 0x02 ∷ 0x40 ∷ 0x61 ∷ 0xB4 ∷ 0xBC ∷ []
+
+-- an object of no body whose name runs past the end of its header
+abbrev pub broken : List ℕ
+broken = 0x73 ∷ 0x00 ∷ 0x80 ∷ 0x00 ∷ 0x12 ∷ 0x00 ∷ 0x05 ∷ 0x00 ∷ 0x0B ∷ 0x00 ∷ 0x00 ∷ 0x00 ∷ 0x00 ∷ 0x05 ∷ 0x84 ∷ 0x01 ∷ 0xCC ∷ 0x05 ∷ 0x40 ∷ 0x61 ∷ 0x2C ∷ 0xDF ∷ []
+
+-- a group of another kind, its check word wrong
+abbrev pub otherKind : List ℕ
+otherKind = 0x75 ∷ 0x00 ∷ 0x15 ∷ 0x5D ∷ []
+
+pub reads : (readingOf five ≡ Read (readAs 5 Header 0 true 7)) × (readingOf six ≡ Read (readAs 6 Header 0 true 7)) × (readingOf short ≡ Read (readAs 5 Header 0 true 6)) × (readingOf bodyLast ≡ Read (readAs 5 Body 1 true 4))
+unfolding computing
+reads = (refl, refl, refl, refl)
+
+unfoldable pub groupFive : Passing
+groupFive = record { bytes = five; areBytes = omega arith; carried = readAs 5 Header 0 true 7; read = reads .0 }
+
+unfoldable pub groupSix : Passing
+groupSix = record { bytes = six; areBytes = omega arith; carried = readAs 6 Header 0 true 7; read = reads .1 }
+
+unfoldable pub groupShort : Passing
+groupShort = record { bytes = short; areBytes = omega arith; carried = readAs 5 Header 0 true 6; read = reads .2 }
+
+unfoldable pub groupLast : Passing
+groupLast = record { bytes = bodyLast; areBytes = omega arith; carried = readAs 5 Body 1 true 4; read = reads .3 }
+
+-- ---- the runs, in one slot
+
+abbrev pub none : Run
+none = record { start = small; allowed = allowed; calls = []; bytes = tt }
+
+abbrev pub one : Run
+one = record { start = small; allowed = allowed; calls = hand five ∷ []; bytes = (omega arith, tt) }
+
+abbrev pub two : Run
+two = record { start = small; allowed = allowed; calls = hand six ∷ hand five ∷ []; bytes = (omega arith, (omega arith, tt)) }
+
+-- a drop, and a group after it
+abbrev pub dropped : Run
+dropped = record { start = small; allowed = allowed; calls = drop 5 ∷ hand five ∷ []; bytes = (tt, (omega arith, tt)) }
+
+abbrev pub again : Run
+again = record { start = small; allowed = allowed; calls = hand six ∷ drop 5 ∷ hand five ∷ []; bytes = (omega arith, (tt, (omega arith, tt))) }
+
+-- document 01's example
+abbrev pub many : Run
+many = record { start = small; allowed = allowed; calls = oneCut; bytes = of-bytes-one }
+
+-- a header whose body is not in, and one with a name
+abbrev pub waiting : Run
+waiting = record { start = small; allowed = allowed; calls = hand header ∷ []; bytes = (omega arith, tt) }
+
+abbrev pub namedWaiting : Run
+namedWaiting = record { start = small; allowed = allowed; calls = hand namedFirst ∷ []; bytes = (omega arith, tt) }
+
+-- a finished object with a name, and one with a broken list of parameters
+abbrev pub named : Run
+named = record { start = small; allowed = allowed; calls = hand namedFive ∷ []; bytes = (omega arith, tt) }
+
+abbrev pub spoilt : Run
+spoilt = record { start = small; allowed = allowed; calls = hand broken ∷ []; bytes = (omega arith, tt) }
+
+-- an opening with counts from before
+abbrev used : Start
+used = record { limit = small .limit; count = small .count; counts = record { taken = 3; repeated = 0; refused = 0; completed = 0; dropped = 0 }; stores = small .stores }
+
+abbrev pub later : Run
+later = record { start = used; allowed = record { limits = allowed .limits; bytes = allowed .bytes }; calls = []; bytes = tt }
+
+-- an opening with bytes from before in its stores
+unfoldable pub worn : Start
+worn = record {
+  limit = 1024;
+  count = 1;
+  counts = noneYet;
+  stores = record { header = replicate 1024 7; body = replicate 1024 7; marks = replicate 1088 7 };
+}
+
+bytes-sevens : (n : ℕ) → Bytes (replicate n 7)
+bytes-sevens zero = tt
+bytes-sevens (suc n) = (omega arith, bytes-sevens n)
+
+pub worn-allowed : Allowed worn
+unfolding worn
+worn-allowed = record {
+  limits = record { header = refl; body = refl; marks = refl; least = omega arith; most = omega arith; some = omega arith; slots = omega arith };
+  bytes = record { header = bytes-sevens 1024; body = bytes-sevens 1024 };
+}
+
+abbrev pub wornOne : Run
+wornOne = record { start = worn; allowed = worn-allowed; calls = hand five ∷ []; bytes = (omega arith, tt) }
+
+-- ---- the runs, in two slots
+
+abbrev pub empty : Run
+empty = record { start = pair; allowed = pair-allowed; calls = []; bytes = tt }
+
+abbrev pub twice : Run
+twice = record { start = pair; allowed = pair-allowed; calls = hand five ∷ hand five ∷ []; bytes = (omega arith, (omega arith, tt)) }
+
+-- one name twice, the higher number in the first slot
+abbrev pub crossed : Run
+crossed = record { start = pair; allowed = pair-allowed; calls = hand namedFive ∷ hand namedSix ∷ []; bytes = (omega arith, (omega arith, tt)) }
+
+-- ---- a state, or what is lent, with one thing replaced
+
+abbrev pub withCounts : Counts → State → State
+withCounts counts s = record { collector = s .collector; counts = counts; stores = s .stores }
+
+abbrev pub withStores : Stores → State → State
+withStores stores s = record { collector = s .collector; counts = s .counts; stores = stores }
+
+abbrev pub withHeader : List ℕ → Stores → Stores
+withHeader header stores = record { header = header; body = stores .body; marks = stores .marks }
+
+abbrev pub withBody : List ℕ → Stores → Stores
+withBody body stores = record { header = stores .header; body = body; marks = stores .marks }
+
+abbrev pub withMarks : List ℕ → Stores → Stores
+withMarks marks stores = record { header = stores .header; body = stores .body; marks = marks }
+
+-- ---- states that no run reaches: what a run has left, with other counts
+
+pub recounted-bytes : (r : Run) → OfBytes (reachedBy defined r .stores)
+recounted-bytes r = reached-intact (r .start) (r .allowed) (r .calls) (r .bytes) .bytes
+
+-- a state with any counts within the bounds is not damaged
+pub recounted : (r : Run) (counts : Counts) → within counts ≡ true → InOrder (withCounts counts (reachedBy defined r))
+unfolding soundState
+recounted r counts w =
+    let s : State = reachedBy defined r in
+    let slots = slots-sound s (reached-intact (r .start) (r .allowed) (r .calls) (r .bytes) .undamaged) in
+    in-order-exactly (withCounts counts s) (recounted-bytes r) .0
+    (true-both (soundSlots (limitOf s) (s .collector .count) (s .collector .slots) (s .stores)) (within counts) slots w)
+
+-- a finished object, with a count above the ceiling: damaged
+abbrev pub damaged : State
+damaged = withCounts (record { taken = suc ceiling; repeated = 0; refused = 0; completed = 0; dropped = 0 }) (reachedBy defined one)
+
+pub is-damaged : ¬ (InOrder damaged)
+is-damaged w = absurd (omega (arith, w .counts .taken))
+
+-- with more completed and more dropped than taken: not damaged
+abbrev pub uneven : Counts
+uneven = record { taken = 0; repeated = 0; refused = 0; completed = 1; dropped = 1 }
+
+abbrev pub doubted : State
+doubted = withCounts uneven (reachedBy defined one)
+
+-- ---- what tells two answers apart: the number of a refusal, 0 where there is none; the slot that is found
+
+abbrev pub openingNumber : Opening → ℕ
+openingNumber Opening.Open = 0
+openingNumber (Opening.Refused why) = numberOf why
+
+abbrev pub locatedNumber : Located → ℕ
+locatedNumber (Located.At i) = 0
+locatedNumber (Located.Refused why) = numberOf why
+
+abbrev pub askedNumber : Asked → ℕ
+askedNumber (Asked.Fields fields) = 0
+askedNumber (Asked.Refused why) = numberOf why
+
+abbrev pub soughtNumber : Sought → ℕ
+soughtNumber (Sought.Number number) = 0
+soughtNumber (Sought.Refused why) = numberOf why
+
+abbrev pub foundSlot : Found → ℕ
+foundSlot Nothing = slotsMost
+foundSlot (At i) = i
+
+-- ---- the collector's own definitions with one piece replaced
+
+abbrev pub openingBy : (Start → Begun) → Collecting
+openingBy opens = record { opens = opens; takes = taking; drops = dropping; locates = locating; shows = showing; tells = telling; names = naming; finds = finding; asks = asking }
+
+abbrev pub takingBy : (List ℕ → State → Reply) → Collecting
+takingBy takes = record { opens = begun; takes = takes; drops = dropping; locates = locating; shows = showing; tells = telling; names = naming; finds = finding; asks = asking }
+
+abbrev pub droppingBy : (ℕ → State → Reply) → Collecting
+droppingBy drops = record { opens = begun; takes = taking; drops = drops; locates = locating; shows = showing; tells = telling; names = naming; finds = finding; asks = asking }
+
+abbrev pub locatingBy : (ℕ → State → Located) → Collecting
+locatingBy locates = record { opens = begun; takes = taking; drops = dropping; locates = locates; shows = showing; tells = telling; names = naming; finds = finding; asks = asking }
+
+abbrev pub showingBy : (ℕ → Part → State → List ℕ) → Collecting
+showingBy shows = record { opens = begun; takes = taking; drops = dropping; locates = locating; shows = shows; tells = telling; names = naming; finds = finding; asks = asking }
+
+abbrev pub tellingBy : (ℕ → State → Asked) → Collecting
+tellingBy tells = record { opens = begun; takes = taking; drops = dropping; locates = locating; shows = showing; tells = tells; names = naming; finds = finding; asks = asking }
+
+abbrev pub namingBy : (ℕ → State → List ℕ) → Collecting
+namingBy names = record { opens = begun; takes = taking; drops = dropping; locates = locating; shows = showing; tells = telling; names = names; finds = finding; asks = asking }
+
+abbrev pub findingBy : (List ℕ → State → Sought) → Collecting
+findingBy finds = record { opens = begun; takes = taking; drops = dropping; locates = locating; shows = showing; tells = telling; names = naming; finds = finds; asks = asking }
+
+abbrev pub askingBy : (Question → State → State) → Collecting
+askingBy asks = record { opens = begun; takes = taking; drops = dropping; locates = locating; shows = showing; tells = telling; names = naming; finds = finding; asks = asks }

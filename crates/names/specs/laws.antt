@@ -1,0 +1,3 @@
+pub mod Legible
+pub mod Lower
+pub mod Theorems

@@ -1,0 +1,16 @@
+pub mod Inside
+pub mod HeldIn
+pub mod HeldBytes
+pub mod HeldPart
+pub mod HeldSlot
+pub mod StepStage
+pub mod StageInside
+pub mod Step
+pub mod StatePart
+pub mod StateParts
+pub mod StateExact
+pub mod StepSound
+pub mod StateAnswered
+pub mod StepBytes
+pub mod Shown
+pub mod OffersKept

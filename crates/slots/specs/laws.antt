@@ -1,0 +1,7 @@
+pub mod AloneTests
+pub mod StateTests
+pub mod Keys
+pub mod Shares
+pub mod Fresh
+pub mod Ready
+pub mod Held
