@@ -1,12 +1,12 @@
 // Finished objects and their names (document 01, "Parameters and names"): ContentName's data as a part
 // of a header, and the lowest transport number among the finished objects that have a name. What is
 // read may be any bytes: a header that is refused has no name.
-use object::Slot;
-use object::Stage;
 use header::Found;
 use header::Name;
 use header::Parameter;
 use header::Reading;
+use object::Slot;
+use object::Stage;
 ghost use mathlib.Core.Path.{_≡_};
 ghost use Prim.Native.Nat.{_+_, _≤_};
 ghost use lib.ListN.{length};

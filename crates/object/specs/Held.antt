@@ -1,39 +1,22 @@
 -- Which segments a slot with its shares holds, as a relation, so that their order never matters.
 use mathlib.Core.Path.{_≡_}
-use mathlib.Core.Bool.{Bool}
 use mathlib.Core.List.{List}
 use Prim.Native.Nat.{ℕ}
-use lib.ListN.{length, take, drop}
+use lib.ListN.{length, take}
 use Rattle.octets.specs.Octets.{sumOf}
 use Rattle.answer.specs.declared.Part.{Part}
 use Rattle.answer.specs.declared.Part.the-variants.{Header, Body}
-use Rattle.cut.specs.Lists.{Each}
 use Rattle.cut.specs.Requirement.{headerNumbers, bodyNumbers, Segment, Fits, Finished, joined}
-use Rattle.cut.specs.declared.Bounds.{Bounds}
-use Rattle.cut.specs.Decision.{boundsOf, summary, recordOf, coreOf}
+use Rattle.cut.specs.Decision.{boundsOf, coreOf}
 use Rattle.cut.specs.laws.Segment.{Numbered}
 use Rattle.cut.specs.laws.Object.{headersWith, bodiesWith, those}
-use Rattle.cut.specs.laws.Marks.{Marked}
 use Rattle.object.specs.declared.Slot.{Slot}
 use Rattle.object.specs.declared.Stage.{Stage}
 use Rattle.object.specs.declared.Stage.the-variants as Stage
-use Rattle.object.specs.Memory.{Memory, placeOf}
+pub use Rattle.part.specs.Keeps.{LaidAs, Keeps}
+unfoldable pub use Rattle.part.specs.Keeps.{Laid}
 use Rattle.object.specs.Take.{Lent, Parts, partsOf, Taken}
 use Rattle.object.specs.Shape.{Shaped, IsLent}
-
--- a segment's bytes are laid in their place in the share, under a size
-abbrev pub LaidAs : Bool → ℕ → List ℕ → ℕ → List ℕ → Type 0
-LaidAs last size share n bytes = take (length bytes) (drop (placeOf last size (length share) n (length bytes)) share) ≡ bytes
-
-unfoldable pub Laid : ℕ → List ℕ → Segment → Type 0
-Laid size share s = LaidAs (s .last) size share (s .number) (s .bytes)
-
--- a part's memory keeps these segments: the record is the one that they give within the bounds, their bytes are laid in
--- their places, and the marks are theirs
-pub record Keeps (b : Bounds) (m : Memory) (ss : List Segment) : Type 0 where
-  pub kept : m .kept ≡ recordOf b (summary ss)
-  pub laid : Each (Laid (m .kept .size) (m .share)) ss
-  pub marked : Marked (m .marks) ss
 
 -- a slot's two parts hold these segments of a header and of a body, which fit some object and cut
 pub record Gathers (limit : ℕ) (ps : Parts) (hs bs : List Segment) : Type 0 where

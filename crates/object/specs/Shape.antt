@@ -14,6 +14,7 @@ use Rattle.cut.specs.declared.Record.{Record}
 use Rattle.cut.specs.Decision.{coreAfter, boundsOf}
 use Rattle.object.specs.declared.Slot.{Slot}
 use Rattle.object.specs.Memory.{placeOf}
+pub use Rattle.part.specs.Places.{Placed, Small, Moves}
 use Rattle.object.specs.Take.{Lent, Parts, partsOf, memoryOf, coreIn, recordWith, Taken}
 
 -- how many bytes a part's share has, and how many marks
@@ -51,25 +52,6 @@ coreWith Body s c = c
 -- the record of the part that gets a segment
 abbrev pub recordAfter : Part → ℕ → Segment → Parts → Record
 recordAfter part limit s ps = recordWith (boundsOf part limit (coreWith part s (coreIn (ps .header)))) s (memoryOf part ps)
-
--- a segment of k bytes lies inside its share, both at its number times the size and where it stands
-pub record Placed (width numbers : ℕ) (last : Bool) (size n k : ℕ) : Type 0 where
-  pub number : n < numbers
-  pub product : n * size + k ≤ width
-  pub place : placeOf last size width n k + k ≤ width
-
--- the numbers of a record: the size, the last segment, and their products
-pub record Small (width numbers : ℕ) (p : Record) : Type 0 where
-  pub size : p .size ≤ sizeMost
-  pub end : p .end ≤ numbers
-  pub tail : p .tail ≤ sizeMost
-  pub product : p .end * p .size ≤ bodyNumbers * sizeMost
-  pub last : (p .end - 1) * p .size + p .tail ≤ width
-
--- a last segment that is copied from the end of the share to its place, once the size is known
-pub record Moves (width : ℕ) (old new : Record) : Type 0 where
-  pub tail : old .tail ≤ width
-  pub place : (old .end - 1) * new .size + old .tail ≤ width
 
 -- a slot's record of a part, and the part's share of what is lent
 abbrev pub keptOf : Part → Slot → Record

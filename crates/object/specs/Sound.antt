@@ -15,17 +15,8 @@ use Rattle.object.specs.declared.Stage.{Stage}
 use Rattle.object.specs.declared.Stage.the-variants.{Free, Gathering, Finished}
 use Rattle.object.specs.Memory.{Memory}
 use Rattle.object.specs.Take.{Lent, Parts, partsOf, coreIn, stageOf}
-
--- the last one that the record tells of is marked; where there is none, it has no length
-abbrev pub endRight : ℕ → ℕ → List ℕ → Bool
-endRight zero tail marks = eqb tail 0
-endRight (suc number) tail marks = leb 1 (getD marks number 0)
-
--- without a full segment, the size is the one that the bounds and the last segment give
-unfoldable pub recordRight : Bounds → Memory → Bool
-recordRight b m =
-    both (endRight (m .kept .end) (m .kept .tail) (m .marks))
-    (pick (fullIn (m .kept) (m .marks)) true (eqb (m .kept .size) (derived b (m .kept .end) (m .kept .tail))))
+pub use Rattle.part.specs.Asked.{endRight}
+unfoldable pub use Rattle.part.specs.Asked.{recordRight}
 
 abbrev pub sameStage : Stage → Stage → Bool
 sameStage Free Free = true

@@ -21,6 +21,8 @@ use Rattle.object.specs.declared.Stage.the-variants as Stage
 use Rattle.object.specs.declared.Outcome.{Outcome}
 use Rattle.object.specs.declared.Outcome.the-variants.{Stored, Complete, Repeat, Conflict}
 use Rattle.object.specs.Memory.{Memory, segmentAt, settled, put}
+pub use Rattle.part.specs.Asked.{sameFlag}
+unfoldable pub use Rattle.part.specs.Asked.{sameSegment, recordWith, recordWithin}
 
 -- ---- a slot and what is lent for it, as the memories of two parts
 
@@ -34,10 +36,15 @@ pub record Parts : Type 0 where
   pub header : Memory
   pub body : Memory
 
+-- a part's marks, of all the marks of a slot
+abbrev pub marksOf : Part → List ℕ → List ℕ
+marksOf Header marks = take headerNumbers marks
+marksOf Body marks = drop headerNumbers marks
+
 unfoldable pub partsOf : Slot → Lent → Parts
 partsOf slot lent = record {
-  header = record { kept = slot .header; marks = take headerNumbers (lent .marks); share = lent .header };
-  body = record { kept = slot .body; marks = drop headerNumbers (lent .marks); share = lent .body };
+  header = record { kept = slot .header; marks = marksOf Header (lent .marks); share = lent .header };
+  body = record { kept = slot .body; marks = marksOf Body (lent .marks); share = lent .body };
 }
 
 unfoldable pub lentOf : Parts → Lent
@@ -50,20 +57,15 @@ memoryOf Body ps = ps .body
 -- ---- whether it fits, and what it leaves
 
 -- what header segment 0 says, once it is in
+abbrev pub coreFrom : List ℕ → List ℕ → Core
+coreFrom marks share = pick (leb 1 (getD marks 0 0)) (Seen (bodySize share) (headerSize share)) Unseen
+
 unfoldable pub coreIn : Memory → Core
-coreIn m = pick (leb 1 (getD (m .marks) 0 0)) (Seen (bodySize (m .share)) (headerSize (m .share))) Unseen
+coreIn m = coreFrom (m .marks) (m .share)
 
 -- a segment whose number is not marked fits what is held
 unfoldable pub takesIn : Part → ℕ → Segment → Parts → Bool
 takesIn part limit s ps = takes part limit (coreIn (ps .header)) (ps .header .kept) (ps .header .marks) (ps .body .kept) (ps .body .marks) s
-
--- the record of a part with one segment more
-unfoldable pub recordWith : Bounds → Segment → Memory → Record
-recordWith b s m = settle b (pick (s .last) (fullIn (m .kept) (m .marks)) true) (addPart (s .last) (s .number) (length (s .bytes)) (m .kept))
-
--- the record of a part that has no segment more, within bounds that may have met
-unfoldable pub recordWithin : Bounds → Memory → Record
-recordWithin b m = settle b (fullIn (m .kept) (m .marks)) (m .kept)
 
 -- the two parts with one segment more: both records are settled, and the segment is put into its part
 unfoldable pub partsWith : Part → ℕ → Segment → Parts → Parts
@@ -94,15 +96,6 @@ pub record Taken : Type 0 where
 
 abbrev pub unchanged : Outcome → Slot → Lent → Taken
 unchanged outcome slot lent = record { outcome = outcome; slot = slot; lent = lent }
-
--- two segments are the same: their flags, their lengths and their bytes
-abbrev pub sameFlag : Bool → Bool → Bool
-sameFlag true b = b
-sameFlag false true = false
-sameFlag false false = true
-
-unfoldable pub sameSegment : Segment → Segment → Bool
-sameSegment s t = both (sameFlag (s .last) (t .last)) (equal (s .bytes) (t .bytes))
 
 abbrev pub outcomeBy : Stage → Outcome
 outcomeBy Stage.Free = Stored

@@ -1,12 +1,8 @@
 pub mod Inside
-pub mod HeldIn
-pub mod HeldBytes
-pub mod HeldPart
 pub mod HeldSlot
 pub mod StepStage
 pub mod StageInside
 pub mod Step
-pub mod StatePart
 pub mod StateParts
 pub mod StateExact
 pub mod StepSound

@@ -1,84 +1,28 @@
 -- Laws that the proofs of the code share.
 -- Assumes nothing.
-use mathlib.Core.Path.{_≡_, refl, sym, ap, ap₂, _∙_}
-use mathlib.Core.Logic.{_≢_}
+use mathlib.Core.Path.{_≡_, refl, ap, _∙_}
 use mathlib.Core.Bool.{Bool, true, false}
-use mathlib.Core.List.{List, [], _∷_}
-use Prim.Native.Nat.{ℕ, zero, suc, _+_, _-_, _*_, _/_, _≤_, _<_, min}
+use mathlib.Core.List.{List, [], _∷_, _++_, append-nil}
+use Prim.Native.Nat.{ℕ, _-_, _≤_}
 use native.Mathlib.Decide.{ℕ-discrete}
 use native.Mathlib.Omega.{arith}
-use lib.ListN.{length, take, drop, getD, length-take, length-drop, List·getD-eq-default}
-use lib.Seq.{getD-take, getD-drop}
-use lib.Dec.{leb, ltb, eqb}
-use borrow.Author.Tests.{leb-true, le-leb, lt-leb, eq-eqb, ne-eqb}
-use Rattle.octets.specs.Octets.{over, sumOf, largestOf}
+use lib.ListN.{length, take, drop, length-take, length-drop, drop-of-length-le}
+use borrow.Rule.Slice.PartMut.{putMid}
+use lib.Dec.{leb, eqb}
+use borrow.Author.Tests.{le-leb, lt-leb, eq-eqb, ne-eqb}
+use Rattle.octets.specs.Octets.{sumOf, largestOf}
 use Rattle.answer.specs.declared.Part.{Part}
 use Rattle.answer.specs.declared.Part.the-variants.{Header, Body}
 use Rattle.cut.specs.declared.Core.{Core}
 use Rattle.cut.specs.declared.Core.the-variants.{Unseen, Seen}
-use Rattle.cut.specs.declared.Bounds.{Bounds}
-use Rattle.cut.specs.declared.Record.{Record}
-use Rattle.cut.specs.Lists.{pick}
-use Rattle.cut.specs.Decision.{both, all, boundsOf, room, roomAs, openTests, endedTests}
-use Rattle.cut.specs.Sums.{ended, acceptsIn}
-use Rattle.object.specs.Memory.{placeOf, movedAs}
-use Rattle.object.specs.Sound.{endRight}
-use Rattle.slot.specs.Inner.{marksOf}
-use Rattle.cut.specs.laws.Decision.{all-true}
-
-picked : (test : Bool) (n most : ℕ) → (test ≡ true → n ≤ most) → pick test n 0 ≤ most
-picked true n most f = f refl
-picked false n most f = omega arith
-
--- full segments have numbers of their part
-room-as : (b : Bounds) (size end tail : ℕ) → roomAs b size end tail ≤ b .numbers
-room-as b size zero tail = picked (all (openTests b size)) (min (b .numbers - 1) ((b .most - 1) / size)) (b .numbers) (λ e. omega arith)
-room-as b size (suc n) tail = picked (all (endedTests b size n tail)) n (b .numbers) (λ e. ended e)
-  where
-    ended : all (endedTests b size n tail) ≡ true → n ≤ b .numbers
-    ended e =
-        let below : suc n ≤ b .numbers = leb-true (suc n) (b .numbers) (all-true (endedTests b size n tail) e .1 .1 .1 .1 .0) in
-        omega arith
-
-pub room-numbers : (b : Bounds) (p : Record) → room b p ≤ b .numbers
-unfolding room
-room-numbers b p = room-as b (p .size) (p .end) (p .tail)
-
--- ---- where a segment stands
-
-pub place-by-size : (last : Bool) (size width n count : ℕ) → size ≢ 0 → placeOf last size width n count ≡ n * size
-place-by-size false size width n count h = refl
-place-by-size true zero width n count h = absurd (h refl)
-place-by-size true (suc size) width n count h = refl
-
-pub place-at-end : (n width count : ℕ) → n ≢ 0 → placeOf true 0 width n count ≡ width - count
-place-at-end zero width count h = absurd (h refl)
-place-at-end (suc n) width count h = refl
-
--- ---- a last segment copied to its place
-
-pub moved-known : (size size' end tail : ℕ) (share : List ℕ) → size ≢ 0 → movedAs size size' end tail share ≡ share
-moved-known zero size' end tail share h = absurd (h refl)
-moved-known (suc size) size' end tail share h = refl
-
-pub moved-first : (size' end tail : ℕ) (share : List ℕ) → end < 2 → movedAs 0 size' end tail share ≡ share
-moved-first zero end tail share h = refl
-moved-first (suc size) zero tail share h = refl
-moved-first (suc size) (suc zero) tail share h = refl
-moved-first (suc size) (suc (suc n)) tail share h = absurd (omega arith)
-
-pub moved-down : (size' end tail : ℕ) (share : List ℕ) → size' ≢ 0 → 2 ≤ end → movedAs 0 size' end tail share ≡ over share ((end - 1) * size') (take tail (drop (length share - tail) share))
-moved-down zero end tail share h g = absurd (h refl)
-moved-down (suc size) zero tail share h g = absurd (omega arith)
-moved-down (suc size) (suc zero) tail share h g = absurd (omega arith)
-moved-down (suc size) (suc (suc n)) tail share h g =
-    let e : suc (suc n) - 1 ≡ suc n = omega arith in
-    ap (λ (m : ℕ). over share (m * suc size) (take tail (drop (length share - tail) share))) (sym e)
+use Rattle.cut.specs.Decision.{both, boundsOf}
+use Rattle.part.specs.Places.{Counted}
+use Rattle.object.specs.Take.{marksOf}
 
 -- ---- a part's marks
 
 pub marks-numbers : (part : Part) (limit : ℕ) (core : Core) (marks : List ℕ) → length marks ≡ 1088 → length (marksOf part marks) ≡ boundsOf part limit core .numbers
-unfolding marksOf boundsOf
+unfolding boundsOf
 marks-numbers Header limit Unseen marks h = rw length-take (omega arith)
 marks-numbers Header limit (Seen body header) marks h = rw length-take (omega arith)
 marks-numbers Body limit Unseen marks h = rw length-drop (omega arith)
@@ -91,9 +35,6 @@ numbers-most Header limit (Seen body header) = omega arith
 numbers-most Body limit Unseen = omega arith
 numbers-most Body limit (Seen body header) = omega arith
 
-pub pos : (n : ℕ) → n ≢ 0 → 0 < n
-pos n h = omega arith
-
 pub marks-short : (part : Part) (marks : List ℕ) → length marks ≡ 1088 → length (marksOf part marks) ≤ 1024
 marks-short part marks h = omega (arith, marks-numbers part 0 Unseen marks h, numbers-most part 0 Unseen)
 
@@ -101,41 +42,12 @@ pub header-numbers : boundsOf Header 0 Unseen .numbers ≡ 64
 unfolding boundsOf
 header-numbers = refl
 
--- ---- what a call gives, of what the calls before it gave
+pub counted : (part : Part) (limit : ℕ) (core : Core) (marks : List ℕ) → length marks ≡ 1088 → Counted (boundsOf part limit core) (sumOf (marksOf part marks)) (marksOf part marks)
+counted part limit core marks h = record { numbers = marks-numbers part limit core marks h; few = numbers-most part limit core; sum = refl }
 
-pub through₂ : {A B D : Type 0} (g : A → B → D) {r : D} {a a' : A} {b b' : B} → r ≡ g a b → a ≡ a' → b ≡ b' → r ≡ g a' b'
-through₂ g e f h = e ∙ ap₂ g f h
-
-pub through₃ : {A B C D : Type 0} (g : A → B → C → D) {r : D} {a a' : A} {b b' : B} {c c' : C} → r ≡ g a b c → a ≡ a' → b ≡ b' → c ≡ c' → r ≡ g a' b' c'
-through₃ g {c = c} {c' = c'} e f h i = e ∙ ap₂ (λ x y. g x y c) f h ∙ ap (g _ _) i
-
-pub full-by : {r : Bool} {p p' : Record} {t t' : ℕ} → r ≡ ltb (ended p) t → p ≡ p' → t ≡ t' → r ≡ ltb (ended p') t'
-full-by e f h = through₂ (λ (p : Record) (t : ℕ). ltb (ended p) t) e f h
-
-pub accepted-as : (last : Bool) (n : ℕ) {r : Bool} {b b' : Bounds} {p p' : Record} {marks marks' : List ℕ}
-    → r ≡ acceptsIn last n b p marks → b ≡ b' → p ≡ p' → marks ≡ marks' → r ≡ acceptsIn last n b' p' marks'
-accepted-as last n e f g h = through₃ (acceptsIn last n) e f g h
-
-pub header-mark : (marks : List ℕ) (n : ℕ) → n < 64 → getD (marksOf Header marks) n 0 ≡ getD marks n 0
-unfolding marksOf
-header-mark marks n h = getD-take 64 marks n 0 h
-
-pub body-mark : (marks : List ℕ) (n : ℕ) → getD (marksOf Body marks) n 0 ≡ getD marks (64 + n) 0
-unfolding marksOf
-body-mark marks n = getD-drop 64 marks n 0
-
--- ---- the last one that a record tells of
-
-beyond : (marks : List ℕ) (n : ℕ) → length marks ≤ n → getD marks n 0 ≡ 0
-beyond marks n h = List·getD-eq-default marks 0 h
-
-pub end-beyond : (end tail : ℕ) (marks : List ℕ) → length marks < end → false ≡ endRight end tail marks
-end-beyond zero tail marks h = absurd (omega arith)
-end-beyond (suc n) tail marks h = rw (beyond marks n (omega arith)) refl
-
-pub end-marked : (end tail : ℕ) (marks : List ℕ) → end ≢ 0 → ltb 0 (getD marks (end - 1) 0) ≡ endRight end tail marks
-end-marked zero tail marks h = absurd (h refl)
-end-marked (suc n) tail marks h = let e : suc n - 1 ≡ n = omega arith in rw e refl
+-- the body's marks, back among all
+pub back-whole : (l m : List ℕ) → 64 ≤ length l → putMid 64 (length l - 64) l m ≡ take 64 l ++ m
+back-whole l m h = ap (λ (r : List ℕ). take 64 l ++ r) (ap (λ (r : List ℕ). m ++ r) (drop-of-length-le (drop 64 l) {i = length l - 64} (rw length-drop (omega arith))) ∙ append-nil m)
 
 pub both-only : (a : Bool) → both a true ≡ a
 both-only true = refl

@@ -9,22 +9,22 @@ use native.Mathlib.Nat.{le-div-iff-mul-le}
 use native.Mathlib.Decide.{decLe}
 use native.Mathlib.Numerals.{add-one}
 use native.Mathlib.Omega.{arith}
-use lib.ListN.{length, getD, take, drop}
+use lib.ListN.{length, getD, take, drop, length-replicate}
 use lib.Dec.{ltb, leb}
 use borrow.Author.Tests.{le-leb, lt-leb}
 use types.Run.{OneOf}
 use denote.Enum.Declared.{tagOf}
+use Rattle.octets.specs.Octets.{zeros}
 use Rattle.answer.specs.declared.Part.{Part}
-use Rattle.cut.specs.declared.Bounds.{Bounds}
-use Rattle.cut.specs.declared.Record.{Record}
-use Rattle.cut.specs.Decision.{both, room, alone, addPart}
-use Rattle.cut.specs.Sums.{acceptsIn}
+use Rattle.cut.specs.Decision.{both}
+use Rattle.cut.specs.Requirement.{Segment}
+use Rattle.object.specs.Take.{takeInto}
 use Rattle.object.specs.declared.Slot.{Slot}
 use Rattle.object.specs.declared.Stage.{Stage}
 use Rattle.object.specs.declared.Stage.the-variants.{Free, Gathering, Finished}
 use Rattle.object.proofs.Stage.{the-type}
 use Rattle.slots.specs.declared.Found.the-variants.{Nothing, At}
-use Rattle.slots.specs.Stores.{noRecord, freeSlot}
+use Rattle.slots.specs.Stores.{Stores, lentAt, freeSlot}
 use Rattle.slots.specs.Find.{firstFrom}
 use Rattle.slots.specs.laws.StateTests.{spent, one-more}
 use Rattle.slots.specs.Show.{startOf, shownAs}
@@ -51,14 +51,6 @@ module _ (test : Slot → Bool) (slots : List Slot) (count i : ℕ) where
 pub both-only : (a : Bool) → both a true ≡ a
 both-only true = refl
 both-only false = refl
-
--- ---- a segment that is the only one of its part
-
-pub accepts-last : (last : Bool) (n : ℕ) (b : Bounds) (p : Record) → last ≡ true → alone b p ≡ acceptsIn last n b p []
-accepts-last last n b p e = rw e refl
-
-pub accepts-full : (last : Bool) (n k : ℕ) (b : Bounds) → last ≡ false → ltb n (room b (addPart last n k noRecord)) ≡ acceptsIn last n b (addPart last n k noRecord) []
-accepts-full last n k b e = rw (e, spent {A = ℕ} [] (room b (addPart false n k noRecord)) (omega arith)) (sym (both-only (ltb n (room b (addPart false n k noRecord)))))
 
 -- ---- a share that starts inside its store
 
@@ -89,3 +81,8 @@ pub unfinished : (part : Part) (stage : Stage) (limit i : ℕ) (header body : Li
 unfinished part Free limit i header body h = refl
 unfinished part Gathering limit i header body h = refl
 unfinished part (Finished m n) limit i header body h = ⊎-elim (λ e. absurd (omega arith)) (λ e. absurd (omega arith)) h
+
+-- marks of which none is set
+pub zeros-long : (n : ℕ) → length (zeros n) ≡ n
+unfolding zeros
+zeros-long n = length-replicate n 0

@@ -1,4 +1,3 @@
-pub mod AloneTests
 pub mod StateTests
 pub mod Keys
 pub mod Shares

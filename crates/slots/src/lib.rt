@@ -4,25 +4,22 @@
 // the collector above has the type, the answers and the counts. Each function is one definition (specs/), and slot i has
 // share i of each store and of the marks.
 use answer::Part;
-use cut::Bounds;
-use cut::Core;
 use cut::Record;
 use object::Slot;
 use object::Stage;
+use slot::Decided;
 use slot::Took;
 ghost use mathlib.Core.Path.{_≡_};
 ghost use Prim.Native.Nat.{_+_, _*_, _≤_, _<_};
 ghost use lib.Dec.{leb};
 ghost use lib.ListN.{length, take, drop, set};
-ghost use mathlib.Core.List.{[]};
+ghost use Rattle.octets.specs.Octets.{zeros};
 ghost use Rattle.cut.specs.Requirement.{headerMost};
-ghost use Rattle.cut.specs.Decision.{addPart};
-ghost use Rattle.cut.specs.Sums.{acceptsIn};
 ghost use Rattle.object.specs.Take.{takeInto};
-ghost use Rattle.slot.specs.Inner.{otherPart, Offered};
+ghost use Rattle.slot.specs.Inner.{Offered};
 ghost use Rattle.slots.specs.Stores.{slotsMost, slotMarks, noRecord, freeSlot, freshSlot, lentAt};
 ghost use Rattle.slots.specs.Find.{isFree, holds, findIn, freeIn};
-ghost use Rattle.slots.specs.Alone.{coreAlone, fitsAlone};
+ghost use Rattle.slots.specs.Alone.{fitsAlone};
 ghost use Rattle.slots.specs.State.{withinLimits, rightBy, soundSlots};
 ghost use Rattle.slots.specs.laws.Keys.{keyOf, keysOf, unlikeKey, distinctKeys};
 ghost use Rattle.slots.specs.Show.{startOf, shownOf};
@@ -142,65 +139,35 @@ pub fn free(count: usize, slots: [Slot; SLOTS_MOST]) -> Found
     Found::Nothing
 }
 
-// What header segment 0 says, where this segment is the only one.
-fn core_said(part: Part, number: usize, bytes: &[u8]) -> Core
-    ensures { λ r. ⌜ r ≡ coreAlone part number (now (bytes .entry)) ⌝ }
+// The marks of a slot that holds nothing.
+fn no_marks() -> [u8; SLOT_MARKS]
+    ensures { λ r. ⌜ r ≡ zeros slotMarks ⌝ }
 {
-    match part {
-        Part::Body => Core::Unseen,
-        Part::Header => {
-            if number != 0 {
-                return Core::Unseen;
-            }
-            let body = core_fields::body_size(bytes) as usize;
-            let header = core_fields::header_size(bytes) as usize;
-            Core::Seen { body, header }
-        }
-    }
+    [0; SLOT_MARKS]
 }
 
-// Whether the part of a segment that is its only one can be.
-fn part_alone(bounds: Bounds, last: bool, number: usize, count: usize) -> bool
-    requires { ⌜ number < 32768 ⌝ }
-    ensures { λ r. ⌜ r ≡ acceptsIn last number bounds (addPart last number count noRecord) [] ⌝ }
-{
-    let kept = kept::add(last, number, count, no_record());
-    if last {
-        return fitting::alone(bounds, kept);
-    }
-    number < fitting::room(bounds, kept)
-}
-
-fn other_part(part: Part) -> Part
-    ensures { λ r. ⌜ r ≡ otherPart part ⌝ }
-{
-    match part {
-        Part::Header => Part::Body,
-        Part::Body => Part::Header,
-    }
-}
-
-// Whether a segment fits some object and cut by itself.
+// Whether a segment fits some object and cut by itself: what comes of it where nothing is in yet.
 pub fn fits_alone(part: Part, limit: usize, last: bool, number: usize, bytes: &[u8]) -> bool
     ensures { λ r. ⌜ r ≡ fitsAlone part limit (record { number = number; last = last; bytes = now (bytes .entry) }) ⌝ }
 {
-    if cut::BODY_NUMBERS <= number {
-        return false;
-    }
-    let core = core_said(part, number, bytes);
-    if !fitting::core_fits(limit, core) {
-        return false;
-    }
-    if !part_alone(
-        fitting::bounds_of(part, limit, core),
+    let marks = no_marks();
+    let fresh = fresh_slot(0);
+    let decided = slot::outcome_of(
+        fresh,
+        limit,
+        part,
         last,
         number,
-        bytes.len(),
-    ) {
-        return false;
+        bytes,
+        bytes,
+        bytes,
+        &marks,
+    );
+    match decided {
+        Decided::Repeat => false,
+        Decided::Conflict => false,
+        Decided::Fits(_, _, _) => true,
     }
-    let other = other_part(part);
-    fitting::alone(fitting::bounds_of(other, limit, core), no_record())
 }
 
 // Whether the limit and the number of slots are within their bounds, and each lent length is the one that they give.

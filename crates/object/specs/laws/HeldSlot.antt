@@ -31,7 +31,7 @@ use Rattle.object.specs.Take.{Parts, memoryOf, coreIn, takesIn, recordWi
 use Rattle.object.specs.Shape.{Shaped}
 use Rattle.object.specs.laws.Inside.{bounds-most, share-width}
 use Rattle.object.specs.Held.{LaidAs, Laid, Keeps, Gathers}
-use Rattle.object.specs.laws.HeldPart.{Room, Met, reads, settled-length, settled-keeps, put-length, put-keeps}
+use Rattle.part.specs.laws.HeldPart.{Room, Met, reads, settled-length, settled-keeps, put-length, put-keeps}
 
 -- ---- what a fitting object says of a part
 

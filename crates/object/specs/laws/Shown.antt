@@ -27,8 +27,8 @@ use Rattle.object.specs.Take.{Lent, Parts, partsOf, memoryOf}
 use Rattle.object.specs.Sound.{soundSlot}
 use Rattle.object.specs.Shape.{IsLent, numbersOf}
 use Rattle.object.specs.Held.{LaidAs, Laid, Keeps, Gathers, Holds, StageFor, Shows}
-use Rattle.object.specs.laws.HeldBytes.{place-known}
-use Rattle.object.specs.laws.HeldPart.{Room, size-is, size-none, one-last}
+use Rattle.part.specs.laws.HeldBytes.{place-known}
+use Rattle.part.specs.laws.HeldPart.{Room, size-is, size-none, one-last}
 use Rattle.object.specs.laws.HeldSlot.{fits-room, part-keeps}
 use Rattle.object.specs.State.{markedSegments}
 use Rattle.object.specs.laws.StateExact.{sound-holds}

@@ -28,8 +28,8 @@ use Rattle.object.specs.Shape.{IsLent, Shaped}
 use Rattle.object.specs.laws.Inside.{each-bit, lent-shaped, lent-bits, sound-slot}
 use Rattle.object.specs.laws.StageInside.{sound-stage}
 use Rattle.object.specs.Held.{Keeps, Gathers, StageFor, Holds}
-use Rattle.object.specs.laws.HeldIn.{held-reads, held-marked}
-use Rattle.object.specs.laws.HeldPart.{reads-keeps}
+use Rattle.part.specs.laws.HeldIn.{held-reads, held-marked}
+use Rattle.part.specs.laws.HeldPart.{reads-keeps}
 use Rattle.object.specs.laws.HeldSlot.{fits-room, part-keeps}
 use Rattle.object.specs.laws.StepStage.{stage-right, stage-one}
 use Rattle.object.specs.State.{markedSegments, Sound}

@@ -29,9 +29,9 @@ use Rattle.object.specs.Sound.{endRight, recordRight, sameStage, soundPa
 use Rattle.object.specs.Shape.{Shaped, Bits}
 use Rattle.object.specs.laws.Inside.{Right, sound-right, part-bits, bounds-most, share-width}
 use Rattle.object.specs.Held.{Laid, Keeps, Gathers}
-use Rattle.object.specs.laws.HeldIn.{held-reads, held-marked, reads-same, reads-agree}
+use Rattle.part.specs.laws.HeldIn.{held-reads, held-marked, reads-same, reads-agree}
 use Rattle.object.specs.laws.HeldSlot.{part-keeps, part-reads, core-laid, core-read, full-read}
-use Rattle.object.specs.laws.StatePart.{cut, long, within, held-sits, held-laid, held-record}
+use Rattle.part.specs.laws.StatePart.{cut, long, within, held-sits, held-laid, held-record}
 
 -- ---- the tests pass: the marked segments are held
 

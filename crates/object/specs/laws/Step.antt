@@ -27,7 +27,7 @@ use Rattle.object.specs.declared.Outcome.the-variants.{Stored, Complete,
 use Rattle.object.specs.Memory.{segmentAt}
 use Rattle.object.specs.Take.{Lent, Parts, partsOf, lentOf, memoryOf, takesIn, partsWith, stageOf, Taken, unchanged, sameFlag, sameSegment, outcomeBy, slotWith, storedAs, ifNew, ifHeld, byMark, takeInto}
 use Rattle.object.specs.Held.{Gathers, StageFor, Holds, Added}
-use Rattle.object.specs.laws.HeldIn.{at-number, at-among}
+use Rattle.part.specs.laws.HeldIn.{at-number, at-among}
 use Rattle.object.specs.laws.HeldSlot.{part-keeps, part-reads, takes-fits, fits-less, next-gathers}
 use Rattle.object.specs.laws.StepStage.{stage-right}
 

@@ -21,7 +21,7 @@ use Rattle.object.specs.Memory.{Memory, placeOf, segmentAt, movedAs, set
 use Rattle.object.specs.Take.{Lent, Parts, partsOf, lentOf, memoryOf, coreIn, takesIn, recordWithin, partsWith, slotWith, sameSegment, ifNew, ifHeld, byMark, takeInto}
 use Rattle.object.specs.Shape.{Shaped, recordAfter, keptOf, shareOf, Placed, Moves, Copied, Written, Leaves}
 use Rattle.object.specs.laws.Step.{parts-back}
-use Rattle.object.specs.laws.HeldBytes.{tail-length}
+use Rattle.part.specs.laws.HeldBytes.{tail-length}
 use Rattle.object.specs.laws.Inside.{takes-inside, settled-inside, body-inside}
 
 -- ---- one byte under a run that is laid over a list

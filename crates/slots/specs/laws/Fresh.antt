@@ -19,9 +19,12 @@ use Rattle.cut.specs.Decision.{boundsOf, coreFits, alone, room, addPart, coreAf
 use Rattle.cut.specs.Sums.{possibleIn, suitsIn, acceptsIn, fullIn, takes}
 use Rattle.object.specs.Memory.{Memory}
 use Rattle.object.specs.declared.Stage.the-variants.{Gathering}
-use Rattle.object.specs.Take.{Lent, partsOf, memoryOf, coreIn, takesIn, stageOf, ifNew, takeInto}
+use Rattle.object.specs.Take.{Lent, partsOf, marksOf, memoryOf, coreIn, takesIn, stageOf, ifNew, takeInto}
+use Rattle.object.specs.Shape.{coreWith}
 use Rattle.object.specs.Sound.{recordRight, soundParts}
-use Rattle.slot.specs.Inner.{Offered}
+use Rattle.slot.specs.declared.Decided.{Decided}
+use Rattle.slot.specs.declared.Decided.the-variants.{Repeat, Conflict, Fits}
+use Rattle.slot.specs.Inner.{otherPart, Offered, decided, decidedNew, Readable}
 use Rattle.slots.specs.Stores.{Stores, lentAt, noRecord, freshSlot}
 use Rattle.slots.specs.Alone.{fitsAlone}
 use Rattle.slots.specs.Take.{OpenAt}
@@ -74,6 +77,16 @@ fresh-offered limit i number stores opened =
 
 -- ---- its first segment is taken exactly when it fits alone
 
+-- a segment that is decided on fits
+abbrev pub isFits : Decided → Bool
+isFits Repeat = false
+isFits Conflict = false
+isFits (Fits core own others) = true
+
+new-fits : (fits : Bool) (core : Core) (own others : ℕ) → isFits (decidedNew fits core own others) ≡ fits
+new-fits true core own others = refl
+new-fits false core own others = refl
+
 -- marks of which none is set are as good as none at all
 module _ (b : Bounds) (p : Record) (marks : List ℕ) (none : sumOf marks ≡ 0) where
   full-none : fullIn p marks ≡ fullIn p []
@@ -109,3 +122,16 @@ module _ (part : Part) (limit number : ℕ) (s : Segment) (lent : Lent) (none : 
   pub fresh-taken : takeInto part limit s (freshSlot number) lent ≡ ifNew (fitsAlone part limit s) part limit s (freshSlot number) lent
   unfolding takeInto
   fresh-taken = rw (unmarked part, fresh-fits) refl
+
+  -- so what comes of it, where nothing is in yet, tells whether it fits alone
+  pub fresh-decided : isFits (decided part limit s (partsOf (freshSlot number) lent)) ≡ fitsAlone part limit s
+  unfolding decided
+  fresh-decided = rw (unmarked part, fresh-fits) (new-fits (fitsAlone part limit s) (coreWith part s (coreIn (partsOf (freshSlot number) lent .header))) (sumOf (memoryOf part (partsOf (freshSlot number) lent) .marks)) (sumOf (memoryOf (otherPart part) (partsOf (freshSlot number) lent) .marks)))
+
+  pub fresh-readable : length (lent .marks) ≡ 1088 → Readable part (s .number) (freshSlot number) lent
+  unfolding partsOf freshSlot
+  fresh-readable h = record { marks = h; held = λ m. absurd (omega (arith, none-of part, m)) }
+    where
+      none-of : (p : Part) → getD (marksOf p (lent .marks)) (s .number) 0 ≡ 0
+      none-of Header = unmarked Header
+      none-of Body = unmarked Body

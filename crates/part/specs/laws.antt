@@ -1,0 +1,5 @@
+pub mod Inside
+pub mod HeldIn
+pub mod HeldBytes
+pub mod HeldPart
+pub mod StatePart
