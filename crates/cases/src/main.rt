@@ -88,7 +88,7 @@ fn kept_with(piece: Piece, kept: Record) -> Record
     ensures { λ r. ⌜ r ≡ keptWith piece kept ⌝ }
 {
     if is_there(piece) {
-        return kept::add(piece.last, piece.number, piece.length, kept);
+        return part::record::add(piece.last, piece.number, piece.length, kept);
     }
     kept
 }
@@ -112,7 +112,7 @@ fn goes_with(piece: Piece, top: usize, kept: Record) -> bool
     ensures { λ r. ⌜ r ≡ goesWith piece top kept ⌝ }
 {
     if is_there(piece) {
-        return kept::joins(0 < top, piece.last, piece.length, kept);
+        return part::record::joins(0 < top, piece.last, piece.length, kept);
     }
     true
 }
@@ -142,7 +142,7 @@ fn verdict_of(limit: usize, core: Core, header: Piece, first: Piece, second: Pie
     let bodies = kept_with(second, held);
     let count = count_of(first) + count_of(second);
     verdict_by(
-        fitting::suits(
+        object::decision::suits(
             limit,
             core,
             top_with(header, 0),
@@ -150,7 +150,7 @@ fn verdict_of(limit: usize, core: Core, header: Piece, first: Piece, second: Pie
             top_with(second, top),
             bodies,
         ),
-        kept::finished(core, count_of(header), headers, count, bodies),
+        object::decision::finished(core, count_of(header), headers, count, bodies),
     )
 }
 

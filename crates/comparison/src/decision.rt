@@ -55,7 +55,7 @@ fn kept_with(last: bool, number: usize, length: usize, kept: Kept) -> Kept
     ensures { λ r. ⌜ r ≡ keptWith last number length kept ⌝ }
 {
     let top = top_with(last, number, kept.top);
-    let part = kept::add(last, number, length, kept.part);
+    let part = part::record::add(last, number, length, kept.part);
     Kept { top, part }
 }
 
@@ -82,12 +82,12 @@ fn accepts_header(
     requires { ⌜ number < 32768 ⌝ }
     ensures { λ r. ⌜ r ≡ accepts Part.Header limit core (summaryOf header) (summaryOf body) (segmentOf number last (now (bytes .entry))) ⌝ }
 {
-    if !kept::joins(0 < header.top, last, bytes.len(), header.part) {
+    if !part::record::joins(0 < header.top, last, bytes.len(), header.part) {
         return false;
     }
     let with = kept_with(last, number, bytes.len(), header);
     let said = core_with(number, bytes, core);
-    fitting::suits(limit, said, with.top, with.part, body.top, body.part)
+    object::decision::suits(limit, said, with.top, with.part, body.top, body.part)
 }
 
 fn accepts_body(
@@ -102,11 +102,11 @@ fn accepts_body(
     requires { ⌜ number < 32768 ⌝ }
     ensures { λ r. ⌜ r ≡ accepts Part.Body limit core (summaryOf header) (summaryOf body) (segmentOf number last (now (bytes .entry))) ⌝ }
 {
-    if !kept::joins(0 < body.top, last, bytes.len(), body.part) {
+    if !part::record::joins(0 < body.top, last, bytes.len(), body.part) {
         return false;
     }
     let with = kept_with(last, number, bytes.len(), body);
-    fitting::suits(limit, core, header.top, header.part, with.top, with.part)
+    object::decision::suits(limit, core, header.top, header.part, with.top, with.part)
 }
 
 // Whether a segment of a new number fits, one of a header (part 0) or of a body.

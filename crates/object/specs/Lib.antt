@@ -5,4 +5,5 @@ pub mod Shape
 pub mod Held
 pub mod State
 pub mod Offers
+pub mod Inner
 pub mod laws

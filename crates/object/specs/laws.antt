@@ -10,3 +10,4 @@ pub mod StateAnswered
 pub mod StepBytes
 pub mod Shown
 pub mod OffersKept
+pub mod Meets

@@ -1,6 +1,9 @@
 // One part of an object being gathered (document 01, "One object, one cut"), within any bounds: its record by value, its
 // marks and its share of a store lent. Whether a number is in and what stands there, whether one segment more fits, the
 // record with it, the segment put, and whether the part is sound. It knows neither header nor body.
+pub mod bounds;
+pub mod record;
+
 use cut::Bounds;
 use cut::Record;
 ghost use mathlib.Core.Path.{_≡_};
@@ -128,9 +131,9 @@ pub fn possible(bounds: Bounds, kept: Record, total: u32, marks: &[u8]) -> bool
 {
     let ends = ended(kept);
     if total == ends {
-        return fitting::alone(bounds, kept);
+        return bounds::alone(bounds, kept);
     }
-    let room = fitting::room(bounds, kept);
+    let room = bounds::room(bounds, kept);
     total_from(total, room, marks) == ends
 }
 
@@ -146,10 +149,10 @@ fn possible_with(
     requires { ⌜ Counted bounds total (now marks) ⌝ }
     ensures { λ r. ⌜ r ≡ acceptsIn last number bounds kept (now (marks .entry)) ⌝ }
 {
-    let room = fitting::room(bounds, kept);
+    let room = bounds::room(bounds, kept);
     if last {
         if total == 0 {
-            return fitting::alone(bounds, kept);
+            return bounds::alone(bounds, kept);
         }
         return total_from(total, room, marks) == 0;
     }
@@ -175,10 +178,10 @@ pub fn accepts(
     if bounds.numbers <= number {
         return false;
     }
-    if !kept::joins(full(kept, total), last, count, kept) {
+    if !record::joins(full(kept, total), last, count, kept) {
         return false;
     }
-    let with = kept::add(last, number, count, kept);
+    let with = record::add(last, number, count, kept);
     possible_with(last, number, bounds, with, total, marks)
 }
 
@@ -196,18 +199,18 @@ pub fn with(
     requires { ⌜ number < 32768 ⌝ }
     ensures { λ r. ⌜ r ≡ recordAdding bounds kept total last number count ⌝ }
 {
-    let with = kept::add(last, number, count, kept);
+    let with = record::add(last, number, count, kept);
     if last {
-        return kept::settle(bounds, full(kept, total), with);
+        return record::settle(bounds, full(kept, total), with);
     }
-    kept::settle(bounds, true, with)
+    record::settle(bounds, true, with)
 }
 
 // The record of a part that gets none, within bounds that may have met.
 pub fn within(bounds: Bounds, kept: Record, total: u32) -> Record
     ensures { λ r. ⌜ r ≡ settle bounds (leb (suc (ended kept)) total) kept ⌝ }
 {
-    kept::settle(bounds, full(kept, total), kept)
+    record::settle(bounds, full(kept, total), kept)
 }
 
 // A last segment that stands at the end of the share is copied to its place, once the size is known.
@@ -271,7 +274,7 @@ fn record_right(bounds: Bounds, kept: Record, total: u32, marks: &[u8]) -> bool
     if full(kept, total) {
         return true;
     }
-    let settled = kept::settle(bounds, false, kept);
+    let settled = record::settle(bounds, false, kept);
     kept.size == settled.size
 }
 

@@ -5,10 +5,10 @@
 // share i of each store and of the marks.
 use answer::Part;
 use cut::Record;
+use object::Decided;
 use object::Slot;
 use object::Stage;
-use slot::Decided;
-use slot::Took;
+use object::Took;
 ghost use mathlib.Core.Path.{_≡_};
 ghost use Prim.Native.Nat.{_+_, _*_, _≤_, _<_};
 ghost use lib.Dec.{leb};
@@ -16,7 +16,7 @@ ghost use lib.ListN.{length, take, drop, set};
 ghost use Rattle.octets.specs.Octets.{zeros};
 ghost use Rattle.cut.specs.Requirement.{headerMost};
 ghost use Rattle.object.specs.Take.{takeInto};
-ghost use Rattle.slot.specs.Inner.{Offered};
+ghost use Rattle.object.specs.Inner.{Offered};
 ghost use Rattle.slots.specs.Stores.{slotsMost, slotMarks, noRecord, freeSlot, freshSlot, lentAt};
 ghost use Rattle.slots.specs.Find.{isFree, holds, findIn, freeIn};
 ghost use Rattle.slots.specs.Alone.{fitsAlone};
@@ -152,7 +152,7 @@ pub fn fits_alone(part: Part, limit: usize, last: bool, number: usize, bytes: &[
 {
     let marks = no_marks();
     let fresh = fresh_slot(0);
-    let decided = slot::outcome_of(
+    let decided = object::outcome_of(
         fresh,
         limit,
         part,
@@ -265,7 +265,7 @@ fn right_at(limit: usize, i: usize, slot: Slot, header: &[u8], marks: &[u8]) -> 
     }
     let start = i * cut::HEADER_MOST;
     let stop = start + cut::HEADER_MOST;
-    slot::is_sound(slot, limit, &header[start..stop], &marks[first..end])
+    object::is_sound(slot, limit, &header[start..stop], &marks[first..end])
 }
 
 // Whether a state is not damaged, the counts left aside: document 01's list for STATE.
@@ -319,7 +319,7 @@ pub fn take_into(
     let body_end = body_start + limit;
     let marks_start = i * SLOT_MARKS;
     let marks_end = marks_start + SLOT_MARKS;
-    slot::take(
+    object::take(
         slot,
         limit,
         part,

@@ -22,9 +22,9 @@ use Rattle.object.specs.declared.Stage.the-variants.{Gathering}
 use Rattle.object.specs.Take.{Lent, partsOf, marksOf, memoryOf, coreIn, takesIn, stageOf, ifNew, takeInto}
 use Rattle.object.specs.Shape.{coreWith}
 use Rattle.object.specs.Sound.{recordRight, soundParts}
-use Rattle.slot.specs.declared.Decided.{Decided}
-use Rattle.slot.specs.declared.Decided.the-variants.{Repeat, Conflict, Fits}
-use Rattle.slot.specs.Inner.{otherPart, Offered, decided, decidedNew, Readable}
+use Rattle.object.specs.declared.Decided.{Decided}
+use Rattle.object.specs.declared.Decided.the-variants.{Repeat, Conflict, Fits}
+use Rattle.object.specs.Inner.{otherPart, Offered, decided, decidedNew, Readable}
 use Rattle.slots.specs.Stores.{Stores, lentAt, noRecord, freshSlot}
 use Rattle.slots.specs.Alone.{fitsAlone}
 use Rattle.slots.specs.Take.{OpenAt}

@@ -13,7 +13,7 @@ use Rattle.cut.specs.Requirement.{headerMost, limitLeast, limitMost}
 use Rattle.cut.specs.Decision.{both, all}
 use Rattle.cut.specs.laws.Decision.{all-true}
 use Rattle.object.specs.declared.Slot.{Slot}
-use Rattle.slot.specs.laws.Meets.{sound-meets}
+use Rattle.object.specs.laws.Meets.{sound-meets}
 use Rattle.slots.specs.Stores.{slotsMost, slotMarks, Stores, lentAt, freeSlot}
 use Rattle.slots.specs.State.{withinLimits, rightSlot, rightBy, rightFrom}
 
