@@ -18,7 +18,7 @@ ghost use mathlib.Core.Bool.{true};
 ghost use Prim.Native.Nat.{_<_};
 ghost use Rattle.counts.specs.Counted.{counted};
 ghost use Rattle.object.specs.Take.{takeInto};
-ghost use Rattle.object.specs.Inner.{Offered};
+ghost use Rattle.object.specs.Asked.{Offered};
 ghost use Rattle.slots.specs.Find.{findIn};
 ghost use Rattle.slots.specs.Show.{shownOf};
 ghost use Rattle.slots.specs.State.{soundSlots};

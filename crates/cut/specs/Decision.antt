@@ -137,26 +137,20 @@ settle b full p = record { size = pick full (p .size) (derived b (p .end) (p .ta
 abbrev pub recordOf : Bounds → Summary → Record
 recordOf b σ = settle b (someFull σ) (σ .part)
 
--- a record is one that segments give: no last one, no tail; no full one, the size that the part's length gives
-abbrev pub tailFollows : ℕ → ℕ → Bool
-tailFollows zero tail = eqb tail 0
-tailFollows (suc n) tail = true
-
-abbrev pub sizeFollows : Bool → ℕ → ℕ → Bool
-sizeFollows true size given = true
-sizeFollows false size given = eqb size given
-
-unfoldable pub follows : Bounds → Bool → Record → Bool
-follows b full p = both (sizeFollows full (p .size) (derived b (p .end) (p .tail))) (tailFollows (p .end) (p .tail))
-
 -- so many numbers are in: every one of them, up to the last
 abbrev pub whole : ℕ → Record → Bool
 whole count p = both (leb 1 (p .end)) (eqb count (p .end))
 
 -- ---- the object
 
+-- what header segment 0 says, with a header segment
 abbrev pub coreAfter : Segment → Core → Core
 coreAfter s c = pick (eqb (s .number) 0) (Seen (bodySize (s .bytes)) (headerSize (s .bytes))) c
+
+-- with a segment of a part
+abbrev pub coreWith : Part → Segment → Core → Core
+coreWith Header s c = coreAfter s c
+coreWith Body s c = c
 
 abbrev pub coreOf : List Segment → Core
 coreOf [] = Unseen

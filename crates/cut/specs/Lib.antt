@@ -1,5 +1,6 @@
 pub mod Lists
 pub mod Requirement
+pub mod Parts
 pub mod Decision
 pub mod Sums
 pub mod laws

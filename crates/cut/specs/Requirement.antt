@@ -81,6 +81,9 @@ pub record Segment : Type 0 where
   pub last : Bool
   pub bytes : List ℕ
 
+abbrev pub segment : ℕ → Bool → List ℕ → Segment
+segment number last bytes = record { number = number; last = last; bytes = bytes }
+
 -- a part cut at a size sends this segment: the part goes on at number times size; the segment has the bytes from there,
 -- as many as the size says or as there are; it is the last one if none are left after it
 pub record Sends (part : List ℕ) (size : ℕ) (segment : Segment) : Type 0 where

@@ -1,258 +1,48 @@
--- The decision as code asks it: of a record and of sums of marks. Each is equal to the decision on what is kept, so the
--- theorem holds of it.
-use mathlib.Core.Path.{_≡_, refl, sym, ap, _∙_}
-use mathlib.Core.Logic.{_↔_}
+-- The decision as code asks it: of a record and of sums of marks.
 use mathlib.Core.Bool.{Bool, true, false}
 use mathlib.Core.List.{List, [], _∷_}
-use Prim.Native.Nat.{ℕ, zero, suc, _≤_, _<_, min, max, _-_, _/_}
-use native.Mathlib.Decide.{decLe}
-use native.Mathlib.Omega.{arith}
-use lib.ListN.{length, drop, getD}
+use Prim.Native.Nat.{ℕ, suc, min}
+use lib.ListN.{drop}
 use lib.Dec.{eqb, leb}
-use borrow.Author.Tests.{eq-eqb, ne-eqb, le-leb, lt-leb, eqb-true, leb-true}
 use Rattle.octets.specs.Octets.{sumOf}
-use Rattle.cut.specs.Lists.{pick, Each, Bytes}
-use Rattle.cut.specs.Requirement.{limitMost, Segment, Fits}
+use Rattle.cut.specs.Lists.{pick}
 use Rattle.answer.specs.declared.Part.{Part}
-use Rattle.answer.specs.declared.Part.the-variants.{Header, Body}
 use Rattle.cut.specs.declared.Core.{Core}
 use Rattle.cut.specs.declared.Bounds.{Bounds}
 use Rattle.cut.specs.declared.Record.{Record}
-use Rattle.cut.specs.Decision.{both, all, boundsOf, coreFits, endedTests, room, alone, possible, addPart, addTop, summary, joins, someFull, settle, recordOf, coreAfter, coreOf, suits, suitsBoth, accepts, openTests, roomAs}
-use Rattle.cut.specs.laws.Segment.{Numbered, Agree}
-use Rattle.cut.specs.laws.Decision.{Clear, all-true}
-use Rattle.cut.specs.laws.Object.{headersWith, bodiesWith, those, Passes, fits-passes}
-use Rattle.cut.specs.laws.Theorem.{end-numbered, accepted}
-use Rattle.cut.specs.laws.Marks.{total-some, topFrom, Marked, top-kept, top-open, top-ended}
+use Rattle.cut.specs.Parts.{otherPart}
+use Rattle.cut.specs.Decision.{both, all, boundsOf, coreFits, room, alone, addPart, joins}
 
 -- 1 if the last one is in, else 0
 abbrev pub ended : Record → ℕ
 ended p = min 1 (p .end)
 
+-- a full segment is in, of so many that are, or of those that are marked
+abbrev pub fullBy : Record → ℕ → Bool
+fullBy p total = leb (suc (ended p)) total
+
+abbrev pub fullIn : Record → List ℕ → Bool
+fullIn p marks = fullBy p (sumOf marks)
+
 -- what is marked can be: STATE asks this of each part
 unfoldable pub possibleIn : Bounds → Record → List ℕ → Bool
-possibleIn b p marks = pick (eqb (sumOf marks) (ended p)) (alone b p) (eqb (sumOf (drop (room b p) marks)) (ended p))
+possibleIn b p marks =
+    pick (eqb (sumOf marks) (ended p)) (alone b p) (eqb (sumOf (drop (room b p) marks)) (ended p))
 
 -- what is marked and one more, number n, can be: p is the record with it, the mark is not set yet
 abbrev pub acceptsIn : Bool → ℕ → Bounds → Record → List ℕ → Bool
 acceptsIn true n b p marks = pick (eqb (sumOf marks) 0) (alone b p) (eqb (sumOf (drop (room b p) marks)) 0)
 acceptsIn false n b p marks = both (leb (suc n) (room b p)) (eqb (sumOf (drop (room b p) marks)) (ended p))
 
--- what is marked of both parts can be, with what segment 0 says
-unfoldable pub suitsIn : ℕ → Core → Record → List ℕ → Record → List ℕ → Bool
-suitsIn limit c p headerMarks q bodyMarks = all (coreFits limit c ∷ possibleIn (boundsOf Header limit c) p headerMarks ∷ possibleIn (boundsOf Body limit c) q bodyMarks ∷ [])
+-- one more, number n of k bytes, whose mark is not set: it goes with those that are in, and with them within the bounds
+unfoldable pub fitsIn : Bounds → Record → List ℕ → Bool → ℕ → ℕ → Bool
+fitsIn b p marks last n k = both (joins (fullIn p marks) last k p) (acceptsIn last n b (addPart last n k p) marks)
 
--- a full segment is in
-abbrev pub fullIn : Record → List ℕ → Bool
-fullIn p marks = leb (suc (ended p)) (sumOf marks)
-
--- THE DECISION, of the records and the marks of both parts: a segment whose number is not marked fits
-abbrev pub takes : Part → ℕ → Core → Record → List ℕ → Record → List ℕ → Segment → Bool
-takes Header limit c p headerMarks q bodyMarks s =
-    both (joins (fullIn p headerMarks) (s .last) (length (s .bytes)) p)
-    (all (coreFits limit (coreAfter s c) ∷ acceptsIn (s .last) (s .number) (boundsOf Header limit (coreAfter s c)) (addPart (s .last) (s .number) (length (s .bytes)) p) headerMarks ∷ possibleIn (boundsOf Body limit (coreAfter s c)) q bodyMarks ∷ []))
-takes Body limit c p headerMarks q bodyMarks s =
-    both (joins (fullIn q bodyMarks) (s .last) (length (s .bytes)) q)
-    (all (coreFits limit c ∷ possibleIn (boundsOf Header limit c) p headerMarks ∷ acceptsIn (s .last) (s .number) (boundsOf Body limit c) (addPart (s .last) (s .number) (length (s .bytes)) q) bodyMarks ∷ []))
-
--- ---- they are the decision
-
--- a number is below a bound, by a sum
-by-sum : (t b x y : ℕ) → (t ≤ b) ↔ (x ≡ y) → leb t b ≡ eqb x y
-by-sum t b x y i = go (decLe t b)
-  where
-    go : Dec (t ≤ b) → leb t b ≡ eqb x y
-    go (yes h) = le-leb t b h ∙ sym (eq-eqb x y (i .0 h))
-    go (no h) = lt-leb t b (omega arith) ∙ sym (ne-eqb x y (λ e. h (i .1 e)))
-
--- there is no full segment, by a sum
-none-by : (x y t : ℕ) (c d : Bool) (b : Bounds) (p : Record) → (t ≤ 0) ↔ (x ≡ y) → c ≡ alone b p → d ≡ leb t (room b p) → pick (eqb x y) c d ≡ possible b t p
-none-by x y zero c d b p i e f = rw (eq-eqb x y (i .0 (omega arith))) e
-none-by x y (suc t) c d b p i e f = rw (ne-eqb x y (λ z. let h : suc t ≤ 0 = i .1 z in omega arith)) f
-
--- the room is before the last one
-room-below : (c : Bool) (n : ℕ) → pick c n 0 ≤ n
-room-below true n = omega arith
-room-below false n = omega arith
-
-room-before : (b : Bounds) (p : Record) (n : ℕ) → p .end ≡ suc n → room b p ≤ n
-unfolding room
-room-before b p n e = rw e (room-below (all (endedTests b (p .size) n (p .tail))) n)
-
--- and within the marks
-pick-most : (bs : List Bool) (v m : ℕ) → (Each (λ t. t ≡ true) bs → v ≤ m) → pick (all bs) v 0 ≤ m
-pick-most bs v m f = go (all bs) refl
-  where
-    go : (t : Bool) → all bs ≡ t → pick t v 0 ≤ m
-    go true e = f (all-true bs e)
-    go false e = omega arith
-
-room-as : (b : Bounds) (size end tail : ℕ) → roomAs b size end tail ≤ b .numbers
-room-as b size zero tail = pick-most (openTests b size) (min (b .numbers - 1) ((b .most - 1) / size)) (b .numbers) (λ r. omega arith)
-room-as b size (suc n) tail = pick-most (endedTests b size n tail) n (b .numbers) (λ r. omega (arith, leb-true))
-
-pub room-within : (b : Bounds) (p : Record) → room b p ≤ b .numbers
-unfolding room
-room-within b p = room-as b (p .size) (p .end) (p .tail)
-
-module _ (b : Bounds) (p : Record) (marks : List ℕ) (bits : Each (λ m. m ≤ 1) marks) where
-  -- the highest full number lies below r, by the sum from r on
-  past : (end r : ℕ) → ((n : ℕ) → end ≡ suc n → r ≤ n) → ((n : ℕ) → end ≡ suc n → 0 < getD marks n 0) → (topFrom end 0 marks ≤ r) ↔ (sumOf (drop r marks) ≡ min 1 end)
-  past zero r l m = top-open 0 r marks (λ n e. absurd (omega arith))
-  past (suc n) r l m = let e : min 1 (suc n) ≡ 1 = omega arith in rw e (top-ended r n marks bits (l n refl) (m n refl))
-
-  pub possible-in : ((n : ℕ) → p .end ≡ suc n → 0 < getD marks n 0) → possibleIn b p marks ≡ possible b (topFrom (p .end) 0 marks) p
-  unfolding possibleIn
-  possible-in m =
-      none-by (sumOf marks) (ended p) (topFrom (p .end) 0 marks) (alone b p) (eqb (sumOf (drop (room b p) marks)) (ended p)) b p
-      (past (p .end) 0 (λ n e. omega arith) m) refl
-      (sym (by-sum (topFrom (p .end) 0 marks) (room b p) (sumOf (drop (room b p) marks)) (ended p) (past (p .end) (room b p) (room-before b p) m)))
-
-  -- a full one more
-  pub accepts-full : (n : ℕ) → ((n : ℕ) → p .end ≡ suc n → 0 < getD marks n 0) → acceptsIn false n b p marks ≡ possible b (max (suc n) (topFrom (p .end) 0 marks)) p
-  accepts-full n m = ap (both (leb (suc n) (room b p))) (sym (by-sum (topFrom (p .end) 0 marks) (room b p) (sumOf (drop (room b p) marks)) (ended p) (past (p .end) (room b p) (room-before b p) m))) ∙ higher (suc n) (topFrom (p .end) 0 marks) (room b p) ∙ some n (topFrom (p .end) 0 marks)
-    where
-      higher : (s t r : ℕ) → both (leb s r) (leb t r) ≡ leb (max s t) r
-      higher s t r = go (decLe s r) (decLe t r)
-        where
-          go : Dec (s ≤ r) → Dec (t ≤ r) → both (leb s r) (leb t r) ≡ leb (max s t) r
-          go (yes x) (yes y) = rw (le-leb s r x, le-leb t r y, le-leb (max s t) r (omega arith)) refl
-          go (yes x) (no y) = rw (le-leb s r x, lt-leb t r (omega arith), lt-leb (max s t) r (omega arith)) refl
-          go (no x) y = rw (lt-leb s r (omega arith), lt-leb (max s t) r (omega arith)) refl
-
-      some : (n t : ℕ) → leb (max (suc n) t) (room b p) ≡ possible b (max (suc n) t) p
-      some n t = go (max (suc n) t) (omega arith)
-        where
-          go : (x : ℕ) → 0 < x → leb x (room b p) ≡ possible b x p
-          go zero h = absurd (omega arith)
-          go (suc x) h = refl
-
-  -- the last one more, where none was in
-  pub accepts-last : (n : ℕ) → acceptsIn true n b p marks ≡ possible b (topFrom 0 0 marks) p
-  accepts-last n =
-      none-by (sumOf marks) 0 (topFrom 0 0 marks) (alone b p) (eqb (sumOf (drop (room b p) marks)) 0) b p
-      (top-open 0 0 marks (λ i x. absurd (omega arith))) refl
-      (sym (by-sum (topFrom 0 0 marks) (room b p) (sumOf (drop (room b p) marks)) 0 (top-open 0 (room b p) marks (λ i x. absurd (omega arith)))))
-
--- ---- the size in a record plays no part while no full segment is in
-
-pub possible-settle : (b c : Bounds) (top : ℕ) (p : Record) → possible b top (settle c (leb 1 top) p) ≡ possible b top p
-unfolding settle alone room
-possible-settle b c zero p = refl
-possible-settle b c (suc t) p = rw (le-leb 1 (suc t) (omega arith)) refl
-
--- settled again within other bounds, it is settled within those
-pub settle-again : (b c : Bounds) (full : Bool) (p : Record) → settle b full (settle c full p) ≡ settle b full p
-unfolding settle
-settle-again b c true p = refl
-settle-again b c false p = refl
-
-pub joins-settle : (b : Bounds) (full last : Bool) (k : ℕ) (p : Record) → joins full last k (settle b full p) ≡ joins full last k p
-unfolding settle
-joins-settle b true true k p = refl
-joins-settle b true false k p = refl
-joins-settle b false true k p = refl
-joins-settle b false false k p = refl
-
-pub settle-full : (b c : Bounds) (full : Bool) (n k : ℕ) (p : Record) → settle b true (addPart false n k (settle c full p)) ≡ settle b true (addPart false n k p)
-unfolding settle
-settle-full b c full n k p = refl
-
-pub settle-last : (b c : Bounds) (full : Bool) (n k : ℕ) (p : Record) → settle b full (addPart true n k (settle c full p)) ≡ settle b full (addPart true n k p)
-unfolding settle
-settle-last b c true n k p = refl
-settle-last b c false n k p = refl
-
-add-settle : (b c : Bounds) (top n k : ℕ) (p : Record) → possible b top (addPart true n k (settle c (leb 1 top) p)) ≡ possible b top (addPart true n k p)
-unfolding settle alone room
-add-settle b c zero n k p = refl
-add-settle b c (suc t) n k p = rw (le-leb 1 (suc t) (omega arith)) refl
-
-full-settle : (b c : Bounds) (full : Bool) (top n k : ℕ) (p : Record) → possible b top (addPart false n k (settle c full p)) ≡ possible b top (addPart false n k p)
-unfolding settle
-full-settle b c full top n k p = refl
-
-settle-end : (c : Bounds) (full : Bool) (p : Record) → settle c full p .end ≡ p .end
-unfolding settle
-settle-end c full p = refl
-
--- ---- of segments that are in
-
--- the record and the marks of one part
-module _ (b c : Bounds) (marks : List ℕ) (ss : List Segment) (m : Marked marks ss) (a : Agree ss) (k : Clear ss) where
-  record-end : recordOf c (summary ss) .end ≡ summary ss .part .end
-  record-end = settle-end c (someFull (summary ss)) (summary ss .part)
-
-  end-marked : (n : ℕ) → recordOf c (summary ss) .end ≡ suc n → 0 < getD marks n 0
-  end-marked n e = m .marked n .1 (end-numbered ss n (sym record-end ∙ e))
-
-  top-record : topFrom (recordOf c (summary ss) .end) 0 marks ≡ summary ss .top
-  top-record = ap (λ (e : ℕ). topFrom e 0 marks) record-end ∙ top-kept marks ss m a k
-
-  pub possible-kept : possibleIn b (recordOf c (summary ss)) marks ≡ possible b (summary ss .top) (summary ss .part)
-  possible-kept = possible-in b (recordOf c (summary ss)) marks (m .bits) end-marked ∙ ap (λ (t : ℕ). possible b t (recordOf c (summary ss))) top-record ∙ possible-settle b c (summary ss .top) (summary ss .part)
-
-  pub full-kept : fullIn (recordOf c (summary ss)) marks ≡ someFull (summary ss)
-  full-kept = go (summary ss .top) refl
-    where
-      sum : (topFrom (recordOf c (summary ss) .end) 0 marks ≤ 0) ↔ (sumOf marks ≡ ended (recordOf c (summary ss)))
-      sum = past b (recordOf c (summary ss)) marks (m .bits) (recordOf c (summary ss) .end) 0 (λ n e. omega arith) end-marked
-
-      some : (end : ℕ) → ((n : ℕ) → end ≡ suc n → 0 < getD marks n 0) → min 1 end ≤ sumOf marks
-      some zero h = omega arith
-      some (suc n) h = omega (arith, total-some marks n (h n refl))
-
-      go : (t : ℕ) → summary ss .top ≡ t → leb (suc (ended (recordOf c (summary ss)))) (sumOf marks) ≡ leb 1 t
-      go zero e = let x : sumOf marks ≡ ended (recordOf c (summary ss)) = sum .0 (omega (arith, top-record)) in lt-leb (suc (ended (recordOf c (summary ss)))) (sumOf marks) (omega arith)
-      go (suc t) e =
-          let d : ¬ (sumOf marks ≡ ended (recordOf c (summary ss))) = λ x. (let h : topFrom (recordOf c (summary ss) .end) 0 marks ≤ 0 = sum .1 x in omega (arith, top-record)) in
-          le-leb (suc (ended (recordOf c (summary ss)))) (sumOf marks) (omega (arith, some (recordOf c (summary ss) .end) end-marked)) ∙ sym (le-leb 1 (suc t) (omega arith))
-
-  joins-kept : (last : Bool) (j : ℕ) → joins (fullIn (recordOf c (summary ss)) marks) last j (recordOf c (summary ss)) ≡ joins (someFull (summary ss)) last j (summary ss .part)
-  joins-kept last j = ap (λ (x : Bool). joins x last j (recordOf c (summary ss))) full-kept ∙ joins-settle c (someFull (summary ss)) last j (summary ss .part)
-
-  -- one more
-  accepts-kept : (last : Bool) (n j : ℕ) → joins (someFull (summary ss)) last j (summary ss .part) ≡ true → acceptsIn last n b (addPart last n j (recordOf c (summary ss))) marks ≡ possible b (addTop last n (summary ss .top)) (addPart last n j (summary ss .part))
-  accepts-kept true n j h =
-      let z : summary ss .part .end ≡ 0 = eqb-true (summary ss .part .end) 0 (rw last-joins at h) in
-      let t : topFrom 0 0 marks ≡ summary ss .top = ap (λ (e : ℕ). topFrom e 0 marks) (sym z) ∙ top-kept marks ss m a k in
-      accepts-last b (addPart true n j (recordOf c (summary ss))) marks (m .bits) n ∙ ap (λ (x : ℕ). possible b x (addPart true n j (recordOf c (summary ss)))) t ∙ add-settle b c (summary ss .top) n j (summary ss .part)
-    where
-      last-joins : joins (someFull (summary ss)) true j (summary ss .part) ≡ eqb (summary ss .part .end) 0
-      last-joins = by (someFull (summary ss))
-        where
-          by : (f : Bool) → joins f true j (summary ss .part) ≡ eqb (summary ss .part .end) 0
-          by true = refl
-          by false = refl
-  accepts-kept false n j h = accepts-full b (addPart false n j (recordOf c (summary ss))) marks (m .bits) n end-marked ∙ ap (λ (x : ℕ). possible b (max (suc n) x) (addPart false n j (recordOf c (summary ss)))) top-record ∙ full-settle b c (someFull (summary ss)) (max (suc n) (summary ss .top)) n j (summary ss .part)
-
--- a test that is asked only where another passes
-both-same : (j x y : Bool) → (j ≡ true → x ≡ y) → both j x ≡ both j y
-both-same true x y f = f refl
-both-same false x y f = refl
-
--- THE DECISION of records and marks is the decision of what is kept
-module _ (limit : ℕ) (hs bs : List Segment) (f : Fits limit hs bs) (headerMarks bodyMarks : List ℕ) (mh : Marked headerMarks hs) (mb : Marked bodyMarks bs) where
-  pass : Passes limit hs bs
-  pass = fits-passes limit hs bs f
-
-  pub suits-kept : (c : Core) → suitsIn limit c (recordOf (boundsOf Header limit (coreOf hs)) (summary hs)) headerMarks (recordOf (boundsOf Body limit (coreOf hs)) (summary bs)) bodyMarks ≡ suitsBoth limit c (summary hs) (summary bs)
-  unfolding suitsIn suits
-  suits-kept c = rw (possible-kept (boundsOf Header limit c) (boundsOf Header limit (coreOf hs)) headerMarks hs mh (pass .headerAgree) (pass .headerClear), possible-kept (boundsOf Body limit c) (boundsOf Body limit (coreOf hs)) bodyMarks bs mb (pass .bodyAgree) (pass .bodyClear)) refl
-
-  pub takes-kept : (kind : Part) (s : Segment) → takes kind limit (coreOf hs) (recordOf (boundsOf Header limit (coreOf hs)) (summary hs)) headerMarks (recordOf (boundsOf Body limit (coreOf hs)) (summary bs)) bodyMarks s ≡ accepts kind limit (coreOf hs) (summary hs) (summary bs) s
-  unfolding suits
-  takes-kept Header s =
-      let c : Core = coreAfter s (coreOf hs) in
-      rw (joins-kept (boundsOf Header limit c) (boundsOf Header limit (coreOf hs)) headerMarks hs mh (pass .headerAgree) (pass .headerClear) (s .last) (length (s .bytes)))
-      (both-same (joins (someFull (summary hs)) (s .last) (length (s .bytes)) (summary hs .part)) _ _
-      (λ j. rw (accepts-kept (boundsOf Header limit c) (boundsOf Header limit (coreOf hs)) headerMarks hs mh (pass .headerAgree) (pass .headerClear) (s .last) (s .number) (length (s .bytes)) j, possible-kept (boundsOf Body limit c) (boundsOf Body limit (coreOf hs)) bodyMarks bs mb (pass .bodyAgree) (pass .bodyClear)) refl))
-  takes-kept Body s =
-      let c : Core = coreOf hs in
-      rw (joins-kept (boundsOf Body limit c) (boundsOf Body limit c) bodyMarks bs mb (pass .bodyAgree) (pass .bodyClear) (s .last) (length (s .bytes)))
-      (both-same (joins (someFull (summary bs)) (s .last) (length (s .bytes)) (summary bs .part)) _ _
-      (λ j. rw (accepts-kept (boundsOf Body limit c) (boundsOf Body limit c) bodyMarks bs mb (pass .bodyAgree) (pass .bodyClear) (s .last) (s .number) (length (s .bytes)) j, possible-kept (boundsOf Header limit c) (boundsOf Header limit c) headerMarks hs mh (pass .headerAgree) (pass .headerClear)) refl))
-
-  -- so it is exact: the segment is taken exactly when it and those that are in fit some object and cut
-  pub taken : (kind : Part) (s : Segment) → limit ≤ limitMost → Bytes (s .bytes) → ¬ (Numbered (s .number) (those kind hs bs)) → (takes kind limit (coreOf hs) (recordOf (boundsOf Header limit (coreOf hs)) (summary hs)) headerMarks (recordOf (boundsOf Body limit (coreOf hs)) (summary bs)) bodyMarks s ≡ true) ↔ Fits limit (headersWith kind s hs) (bodiesWith kind s bs)
-  taken kind s z y n = rw (takes-kept kind s) (accepted kind limit s hs bs z y f n)
+-- THE DECISION, of the record and the marks of its part and of the other: a segment of a part whose number is not marked
+-- fits, c being what header segment 0 says with it in
+abbrev pub takes : Part → ℕ → Core → Record → List ℕ → Record → List ℕ → Bool → ℕ → ℕ → Bool
+takes part limit c p marks q others last n k = all
+    (coreFits limit c
+    ∷ fitsIn (boundsOf part limit c) p marks last n k
+    ∷ possibleIn (boundsOf (otherPart part) limit c) q others
+    ∷ [])

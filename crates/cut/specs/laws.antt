@@ -8,3 +8,4 @@ pub mod Finished
 pub mod Known
 pub mod Marks
 pub mod Cases
+pub mod Sums

@@ -18,7 +18,7 @@ use Rattle.wire.specs.declared.Reading.the-variants.{Read, Refused}
 use Rattle.wire.specs.Reading.{readingOf}
 use Rattle.cut.specs.Lists.{pick, Bytes}
 use Rattle.cut.specs.Requirement.{Segment}
-use Rattle.cut.specs.laws.Object.{headersWith, bodiesWith}
+use Rattle.cut.specs.Parts.{headersWith, bodiesWith}
 use Rattle.slots.specs.Stores.{Stores}
 use Rattle.slots.specs.laws.StateTests.{Limits}
 use Rattle.collector.specs.declared.Located.{Located}

@@ -23,11 +23,11 @@ use Rattle.wire.specs.Reading.{readingOf}
 use Rattle.cut.specs.Lists.{pick, Each, Among, Bytes}
 use Rattle.cut.specs.Requirement.{headerNumbers, bodyNumbers, Segment, Fits, Finished, joined}
 use Rattle.cut.specs.Decision.{both}
-use Rattle.cut.specs.laws.Object.{headersWith, bodiesWith}
+use Rattle.cut.specs.Parts.{headersWith, bodiesWith}
 use Rattle.header.specs.declared.Reading.{Reading}
 use Rattle.header.specs.Parameters.{readHeader}
 use Rattle.object.specs.declared.Stage.the-variants as Stage
-use Rattle.object.specs.Offers.{Source, SentBy}
+use Rattle.object.specs.Source.{Source, SentBy}
 use Rattle.slots.specs.declared.Found.the-variants.{Nothing, At}
 use Rattle.slots.specs.Find.{isFree}
 use Rattle.names.specs.Requirement.{Named}

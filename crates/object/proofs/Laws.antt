@@ -1,57 +1,41 @@
 -- Laws that the proofs of the code share.
 -- Assumes nothing.
-use mathlib.Core.Path.{_≡_, refl, ap, _∙_}
+use mathlib.Core.Path.{_≡_, refl, sym, ap, _∙_}
 use mathlib.Core.Bool.{Bool, true, false}
 use mathlib.Core.List.{List, [], _∷_, _++_, append-nil}
-use Prim.Native.Nat.{ℕ, _-_, _≤_}
+use Prim.Native.Nat.{ℕ, _+_, _-_, _≤_}
 use native.Mathlib.Decide.{ℕ-discrete}
 use native.Mathlib.Omega.{arith}
 use lib.ListN.{length, take, drop, length-take, length-drop, drop-of-length-le}
 use borrow.Rule.Slice.PartMut.{putMid}
 use lib.Dec.{leb, eqb}
 use borrow.Author.Tests.{le-leb, lt-leb, eq-eqb, ne-eqb}
-use Rattle.octets.specs.Octets.{sumOf, largestOf}
+use Rattle.octets.specs.Octets.{sumOf, summed, largestOf}
+use Rattle.octets.specs.laws.Marks.{summed-short}
 use Rattle.answer.specs.declared.Part.{Part}
 use Rattle.answer.specs.declared.Part.the-variants.{Header, Body}
 use Rattle.cut.specs.declared.Core.{Core}
-use Rattle.cut.specs.declared.Core.the-variants.{Unseen, Seen}
-use Rattle.cut.specs.Decision.{both, boundsOf}
-use Rattle.part.specs.Places.{Counted}
+use Rattle.cut.specs.Requirement.{headerNumbers, bodyNumbers}
+use Rattle.cut.specs.Decision.{boundsOf}
+use Rattle.part.specs.Asked.{Counted}
 use Rattle.object.specs.Take.{marksOf}
+use Rattle.object.specs.laws.Inside.{bounds-numbers, numbers-most, marks-length}
 
 -- ---- a part's marks
 
-pub marks-numbers : (part : Part) (limit : ℕ) (core : Core) (marks : List ℕ) → length marks ≡ 1088 → length (marksOf part marks) ≡ boundsOf part limit core .numbers
-unfolding boundsOf
-marks-numbers Header limit Unseen marks h = rw length-take (omega arith)
-marks-numbers Header limit (Seen body header) marks h = rw length-take (omega arith)
-marks-numbers Body limit Unseen marks h = rw length-drop (omega arith)
-marks-numbers Body limit (Seen body header) marks h = rw length-drop (omega arith)
+pub counted : (part : Part) (limit : ℕ) (core : Core) (marks : List ℕ) → length marks ≡ headerNumbers + bodyNumbers → Counted (boundsOf part limit core) (sumOf (marksOf part marks)) (marksOf part marks)
+counted part limit core marks h = record {
+  numbers = marks-length part marks h ∙ sym (bounds-numbers part limit core);
+  few = omega (arith, bounds-numbers part limit core, numbers-most part);
+  sum = refl;
+}
 
-pub numbers-most : (part : Part) (limit : ℕ) (core : Core) → boundsOf part limit core .numbers ≤ 1024
-unfolding boundsOf
-numbers-most Header limit Unseen = omega arith
-numbers-most Header limit (Seen body header) = omega arith
-numbers-most Body limit Unseen = omega arith
-numbers-most Body limit (Seen body header) = omega arith
-
-pub marks-short : (part : Part) (marks : List ℕ) → length marks ≡ 1088 → length (marksOf part marks) ≤ 1024
-marks-short part marks h = omega (arith, marks-numbers part 0 Unseen marks h, numbers-most part 0 Unseen)
-
-pub header-numbers : boundsOf Header 0 Unseen .numbers ≡ 64
-unfolding boundsOf
-header-numbers = refl
-
-pub counted : (part : Part) (limit : ℕ) (core : Core) (marks : List ℕ) → length marks ≡ 1088 → Counted (boundsOf part limit core) (sumOf (marksOf part marks)) (marksOf part marks)
-counted part limit core marks h = record { numbers = marks-numbers part limit core marks h; few = numbers-most part limit core; sum = refl }
+pub counted-sum : (part : Part) (marks : List ℕ) → length marks ≡ headerNumbers + bodyNumbers → summed (marksOf part marks) ≡ sumOf (marksOf part marks)
+counted-sum part marks h = summed-short (marksOf part marks) (omega (arith, marks-length part marks h, numbers-most part))
 
 -- the body's marks, back among all
-pub back-whole : (l m : List ℕ) → 64 ≤ length l → putMid 64 (length l - 64) l m ≡ take 64 l ++ m
-back-whole l m h = ap (λ (r : List ℕ). take 64 l ++ r) (ap (λ (r : List ℕ). m ++ r) (drop-of-length-le (drop 64 l) {i = length l - 64} (rw length-drop (omega arith))) ∙ append-nil m)
-
-pub both-only : (a : Bool) → both a true ≡ a
-both-only true = refl
-both-only false = refl
+pub back-whole : (l m : List ℕ) → headerNumbers ≤ length l → putMid headerNumbers (length l - headerNumbers) l m ≡ take headerNumbers l ++ m
+back-whole l m h = ap (λ (r : List ℕ). take headerNumbers l ++ r) (ap (λ (r : List ℕ). m ++ r) (drop-of-length-le (drop headerNumbers l) {i = length l - headerNumbers} (rw length-drop (omega arith))) ∙ append-nil m)
 
 -- some mark is set exactly where the largest is 1
 largest-sum : (marks : List ℕ) → largestOf marks ≤ sumOf marks

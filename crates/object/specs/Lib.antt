@@ -1,9 +1,6 @@
-pub mod Memory
 pub mod Take
 pub mod Sound
-pub mod Shape
-pub mod Held
+pub mod Asked
 pub mod State
-pub mod Offers
-pub mod Inner
+pub mod Source
 pub mod laws

@@ -3,20 +3,27 @@ use mathlib.Core.Path.{_≡_}
 use mathlib.Core.Logic.{_⊎_}
 use mathlib.Core.List.{List}
 use Prim.Native.Nat.{ℕ}
-use lib.ListN.{getD}
+use lib.ListN.{length, getD}
 use Rattle.answer.specs.declared.Part.{Part}
 use Rattle.answer.specs.declared.Part.the-variants.{Header, Body}
 use Rattle.cut.specs.Lists.{Each}
-use Rattle.cut.specs.Requirement.{Segment, Fits}
+use Rattle.cut.specs.Requirement.{Segment, Fits, Finished}
 use Rattle.cut.specs.Decision.{boundsOf, summary, recordOf, coreOf}
 use Rattle.object.specs.declared.Slot.{Slot}
-use Rattle.object.specs.Memory.{heldIn}
+use Rattle.part.specs.Memory.{heldIn}
 use Rattle.object.specs.Take.{Lent, partsOf, memoryOf}
-use Rattle.object.specs.Held.{StageFor}
+use Rattle.object.specs.declared.Stage.{Stage}
+use Rattle.object.specs.declared.Stage.the-variants as Stage
 
 -- the marked segments of a part, with their recorded lengths and stored bytes
 abbrev pub markedSegments : Part → Slot → Lent → List Segment
 markedSegments part slot lent = heldIn (memoryOf part (partsOf slot lent))
+
+-- the stage that segments give which fit an object: finished with its two lengths, once every segment of it is in
+abbrev pub StageFor : {limit : ℕ} {hs bs : List Segment} → Fits limit hs bs → Stage → Type 0
+StageFor f Stage.Free = ⊥
+StageFor f Stage.Gathering = ¬ (Finished f)
+StageFor f (Stage.Finished header body) = Finished f × (header ≡ length (f .header)) × (body ≡ length (f .body))
 
 pub record Sound (limit : ℕ) (slot : Slot) (lent : Lent) : Type 0 where
   -- each mark is 0 or 1

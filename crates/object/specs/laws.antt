@@ -1,3 +1,6 @@
+pub mod Shape
+pub mod Held
+pub mod Offers
 pub mod Inside
 pub mod HeldSlot
 pub mod StepStage
@@ -10,4 +13,5 @@ pub mod StateAnswered
 pub mod StepBytes
 pub mod Shown
 pub mod OffersKept
-pub mod Meets
+pub mod Decided
+pub mod Stored

@@ -1,5 +1,3 @@
 pub mod Memory
 pub mod Asked
-pub mod Places
-pub mod Keeps
 pub mod laws

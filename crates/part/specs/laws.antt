@@ -1,3 +1,4 @@
+pub mod Keeps
 pub mod Inside
 pub mod HeldIn
 pub mod HeldBytes

@@ -7,17 +7,14 @@ pub mod record;
 use cut::Bounds;
 use cut::Record;
 ghost use mathlib.Core.Path.{_≡_};
-ghost use mathlib.Core.List.{[]};
 ghost use Prim.Native.Nat.{suc, _*_, _≤_, _<_};
-ghost use lib.Dec.{eqb, leb};
+ghost use lib.Dec.{eqb};
 ghost use lib.ListN.{length, drop};
 ghost use Rattle.octets.specs.Octets.{sumOf};
-ghost use Rattle.cut.specs.Requirement.{bodyNumbers};
-ghost use Rattle.cut.specs.Decision.{settle};
-ghost use Rattle.cut.specs.Sums.{ended, possibleIn, acceptsIn};
-ghost use Rattle.part.specs.Memory.{placeOf, lengthOf, segmentAt, movedAs, settled, put};
-ghost use Rattle.part.specs.Asked.{markOf, sameFlag, sameSegment, fitsPart, recordAdding, endRight, recordRight, soundPart};
-ghost use Rattle.part.specs.Places.{Counted, Held, CanMove, CanPut};
+ghost use Rattle.cut.specs.Requirement.{bodyNumbers, segment};
+ghost use Rattle.cut.specs.Sums.{ended, fullBy, possibleIn, acceptsIn, fitsIn};
+ghost use Rattle.part.specs.Memory.{memory, placeOf, lengthOf, movedAs, settled, put};
+ghost use Rattle.part.specs.Asked.{markOf, heldAt, sameFlag, sameSegment, recordAdding, recordSettled, endRight, recordRight, soundPart, Counted, Held, CanMove, CanPut};
 
 // ---- what is in
 
@@ -28,14 +25,6 @@ pub fn holds(number: usize, marks: &[u8]) -> bool
         return false;
     }
     0 < marks[number]
-}
-
-// How many segments are in, where each mark is 0 or 1.
-pub fn total(marks: &[u8]) -> u32
-    requires { ⌜ length (now marks) ≤ bodyNumbers ⌝ }
-    ensures { λ r. ⌜ r ≡ sumOf (now (marks .entry)) ⌝ }
-{
-    octets::sum(marks)
 }
 
 // Whether a segment that is held is the last one.
@@ -73,7 +62,7 @@ fn place_of(last: bool, size: usize, width: usize, number: usize, count: usize) 
 // The bytes of a segment that is held, read back out of the share.
 pub fn segment_at(kept: Record, number: usize, share: &[u8]) -> &[u8]
     requires { ⌜ Held kept number (now share) ⌝ }
-    ensures { λ r. ⌜ now r ≡ segmentAt (record { kept = kept; marks = []; share = now (share .entry) }) number .bytes ⌝ }
+    ensures { λ r. ⌜ now r ≡ heldAt kept (now (share .entry)) number .bytes ⌝ }
 {
     let last = is_last(kept, number);
     let count = length_of(last, kept);
@@ -90,7 +79,7 @@ fn same_flag(a: bool, b: bool) -> bool
 // Whether a segment is the one that is held under its number.
 pub fn same(kept: Record, last: bool, number: usize, bytes: &[u8], share: &[u8]) -> bool
     requires { ⌜ Held kept number (now share) ⌝ }
-    ensures { λ r. ⌜ r ≡ sameSegment (record { number = number; last = last; bytes = now (bytes .entry) }) (segmentAt (record { kept = kept; marks = []; share = now (share .entry) }) number) ⌝ }
+    ensures { λ r. ⌜ r ≡ sameSegment (segment number last (now (bytes .entry))) (heldAt kept (now (share .entry)) number) ⌝ }
 {
     if !same_flag(last, is_last(kept, number)) {
         return false;
@@ -108,7 +97,7 @@ fn ended(kept: Record) -> u32
 
 // Whether a full segment is in, total being how many are.
 fn full(kept: Record, total: u32) -> bool
-    ensures { λ r. ⌜ r ≡ leb (suc (ended kept)) total ⌝ }
+    ensures { λ r. ⌜ r ≡ fullBy kept total ⌝ }
 {
     ended(kept) < total
 }
@@ -138,7 +127,7 @@ pub fn possible(bounds: Bounds, kept: Record, total: u32, marks: &[u8]) -> bool
 }
 
 // The same of a part with one segment more, whose record is that with it and whose mark is not set yet.
-fn possible_with(
+fn accepts(
     last: bool,
     number: usize,
     bounds: Bounds,
@@ -163,7 +152,7 @@ fn possible_with(
 }
 
 // Whether a segment of a number that is not in fits, with those that are.
-pub fn accepts(
+pub fn fits(
     bounds: Bounds,
     kept: Record,
     total: u32,
@@ -173,7 +162,7 @@ pub fn accepts(
     count: usize,
 ) -> bool
     requires { ⌜ Counted bounds total (now marks) ⌝ }
-    ensures { λ r. ⌜ r ≡ fitsPart bounds kept (now (marks .entry)) last number count ⌝ }
+    ensures { λ r. ⌜ r ≡ fitsIn bounds kept (now (marks .entry)) last number count ⌝ }
 {
     if bounds.numbers <= number {
         return false;
@@ -182,7 +171,7 @@ pub fn accepts(
         return false;
     }
     let with = record::add(last, number, count, kept);
-    possible_with(last, number, bounds, with, total, marks)
+    accepts(last, number, bounds, with, total, marks)
 }
 
 // ---- one segment more
@@ -208,7 +197,7 @@ pub fn with(
 
 // The record of a part that gets none, within bounds that may have met.
 pub fn within(bounds: Bounds, kept: Record, total: u32) -> Record
-    ensures { λ r. ⌜ r ≡ settle bounds (leb (suc (ended kept)) total) kept ⌝ }
+    ensures { λ r. ⌜ r ≡ recordSettled bounds kept total ⌝ }
 {
     record::settle(bounds, full(kept, total), kept)
 }
@@ -243,7 +232,7 @@ pub fn put(
 )
     requires { ⌜ CanMove old new (now share) ⌝ }
     requires { ⌜ CanPut new number (length (now bytes)) (now share) (now marks) ⌝ }
-    ensures { λ _. ⌜ record { kept = new; marks = now (marks .exit); share = now (share .exit) } ≡ put (record { number = number; last = last; bytes = now (bytes .entry) }) (settled new (record { kept = old; marks = now (marks .entry); share = now (share .entry) })) ⌝ }
+    ensures { λ _. ⌜ memory new (now (marks .exit)) (now (share .exit)) ≡ put (segment number last (now (bytes .entry))) (settled new (memory old (now (marks .entry)) (now (share .entry)))) ⌝ }
 {
     settle(old, new, share);
     let count = bytes.len();
@@ -266,7 +255,7 @@ fn end_right(end: usize, tail: usize, marks: &[u8]) -> bool
 
 fn record_right(bounds: Bounds, kept: Record, total: u32, marks: &[u8]) -> bool
     requires { ⌜ Counted bounds total (now marks) ⌝ }
-    ensures { λ r. ⌜ r ≡ recordRight bounds (record { kept = kept; marks = now (marks .entry); share = [] }) ⌝ }
+    ensures { λ r. ⌜ r ≡ recordRight bounds kept (now (marks .entry)) ⌝ }
 {
     if !end_right(kept.end, kept.tail, marks) {
         return false;

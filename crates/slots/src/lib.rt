@@ -16,7 +16,7 @@ ghost use lib.ListN.{length, take, drop, set};
 ghost use Rattle.octets.specs.Octets.{zeros};
 ghost use Rattle.cut.specs.Requirement.{headerMost};
 ghost use Rattle.object.specs.Take.{takeInto};
-ghost use Rattle.object.specs.Inner.{Offered};
+ghost use Rattle.object.specs.Asked.{Offered};
 ghost use Rattle.slots.specs.Stores.{slotsMost, slotMarks, noRecord, freeSlot, freshSlot, lentAt};
 ghost use Rattle.slots.specs.Find.{isFree, holds, findIn, freeIn};
 ghost use Rattle.slots.specs.Alone.{fitsAlone};

@@ -19,7 +19,7 @@ use Rattle.cut.specs.Decision.{both, all, boundsOf, coreFits, room, larg
 use Rattle.cut.specs.laws.Core.{coreBytes}
 use Rattle.cut.specs.laws.Segment.{Numbered}
 use Rattle.cut.specs.laws.Decision.{both-true, all-true, false-true}
-use Rattle.cut.specs.laws.Object.{headersWith, bodiesWith, those}
+use Rattle.cut.specs.Parts.{headersWith, bodiesWith, those}
 use Rattle.cut.specs.laws.Theorem.{nothing-fits, accepted}
 use Rattle.cut.specs.laws.Finished.{Counted, finished-iff}
 use Rattle.cut.specs.laws.Known.{sizeOf, known-cut}

@@ -13,7 +13,7 @@ use Rattle.cut.specs.Lists.{pick, Each}
 use Rattle.cut.specs.Requirement.{sizeMost, Segment}
 use Rattle.cut.specs.declared.Bounds.{Bounds}
 use Rattle.cut.specs.declared.Record.{Record}
-use Rattle.cut.specs.Decision.{both, all, openTests, endedTests, roomAs, room, largest, nothingTests, firstTests, laterTests, aloneTests, alone, possible, Summary, addPart, addTop, summary, derived, settle, tailFollows, sizeFollows, follows}
+use Rattle.cut.specs.Decision.{both, all, openTests, endedTests, roomAs, room, largest, nothingTests, firstTests, laterTests, aloneTests, alone, possible, Summary, addPart, addTop, summary, derived, settle}
 use Rattle.cut.specs.laws.Segment.{SitsAs, Sits, Within, PartSits}
 
 -- ---- tests
@@ -273,27 +273,3 @@ pub possible-sits : (b : Bounds) (ss : List Segment) → Clear ss → possible b
 possible-sits b ss c e =
     let r = possible-suits b (summary ss .top) (summary ss .part) e in
     record { size = r .cut; long = r .long; within = r .within; sits = sum-sits (r .cut) (r .long) ss c (r .full, r .ended) }
-
--- ---- the record
-
-tail-follows : (end tail : ℕ) → (tailFollows end tail ≡ true) ↔ (end ≡ 0 → tail ≡ 0)
-tail-follows zero tail = ((λ e z. eqb-true tail 0 e), (λ h. eq-eqb tail 0 (h refl)))
-tail-follows (suc n) tail = ((λ e z. absurd (omega arith)), (λ h. refl))
-
-settled-as : (b : Bounds) (full : Bool) (p : Record) → (sizeFollows full (p .size) (derived b (p .end) (p .tail)) ≡ true) ↔ (settle b full p ≡ p)
-unfolding settle
-settled-as b true p = ((λ e. refl), (λ e. refl))
-settled-as b false p = (
-  (λ e. let x : p .size ≡ derived b (p .end) (p .tail) = eqb-true (p .size) (derived b (p .end) (p .tail)) e in λ i. record { size = sym x i; end = p .end; tail = p .tail }),
-  (λ e. eq-eqb (p .size) (derived b (p .end) (p .tail)) (sym (ap (λ (q : Record). q .size) e))),
-)
-
--- a record follows exactly when settling changes nothing, and it has no tail where it has no end
-pub follows-iff : (b : Bounds) (full : Bool) (p : Record) → (follows b full p ≡ true) ↔ ((p .end ≡ 0 → p .tail ≡ 0) × (settle b full p ≡ p))
-unfolding follows
-follows-iff b full p =
-    let t = tail-follows (p .end) (p .tail) in
-    let s = settled-as b full p in (
-      (λ e. let r = both-true (sizeFollows full (p .size) (derived b (p .end) (p .tail))) (tailFollows (p .end) (p .tail)) e in (t .0 (r .1), s .0 (r .0))),
-      (λ h. true-both (sizeFollows full (p .size) (derived b (p .end) (p .tail))) (tailFollows (p .end) (p .tail)) (s .1 (h .1)) (t .1 (h .0))),
-    )

@@ -20,7 +20,8 @@ use Rattle.cut.specs.declared.Bounds.{Bounds}
 use Rattle.cut.specs.Decision.{boundsOf, derived, settle, summary, recordOf, coreOf, coreTests, coreFits, alone, largest, suits}
 use Rattle.cut.specs.laws.Segment.{PartSits, Sits, sends-sits}
 use Rattle.cut.specs.laws.Decision.{all-true, TopSits, EndSits, SumSits, sits-sum, sum-sits}
-use Rattle.cut.specs.laws.Object.{those, partOf, cutOf, WithinOf, fits-within, fits-sits, fits-passes, fits-core, sits-object, header-bytes, body-bytes, passes-fits}
+use Rattle.cut.specs.laws.Object.{WithinOf, fits-within, fits-sits, fits-passes, fits-core, sits-object, header-bytes, body-bytes, passes-fits}
+use Rattle.cut.specs.Parts.{those, partOf, cutOf}
 
 -- ---- in numbers
 

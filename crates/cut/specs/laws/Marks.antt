@@ -21,7 +21,8 @@ use Rattle.cut.specs.declared.Core.the-variants.{Unseen, Seen}
 use Rattle.cut.specs.Decision.{both, summary, coreOf, whole, finished}
 use Rattle.cut.specs.laws.Segment.{Sits, inside, Numbered, Agree, numbered-among, among-numbered}
 use Rattle.cut.specs.laws.Decision.{Clear, EndSits, both-true, true-both, false-true, sits-sum}
-use Rattle.cut.specs.laws.Object.{those, partOf, cutOf, fits-within, fits-sits}
+use Rattle.cut.specs.laws.Object.{fits-within, fits-sits}
+use Rattle.cut.specs.Parts.{those, partOf, cutOf}
 use Rattle.cut.specs.laws.Order.{Knows, knows-each, knows-last, knows-full, EndFrom, TopFrom, end-from, top-from, agree-same}
 use Rattle.cut.specs.laws.Finished.{Counted, finished-iff, finished-core}
 

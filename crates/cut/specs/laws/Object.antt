@@ -17,32 +17,9 @@ use Rattle.cut.specs.declared.Core.the-variants.{Unseen, Seen}
 use Rattle.cut.specs.declared.Bounds.{Bounds}
 use Rattle.cut.specs.Decision.{boundsOf, coreTests, coreFits, possible, summary, coreOf, suitTests, suits, suitsBoth}
 use Rattle.cut.specs.laws.Core.{coreBytes, core-body, core-header, core-is-bytes, front-body, front-header}
+use Rattle.cut.specs.Parts.{headersWith, bodiesWith, those, partOf, cutOf}
 use Rattle.cut.specs.laws.Segment.{Sits, Agree, Within, PartFits, PartSits, sits-fits, sends-agree, sends-sits, sent-bytes, fill, fill-length, fill-bytes, fill-sends, fill-front}
 use Rattle.cut.specs.laws.Decision.{Clear, all-true, true-all, sits-possible, possible-sits}
-
--- ---- one part or the other
-
--- a segment more, of the header or of the body
-abbrev pub headersWith : Part → Segment → List Segment → List Segment
-headersWith Header s hs = s ∷ hs
-headersWith Body s hs = hs
-
-abbrev pub bodiesWith : Part → Segment → List Segment → List Segment
-bodiesWith Header s bs = bs
-bodiesWith Body s bs = s ∷ bs
-
--- the segments of a part, and of an object that they fit the part's bytes and its cut
-abbrev pub those : Part → List Segment → List Segment → List Segment
-those Header hs bs = hs
-those Body hs bs = bs
-
-abbrev pub partOf : (kind : Part) {limit : ℕ} {hs bs : List Segment} → Fits limit hs bs → List ℕ
-partOf Header f = f .header
-partOf Body f = f .body
-
-abbrev pub cutOf : (kind : Part) {limit : ℕ} {hs bs : List Segment} → Fits limit hs bs → ℕ
-cutOf Header f = f .headerCut
-cutOf Body f = f .bodyCut
 
 -- ---- what header segment 0 says
 

@@ -17,7 +17,8 @@ use Rattle.cut.specs.declared.Record.{Record}
 use Rattle.cut.specs.Decision.{both, boundsOf, coreFits, alone, joins, someFull, Summary, addTo, summary, coreOf, suits, accepts}
 use Rattle.cut.specs.laws.Segment.{Numbered, same-is, sends-same, agree-new}
 use Rattle.cut.specs.laws.Decision.{JoinsAs, SizeIs, EndIs, both-true, true-both}
-use Rattle.cut.specs.laws.Object.{headersWith, bodiesWith, those, Passes, fits-passes, passes-fits, header-bytes, body-bytes}
+use Rattle.cut.specs.laws.Object.{Passes, fits-passes, passes-fits, header-bytes, body-bytes}
+use Rattle.cut.specs.Parts.{headersWith, bodiesWith, those}
 
 -- segments fit some object and cut exactly when they agree and the tests on numbers pass
 pub fits-decided : (limit : ℕ) (hs bs : List Segment) → limit ≤ limitMost → Each (λ s. Bytes (s .bytes)) hs → Each (λ s. Bytes (s .bytes)) bs → Fits limit hs bs ↔ Passes limit hs bs

@@ -12,13 +12,13 @@ use Rattle.answer.specs.declared.Part.the-variants.{Header, Body}
 use Rattle.wire.specs.declared.Segment.{Segment as Carried}
 use Rattle.cut.specs.Lists.{Among, Bytes}
 use Rattle.cut.specs.Requirement.{limitMost, Segment, Fits, Finished}
-use Rattle.cut.specs.laws.Object.{headersWith, bodiesWith, those}
+use Rattle.cut.specs.Parts.{headersWith, bodiesWith, those}
 use Rattle.cut.specs.laws.Decision.{false-true}
 use Rattle.object.specs.declared.Slot.{Slot}
 use Rattle.object.specs.declared.Outcome.{Outcome}
 use Rattle.object.specs.declared.Outcome.the-variants.{Stored, Complete, Repeat, Conflict}
 use Rattle.object.specs.Take.{Lent, partsOf, takeInto}
-use Rattle.object.specs.Held.{Gathers}
+use Rattle.object.specs.laws.Held.{Gathers}
 use Rattle.object.specs.State.{markedSegments}
 use Rattle.object.specs.laws.StateExact.{sound-holds}
 use Rattle.object.specs.laws.Step.{conflict-exactly, repeat-exactly, complete-exactly, stored-exactly}

@@ -11,7 +11,7 @@ use Rattle.answer.specs.declared.Part.{Part}
 use Rattle.answer.specs.declared.Part.the-variants.{Header, Body}
 use Rattle.cut.specs.Lists.{Each}
 use Rattle.cut.specs.Requirement.{Segment, Fits, Finished}
-use Rattle.cut.specs.laws.Object.{those}
+use Rattle.cut.specs.Parts.{those}
 use Rattle.object.specs.declared.Stage.the-variants as Stage
 use Rattle.object.specs.declared.Outcome.{Outcome}
 use Rattle.object.specs.declared.Outcome.the-variants.{Stored, Complete, Repeat, Conflict}

@@ -15,7 +15,7 @@ use Rattle.header.specs.declared.Fields.{Fields}
 use Rattle.header.specs.declared.Name.the-variants as Name
 use Rattle.header.specs.declared.Priority.the-variants as Priority
 use Rattle.object.specs.declared.Stage.the-variants as Stage
-use Rattle.object.specs.Offers.{SentBy}
+use Rattle.object.specs.Source.{SentBy}
 use Rattle.collector.specs.declared.Located.the-variants as Located
 use Rattle.queries.specs.declared.Asked.the-variants as Asked
 use Rattle.queries.specs.declared.Sought.the-variants as Sought

@@ -19,11 +19,11 @@ use Rattle.wire.specs.declared.Reading.the-variants.{Read, Refused}
 use Rattle.wire.specs.Reading.{readingOf}
 use Rattle.cut.specs.Lists.{pick, Each, Among, Bytes}
 use Rattle.cut.specs.Requirement.{Segment, Fits, Finished}
-use Rattle.cut.specs.laws.Object.{headersWith, bodiesWith}
+use Rattle.cut.specs.Parts.{headersWith, bodiesWith}
 use Rattle.object.specs.declared.Stage.the-variants as Stage
 use Rattle.object.specs.declared.Outcome.{Outcome}
 use Rattle.object.specs.declared.Outcome.the-variants.{Stored, Complete, Repeat, Conflict}
-use Rattle.object.specs.Offers.{Source, SentBy}
+use Rattle.object.specs.Source.{Source, SentBy}
 use Rattle.object.specs.laws.OffersKept.{source-fits}
 use Rattle.collector.specs.Calls.{heardAs, segmentIn, answerAs}
 use Rattle.history.specs.laws.Call.{taking, groupAnswer, dropAnswer, came}

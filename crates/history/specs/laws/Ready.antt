@@ -10,7 +10,7 @@ use Rattle.cut.specs.Lists.{Bytes, bytes-take, bytes-drop}
 use Rattle.cut.specs.Requirement.{headerMost, limitMost}
 use Rattle.cut.specs.laws.Decision.{both-true}
 use Rattle.object.specs.Sound.{soundSlot}
-use Rattle.object.specs.Shape.{IsLent}
+use Rattle.object.specs.laws.Shape.{IsLent}
 use Rattle.slots.specs.declared.Found.the-variants.{Nothing, At}
 use Rattle.slots.specs.Stores.{slotMarks, Stores, lentAt}
 use Rattle.slots.specs.Find.{isFree, holds, findIn, freeIn}

@@ -30,8 +30,10 @@ use Rattle.object.specs.declared.Stage.{Stage}
 use Rattle.object.specs.declared.Stage.the-variants as Stage
 use Rattle.object.specs.declared.Outcome.{Outcome}
 use Rattle.object.specs.declared.Outcome.the-variants.{Stored, Complete, Repeat, Conflict}
-use Rattle.object.specs.Memory.{segmentAt}
-use Rattle.object.specs.Take.{Lent, partsOf, memoryOf, takesIn, partsWith, stageOf, outcomeBy, Taken, unchanged, sameSegment, ifNew, ifHeld, byMark, takeInto}
+use Rattle.part.specs.Memory.{segmentAt}
+use Rattle.object.specs.Take.{Lent, partsOf, memoryOf, takesIn, partsWith, stageOf, outcomeBy, Taken, unchanged, takeInto}
+use Rattle.object.specs.laws.Decided.{ifNew, ifHeld, byMark}
+use Rattle.part.specs.Asked.{sameSegment}
 use Rattle.slots.specs.declared.Found.{Found}
 use Rattle.slots.specs.declared.Found.the-variants.{Nothing, At}
 use Rattle.slots.specs.Stores.{freeSlot, freshSlot, slotAt}

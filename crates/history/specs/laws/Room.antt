@@ -17,7 +17,7 @@ use Rattle.cut.specs.Requirement.{headerNumbers, Segment}
 use Rattle.cut.specs.laws.Marks.{Marked}
 use Rattle.object.specs.Take.{partsOf}
 use Rattle.object.specs.laws.Inside.{sound-slot}
-use Rattle.object.specs.Held.{Holds}
+use Rattle.object.specs.laws.Held.{Holds}
 use Rattle.slots.specs.declared.Found.{Found}
 use Rattle.slots.specs.declared.Found.the-variants.{Nothing, At}
 use Rattle.slots.specs.Stores.{slotsMost, freeSlot}

@@ -22,10 +22,11 @@ use Rattle.cut.specs.laws.Segment.{Numbered}
 use Rattle.cut.specs.laws.Finished.{whole-numbers}
 use Rattle.header.specs.Parameters.{lengthAt, parameterAt, within as inHeader, foundAt, turns, parametersFrom, widthFits, allFit, single, count, twice, find as findParameter, fieldsOf, judged, readHeader}
 use Rattle.header.specs.Names.{unslashed, nameMatches}
-use Rattle.object.specs.Memory.{segmentAt, settled, put}
-use Rattle.object.specs.Take.{partsOf, lentOf, coreIn, takesIn, recordWith, recordWithin, partsWith, stageOf, sameSegment, slotWith, takeInto}
-use Rattle.object.specs.Sound.{recordRight, soundParts, soundSlot}
-use Rattle.object.specs.Offers.{Source, SentBy}
+use Rattle.part.specs.Memory.{segmentAt, settled, put}
+use Rattle.object.specs.Take.{partsOf, lentOf, coreIn, takesIn, partsWith, stageOf, slotWith, takeInto}
+use Rattle.part.specs.Asked.{recordWith, recordWithin, sameSegment, recordRight}
+use Rattle.object.specs.Sound.{soundParts, soundSlot}
+use Rattle.object.specs.Source.{Source, SentBy}
 use Rattle.slots.specs.Alone.{fitsAlone}
 use Rattle.slots.specs.Find.{isFree, holds, firstFrom, findIn, freeIn}
 use Rattle.slots.specs.State.{withinLimits, heldAmong, unlike, distinct, rightSlot, rightFrom, soundSlots}

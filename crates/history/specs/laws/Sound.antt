@@ -23,7 +23,7 @@ use Rattle.cut.specs.Requirement.{headerMost, limitMost, Segment}
 use Rattle.cut.specs.laws.Decision.{false-true, true-both}
 use Rattle.object.specs.declared.Slot.{Slot}
 use Rattle.object.specs.Take.{Lent, Taken, takeInto}
-use Rattle.object.specs.Shape.{IsLent}
+use Rattle.object.specs.laws.Shape.{IsLent}
 use Rattle.object.specs.laws.StepSound.{taken-lent, added-sound}
 use Rattle.object.specs.laws.StateAnswered.{sound-stays, lent-stays}
 use Rattle.slots.specs.declared.Found.{Found}

@@ -12,7 +12,8 @@ use Rattle.cut.specs.Requirement.{headerNumbers, bodyNumbers, Segment, Fits, Fi
 use Rattle.cut.specs.laws.Finished.{segmentOf, segment-sent, finished-every, finished-one}
 use Rattle.object.specs.declared.Stage.{Stage}
 use Rattle.object.specs.declared.Stage.the-variants as Stage
-use Rattle.object.specs.Held.{StageFor, Holds}
+use Rattle.object.specs.State.{StageFor}
+use Rattle.object.specs.laws.Held.{Holds}
 use Rattle.object.specs.laws.Shown.{holds-shows}
 use Rattle.slots.specs.declared.Found.{Found}
 use Rattle.slots.specs.declared.Found.the-variants.{Nothing, At}

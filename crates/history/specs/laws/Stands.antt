@@ -22,13 +22,13 @@ use Rattle.wire.specs.declared.Reading.the-variants.{Read, Refused}
 use Rattle.wire.specs.Reading.{readingOf}
 use Rattle.cut.specs.Lists.{pick, Bytes}
 use Rattle.cut.specs.Requirement.{Segment}
-use Rattle.cut.specs.laws.Object.{headersWith, bodiesWith}
+use Rattle.cut.specs.Parts.{headersWith, bodiesWith}
 use Rattle.object.specs.declared.Slot.{Slot}
 use Rattle.object.specs.declared.Outcome.{Outcome}
 use Rattle.object.specs.declared.Outcome.the-variants.{Stored, Complete, Repeat, Conflict}
 use Rattle.object.specs.Take.{Lent, Taken, takeInto}
-use Rattle.object.specs.Shape.{IsLent}
-use Rattle.object.specs.Held.{Holds, Added}
+use Rattle.object.specs.laws.Shape.{IsLent}
+use Rattle.object.specs.laws.Held.{Holds, Added}
 use Rattle.object.specs.laws.Step.{Tells, outcome-tells}
 use Rattle.slots.specs.declared.Found.{Found}
 use Rattle.slots.specs.declared.Found.the-variants.{Nothing, At}

@@ -30,7 +30,7 @@ use Rattle.object.specs.declared.Stage.the-variants as Stage
 use Rattle.object.specs.declared.Outcome.{Outcome}
 use Rattle.object.specs.declared.Outcome.the-variants.{Stored, Complete, Repeat, Conflict}
 use Rattle.object.specs.Take.{Lent, takeInto}
-use Rattle.object.specs.Shape.{IsLent}
+use Rattle.object.specs.laws.Shape.{IsLent}
 use Rattle.object.specs.State.{Sound}
 use Rattle.object.specs.laws.StateExact.{sound-exactly}
 use Rattle.slots.specs.declared.Found.{Found}

@@ -14,18 +14,20 @@ use Rattle.answer.specs.declared.Part.{Part}
 use Rattle.answer.specs.declared.Part.the-variants.{Header, Body}
 use Rattle.cut.specs.Lists.{Bytes, bytes-zeros}
 use Rattle.cut.specs.Requirement.{headerMost, limitMost, Segment, Fits}
-use Rattle.cut.specs.laws.Object.{headersWith, bodiesWith}
+use Rattle.cut.specs.Parts.{headersWith, bodiesWith}
 use Rattle.object.specs.declared.Slot.{Slot}
 use Rattle.object.specs.declared.Stage.{Stage}
 use Rattle.object.specs.declared.Stage.the-variants as Stage
 use Rattle.object.specs.declared.Outcome.{Outcome}
 use Rattle.object.specs.declared.Outcome.the-variants.{Stored, Complete, Repeat, Conflict}
-use Rattle.object.specs.Memory.{segmentAt}
-use Rattle.object.specs.Take.{Lent, partsOf, memoryOf, takesIn, partsWith, stageOf, slotWith, outcomeBy, Taken, sameSegment, ifNew, ifHeld, byMark, takeInto}
+use Rattle.part.specs.Memory.{segmentAt}
+use Rattle.object.specs.Take.{Lent, partsOf, memoryOf, takesIn, partsWith, stageOf, slotWith, outcomeBy, Taken, takeInto}
+use Rattle.object.specs.laws.Decided.{ifNew, ifHeld, byMark}
+use Rattle.part.specs.Asked.{sameSegment}
 use Rattle.object.specs.Sound.{soundSlot}
-use Rattle.object.specs.Shape.{IsLent}
-use Rattle.object.specs.State.{markedSegments}
-use Rattle.object.specs.Held.{Gathers, StageFor, Holds, Vacant, Added}
+use Rattle.object.specs.laws.Shape.{IsLent}
+use Rattle.object.specs.State.{markedSegments, StageFor}
+use Rattle.object.specs.laws.Held.{Gathers, Holds, Vacant, Added}
 use Rattle.object.specs.laws.Step.{Tells, outcome-tells, conflict-exactly}
 use Rattle.object.specs.laws.StepSound.{vacant-gathers}
 use Rattle.object.specs.laws.StateExact.{sound-holds}

@@ -19,7 +19,7 @@ use Rattle.cut.specs.Requirement.{bodySize, headerSize, Segment, Fits, Finished
 use Rattle.cut.specs.laws.Segment.{Numbered}
 use Rattle.cut.specs.laws.Decision.{true-both}
 use Rattle.cut.specs.laws.Finished.{whole-numbers, whole-empty}
-use Rattle.object.specs.Offers.{Source}
+use Rattle.object.specs.Source.{Source}
 use Rattle.slots.specs.declared.Found.{Found}
 use Rattle.slots.specs.declared.Found.the-variants.{Nothing, At}
 use Rattle.slots.specs.Stores.{slotsMost, Stores}

@@ -31,7 +31,7 @@ use Rattle.cut.specs.Requirement.{Segment, Fits, Finished}
 use Rattle.cut.specs.laws.Segment.{sends-sits, inside}
 use Rattle.cut.specs.Decision.{both}
 use Rattle.cut.specs.laws.Decision.{false-true}
-use Rattle.object.specs.Offers.{SentBy}
+use Rattle.object.specs.Source.{SentBy}
 use Rattle.object.specs.declared.Slot.{Slot}
 use Rattle.object.specs.declared.Stage.{Stage}
 use Rattle.object.specs.declared.Stage.the-variants as Stage

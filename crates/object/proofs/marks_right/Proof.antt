@@ -1,7 +1,6 @@
 -- `object::marks_right` meets its contract: the largest mark is 1 exactly where some are set and none is more.
 -- Assumes nothing.
 use borrow.Author.Tests.{le-leb, lt-leb}
-use Rattle.object.specs.Inner.{marksRight}
 use Rattle.object.proofs.Laws.{some-largest}
 use borrow.Author.Needs.{needs}
 use Rattle.object.proofs.marks_right.Statement.{statement}
@@ -11,11 +10,9 @@ largest-requires : tie.Need-largest-requires
 largest-requires c κs = search needs
 
 returns : tie.Need-returns
-unfolding marksRight
 returns c = rw (lt-leb _ _ (rw (c .before .largest .ensures) at (c .if1 .taken)))
 
 returns-2 : tie.Need-returns-2
-unfolding marksRight
 returns-2 c =
     let few = rw (c .before .largest .ensures) at (c .if1 .left) in
     rw (c .before .largest .ensures, le-leb _ _ few) (some-largest (c .before .before .before .args .marks .now) few)

@@ -1,17 +1,20 @@
 -- `object::take` meets its contract: what is decided, and then stored.
 -- Assumes nothing.
 use mathlib.Core.Path.{sym, _∙_}
-use Rattle.cut.specs.Requirement.{Segment}
-use Rattle.object.specs.Take.{Lent, partsOf, partsWith}
-use Rattle.object.specs.laws.Meets.{offered-readable, decided-fits, take-decided, taken-as}
+use Rattle.cut.specs.Requirement.{Segment, segment}
+use Rattle.object.specs.Take.{Lent, shares, takeInto}
+use Rattle.object.specs.laws.Decided.{offered-readable, decided-fits}
 use borrow.Author.Needs.{needs}
 use Rattle.object.proofs.take.Statement.{statement}
 use Rattle.object.proofs.take.Tie as tie
 
-outcome-of-requires : tie.Need-outcome-of-requires
-outcome-of-requires c κs =
-    let lent : Lent = record { header = c .before .before .before .before .before .before .before .args .header .now; body = c .before .before .before .before .before .before .before .args .body .now; marks = c .before .before .before .before .before .before .before .args .marks .now } in
-    offered-readable (c .before .before .before .before .before .before .before .args .part) (c .before .before .before .before .before .before .before .args .number) (c .before .before .before .before .before .before .before .args .limit) (c .before .before .before .before .before .before .before .args .slot) lent (c .before .before .before .before .before .before .before .pre)
+tally-of-requires : tie.Need-tally-of-requires
+tally-of-requires c κs = search needs
+
+decide-requires : tie.Need-decide-requires
+decide-requires c κs =
+    let lent : Lent = shares (c .before .before .before .before .before .before .before .before .before .before .args .header .now) (c .before .before .before .before .before .before .before .before .before .before .args .body .now) (c .before .before .before .before .before .before .before .before .before .before .args .marks .now) in
+    offered-readable (c .before .before .before .tally-of .result) (c .before .before .before .before .before .before .before .before .before .before .args .part) (c .before .before .before .before .before .before .before .before .before .before .args .number) (c .before .before .before .before .before .before .before .before .before .before .args .limit) (c .before .before .before .before .before .before .before .before .before .before .args .slot) lent (c .before .before .before .before .before .before .before .before .before .before .pre) (c .before .before .before .tally-of .ensures)
 
 enum-told : tie.Need-enum-told
 enum-told c = search needs
@@ -24,12 +27,9 @@ enum-known-decided c = search needs
 
 store-requires : tie.Need-store-requires
 store-requires c κs =
-    let lent : Lent = record { header = c .before .before .before .before .before .before .before .before .before .before .before .before .before .before .args .header .now; body = c .before .before .before .before .before .before .before .before .before .before .before .before .before .before .args .body .now; marks = c .before .before .before .before .before .before .before .before .before .before .before .before .before .before .args .marks .now } in
-    let s : Segment = record { number = c .before .before .before .before .before .before .before .before .before .before .before .before .before .before .args .number; last = c .before .before .before .before .before .before .before .before .before .before .before .before .before .before .args .last; bytes = c .before .before .before .before .before .before .before .before .before .before .before .before .before .before .args .bytes .now } in
-    decided-fits (c .before .before .before .before .before .before .before .before .before .before .before .before .before .before .args .part) (c .before .before .before .before .before .before .before .before .before .before .before .before .before .before .args .limit) s (c .before .before .before .before .before .before .before .before .before .before .before .before .before .before .args .slot) lent (c .before .before .before .before .decided .given .0 .0) (c .before .before .before .before .decided .given .0 .1 .0) (c .before .before .before .before .decided .given .0 .1 .1 .0) (c .before .before .before .before .before .before .before .before .before .before .before .before .before .before .pre) (sym (c .before .before .before .before .before .before .outcome-of .ensures) ∙ c .before .before .before .before .decided .given .1)
-
-outcome-by-requires : tie.Need-outcome-by-requires
-outcome-by-requires c κs = search needs
+    let lent : Lent = shares (c .before .before .before .before .before .before .before .before .before .before .before .before .before .before .before .before .before .args .header .now) (c .before .before .before .before .before .before .before .before .before .before .before .before .before .before .before .before .before .args .body .now) (c .before .before .before .before .before .before .before .before .before .before .before .before .before .before .before .before .before .args .marks .now) in
+    let s : Segment = segment (c .before .before .before .before .before .before .before .before .before .before .before .before .before .before .before .before .before .args .number) (c .before .before .before .before .before .before .before .before .before .before .before .before .before .before .before .before .before .args .last) (c .before .before .before .before .before .before .before .before .before .before .before .before .before .before .before .before .before .args .bytes .now) in
+    decided-fits (c .before .before .before .before .before .before .before .before .before .before .before .before .before .before .before .before .before .args .part) (c .before .before .before .before .before .before .before .before .before .before .before .before .before .before .before .before .before .args .limit) s (c .before .before .before .before .before .before .before .before .before .before .before .before .before .before .before .before .before .args .slot) lent (c .before .before .before .before .before .before .before .before .before .before .tally-of .result) (c .before .before .before .before .decided .given .0 .0) (c .before .before .before .before .before .before .before .before .before .before .before .before .before .before .before .before .before .pre) (c .before .before .before .before .before .before .before .before .before .before .tally-of .ensures) (sym (c .before .before .before .before .before .before .decide .ensures) ∙ c .before .before .before .before .decided .given .1)
 
 same-length : tie.Need-same-length
 same-length c = search needs
@@ -41,10 +41,8 @@ same-length-3 : tie.Need-same-length-3
 same-length-3 c = search needs
 
 returns : tie.Need-returns
-returns c =
-    let lent : Lent = record { header = c .before .before .before .before .before .before .before .before .before .before .args .header .now; body = c .before .before .before .before .before .before .before .before .before .before .args .body .now; marks = c .before .before .before .before .before .before .before .before .before .before .args .marks .now } in
-    let s : Segment = record { number = c .before .before .before .before .before .before .before .before .before .before .args .number; last = c .before .before .before .before .before .before .before .before .before .before .args .last; bytes = c .before .before .before .before .before .before .before .before .before .before .args .bytes .now } in
-    rw (take-decided (c .before .before .before .before .before .before .before .before .before .before .args .part) (c .before .before .before .before .before .before .before .before .before .before .args .limit) s (c .before .before .before .before .before .before .before .before .before .before .args .slot) lent, sym (c .before .before .outcome-of .ensures) ∙ c .enum-told .given .1)
+unfolding takeInto
+returns c = rw (sym (c .before .before .decide .ensures) ∙ c .enum-told .given .1)
 
 same-length-4 : tie.Need-same-length-4
 same-length-4 c = search needs
@@ -56,10 +54,8 @@ same-length-6 : tie.Need-same-length-6
 same-length-6 c = search needs
 
 returns-2 : tie.Need-returns-2
-returns-2 c =
-    let lent : Lent = record { header = c .before .before .before .before .before .before .before .before .before .before .args .header .now; body = c .before .before .before .before .before .before .before .before .before .before .args .body .now; marks = c .before .before .before .before .before .before .before .before .before .before .args .marks .now } in
-    let s : Segment = record { number = c .before .before .before .before .before .before .before .before .before .before .args .number; last = c .before .before .before .before .before .before .before .before .before .before .args .last; bytes = c .before .before .before .before .before .before .before .before .before .before .args .bytes .now } in
-    rw (take-decided (c .before .before .before .before .before .before .before .before .before .before .args .part) (c .before .before .before .before .before .before .before .before .before .before .args .limit) s (c .before .before .before .before .before .before .before .before .before .before .args .slot) lent, sym (c .before .before .outcome-of .ensures) ∙ c .enum-told2 .given .1)
+unfolding takeInto
+returns-2 c = rw (sym (c .before .before .decide .ensures) ∙ c .enum-told2 .given .1)
 
 same-length-7 : tie.Need-same-length-7
 same-length-7 c = search needs
@@ -71,22 +67,19 @@ same-length-9 : tie.Need-same-length-9
 same-length-9 c = search needs
 
 returns-3 : tie.Need-returns-3
-returns-3 c =
-    let lent : Lent = record { header = c .before .before .before .before .before .before .before .before .before .before .before .before .before .before .before .before .before .before .before .before .before .before .args .header .now; body = c .before .before .before .before .before .before .before .before .before .before .before .before .before .before .before .before .before .before .before .before .before .before .args .body .now; marks = c .before .before .before .before .before .before .before .before .before .before .before .before .before .before .before .before .before .before .before .before .before .before .args .marks .now } in
-    let s : Segment = record { number = c .before .before .before .before .before .before .before .before .before .before .before .before .before .before .before .before .before .before .before .before .before .before .args .number; last = c .before .before .before .before .before .before .before .before .before .before .before .before .before .before .before .before .before .before .before .before .before .before .args .last; bytes = c .before .before .before .before .before .before .before .before .before .before .before .before .before .before .before .before .before .before .before .before .before .before .args .bytes .now } in
-    rw (take-decided (c .before .before .before .before .before .before .before .before .before .before .before .before .before .before .before .before .before .before .before .before .before .before .args .part) (c .before .before .before .before .before .before .before .before .before .before .before .before .before .before .before .before .before .before .before .before .before .before .args .limit) s (c .before .before .before .before .before .before .before .before .before .before .before .before .before .before .before .before .before .before .before .before .before .before .args .slot) lent, sym (c .before .before .before .before .before .before .before .before .before .before .before .before .before .before .outcome-of .ensures) ∙ c .before .before .before .before .before .before .before .before .before .before .before .before .decided .given .1)
-    (taken-as (c .before .before .before .before .before .before .before .before .before .before .before .before .before .before .before .before .before .before .before .before .before .before .args .slot .number) (partsWith (c .before .before .before .before .before .before .before .before .before .before .before .before .before .before .before .before .before .before .before .before .before .before .args .part) (c .before .before .before .before .before .before .before .before .before .before .before .before .before .before .before .before .before .before .before .before .before .before .args .limit) s (partsOf (c .before .before .before .before .before .before .before .before .before .before .before .before .before .before .before .before .before .before .before .before .before .before .args .slot) lent)) _ (c .outcome-by .result) (c .before .before .before .before .before .before .before .store .ensures) (c .outcome-by .ensures))
+unfolding takeInto
+returns-3 c = rw (sym (c .before .before .before .before .before .before .before .before .before .before .before .before .before .decide .ensures) ∙ c .before .before .before .before .before .before .before .before .before .before .before .decided .given .1) (c .before .before .before .before .before .before .store .ensures)
 
 pub take-spec : {M : Type 1} → statement M
 take-spec =
     tie.close
     (tie.spec
-    outcome-of-requires
+    tally-of-requires
+    decide-requires
     enum-told
     enum-told-2
     enum-known-decided
     store-requires
-    outcome-by-requires
     same-length
     same-length-2
     same-length-3

@@ -22,15 +22,19 @@ use Rattle.cut.specs.Decision.{boundsOf, addPart, addTop, summary, someFull, se
 use Rattle.cut.specs.laws.Core.{front-body, front-header}
 use Rattle.cut.specs.laws.Segment.{SitsAs, Sits, Numbered, Agree, sent-number}
 use Rattle.cut.specs.laws.Decision.{Clear}
-use Rattle.cut.specs.laws.Object.{WithinOf, headersWith, bodiesWith, those, partOf, cutOf, fits-within, fits-sits, fits-core, fits-passes}
+use Rattle.cut.specs.laws.Object.{WithinOf, fits-within, fits-sits, fits-core, fits-passes}
+use Rattle.cut.specs.Parts.{headersWith, bodiesWith, those, partOf, cutOf}
 use Rattle.cut.specs.laws.Order.{core-absent}
 use Rattle.cut.specs.laws.Marks.{Marked}
-use Rattle.cut.specs.Sums.{fullIn, full-kept, settle-again, settle-full, settle-last, taken}
-use Rattle.object.specs.Memory.{Memory, placeOf, segmentAt, settled, put}
-use Rattle.object.specs.Take.{Parts, memoryOf, coreIn, takesIn, recordWith, recordWithin, partsWith}
-use Rattle.object.specs.Shape.{Shaped}
+use Rattle.cut.specs.Sums.{fullIn}
+use Rattle.cut.specs.laws.Sums.{full-kept, settle-again, settle-full, settle-last, taken}
+use Rattle.part.specs.Memory.{Memory, placeOf, segmentAt, settled, put}
+use Rattle.object.specs.Take.{Parts, memoryOf, coreIn, takesIn, partsWith}
+use Rattle.part.specs.Asked.{recordWith, recordWithin}
+use Rattle.object.specs.laws.Shape.{Shaped}
 use Rattle.object.specs.laws.Inside.{bounds-most, share-width}
-use Rattle.object.specs.Held.{LaidAs, Laid, Keeps, Gathers}
+use Rattle.object.specs.laws.Held.{Gathers}
+use Rattle.part.specs.laws.Keeps.{LaidAs, Laid, Keeps}
 use Rattle.part.specs.laws.HeldPart.{Room, Met, reads, settled-length, settled-keeps, put-length, put-keeps}
 
 -- ---- what a fitting object says of a part
@@ -129,7 +133,8 @@ module _ (part : Part) (limit : ℕ) (ps : Parts) (hs bs : List Segment) (g : Ga
 
 pub takes-fits : (part : Part) (limit : ℕ) (s : Segment) (ps : Parts) (hs bs : List Segment) → limit ≤ limitMost → Bytes (s .bytes) → Gathers limit ps hs bs → ¬ (Numbered (s .number) (those part hs bs)) → (takesIn part limit s ps ≡ true) ↔ Fits limit (headersWith part s hs) (bodiesWith part s bs)
 unfolding takesIn
-takes-fits part limit s ps hs bs z y g a = rw (core-read limit ps hs bs g, g .header .kept, g .body .kept) (taken limit hs bs (g .object) (ps .header .marks) (ps .body .marks) (g .header .marked) (g .body .marked) part s z y a)
+takes-fits Header limit s ps hs bs z y g a = rw (core-read limit ps hs bs g, g .header .kept, g .body .kept) (taken limit hs bs (g .object) (ps .header .marks) (ps .body .marks) (g .header .marked) (g .body .marked) Header s z y a)
+takes-fits Body limit s ps hs bs z y g a = rw (core-read limit ps hs bs g, g .header .kept, g .body .kept) (taken limit hs bs (g .object) (ps .header .marks) (ps .body .marks) (g .header .marked) (g .body .marked) Body s z y a)
 
 -- ---- one segment more
 

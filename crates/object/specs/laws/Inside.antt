@@ -22,20 +22,21 @@ use Rattle.cut.specs.declared.Core.{Core}
 use Rattle.cut.specs.declared.Core.the-variants.{Unseen, Seen}
 use Rattle.cut.specs.declared.Bounds.{Bounds}
 use Rattle.cut.specs.declared.Record.{Record}
-use Rattle.cut.specs.Decision.{boundsOf, coreTests, coreFits, room, possible, addPart, joins, derived, settle, coreAfter}
+use Rattle.cut.specs.Decision.{boundsOf, coreTests, coreFits, room, possible, addPart, joins, derived, settle, coreAfter, coreWith}
 use Rattle.cut.specs.laws.Decision.{EndSits, TopSits, Suits, both-true, all-true, possible-iff}
 use Rattle.cut.specs.laws.Object.{WithinOf}
 use Rattle.cut.specs.laws.Marks.{topFrom, top-high, top-open, top-ended, total-some}
 use Rattle.cut.specs.laws.Segment.{SitsAs}
-use Rattle.cut.specs.Sums.{ended, possibleIn, acceptsIn, fullIn, suitsIn, possible-in}
+use Rattle.cut.specs.Parts.{otherPart}
+use Rattle.cut.specs.Sums.{possibleIn, fitsIn}
 use Rattle.object.specs.declared.Slot.{Slot}
 use Rattle.object.specs.declared.Stage.{Stage}
-use Rattle.object.specs.Memory.{Memory, placeOf, lengthOf}
-use Rattle.object.specs.Take.{Lent, Parts, partsOf, memoryOf, coreIn, takesIn, recordWith, recordWithin, stageOf}
-use Rattle.object.specs.Sound.{endRight, recordRight, sameStage, soundParts, soundSlot}
-pub use Rattle.part.specs.laws.Inside.{derived-is, sits-before, place-lies, each-bit, topIn, right-end, right-size, right-suits, size-known, marked-sits}
-use Rattle.part.specs.laws.Inside.{suited-small, sits-number, placed, accepted-placed, accepted-moves, within-moves}
-use Rattle.object.specs.Shape.{widthOf, numbersOf, Shaped, Bits, coreWith, recordAfter, Placed, Small, Moves}
+use Rattle.part.specs.Memory.{Memory, placeOf, lengthOf}
+use Rattle.object.specs.Take.{marksOf, Lent, Parts, partsOf, memoryOf, coreIn, takesIn, stageOf}
+use Rattle.part.specs.Asked.{soundPart, recordWith, recordWithin, endRight, recordRight}
+use Rattle.part.specs.laws.Inside.{Placed, Small, Moves, sits-before, each-bit, topIn, right-end, right-suits, size-known, marked-sits, suited-small, sits-number, placed, fits-placed, fits-moves, within-moves}
+use Rattle.object.specs.Sound.{marksRight, sameStage, soundParts, soundSlot}
+use Rattle.object.specs.laws.Shape.{widthOf, numbersOf, Shaped, Bits, recordAfter}
 
 -- ---- the bounds of a part are those of its share
 
@@ -62,20 +63,19 @@ share-width Body limit ps h = h .bodyShare
 -- the tests that a segment of a part has passed
 pub record Passed (part : Part) (limit : ℕ) (s : Segment) (ps : Parts) : Type 0 where
   pub core : coreFits limit (coreWith part s (coreIn (ps .header))) ≡ true
-  pub joined : joins (fullIn (memoryOf part ps .kept) (memoryOf part ps .marks)) (s .last) (length (s .bytes)) (memoryOf part ps .kept) ≡ true
-  pub accepted : acceptsIn (s .last) (s .number) (boundsOf part limit (coreWith part s (coreIn (ps .header)))) (addPart (s .last) (s .number) (length (s .bytes)) (memoryOf part ps .kept)) (memoryOf part ps .marks) ≡ true
+  pub own : fitsIn (boundsOf part limit (coreWith part s (coreIn (ps .header)))) (memoryOf part ps .kept) (memoryOf part ps .marks) (s .last) (s .number) (length (s .bytes)) ≡ true
+  pub other : possibleIn (boundsOf (otherPart part) limit (coreWith part s (coreIn (ps .header)))) (memoryOf (otherPart part) ps .kept) (memoryOf (otherPart part) ps .marks) ≡ true
 
--- those of header segment that has passed say that the body's marked segments can be, too
 passed : (part : Part) (limit : ℕ) (s : Segment) (ps : Parts) → takesIn part limit s ps ≡ true → Passed part limit s ps
 unfolding takesIn
-passed Header limit s ps e =
-    let j = both-true (joins (fullIn (ps .header .kept) (ps .header .marks)) (s .last) (length (s .bytes)) (ps .header .kept)) _ e in
-    let t = all-true (coreFits limit (coreAfter s (coreIn (ps .header))) ∷ acceptsIn (s .last) (s .number) (boundsOf Header limit (coreAfter s (coreIn (ps .header)))) (addPart (s .last) (s .number) (length (s .bytes)) (ps .header .kept)) (ps .header .marks) ∷ possibleIn (boundsOf Body limit (coreAfter s (coreIn (ps .header)))) (ps .body .kept) (ps .body .marks) ∷ []) (j .1) in
-    record { core = t .0; joined = j .0; accepted = t .1 .0 }
-passed Body limit s ps e =
-    let j = both-true (joins (fullIn (ps .body .kept) (ps .body .marks)) (s .last) (length (s .bytes)) (ps .body .kept)) _ e in
-    let t = all-true (coreFits limit (coreIn (ps .header)) ∷ possibleIn (boundsOf Header limit (coreIn (ps .header))) (ps .header .kept) (ps .header .marks) ∷ acceptsIn (s .last) (s .number) (boundsOf Body limit (coreIn (ps .header))) (addPart (s .last) (s .number) (length (s .bytes)) (ps .body .kept)) (ps .body .marks) ∷ []) (j .1) in
-    record { core = t .0; joined = j .0; accepted = t .1 .1 .0 }
+passed part limit s ps e =
+    let c : Core = coreWith part s (coreIn (ps .header)) in
+    let t = all-true
+    (coreFits limit c
+    ∷ fitsIn (boundsOf part limit c) (memoryOf part ps .kept) (memoryOf part ps .marks) (s .last) (s .number) (length (s .bytes))
+    ∷ possibleIn (boundsOf (otherPart part) limit c) (memoryOf (otherPart part) ps .kept) (memoryOf (otherPart part) ps .marks)
+    ∷ []) e in
+    record { core = t .0; own = t .1 .0; other = t .1 .1 .0 }
 
 -- a segment that is taken has a number of its part, and lies inside the share
 pub takes-inside : (part : Part) (limit : ℕ) (s : Segment) (ps : Parts) → Shaped limit ps → takesIn part limit s ps ≡ true → Placed (length (memoryOf part ps .share)) (numbersOf part) (s .last) (recordAfter part limit s ps .size) (s .number) (length (s .bytes))
@@ -84,22 +84,8 @@ takes-inside part limit s ps h e =
     let c : Core = coreWith part s (coreIn (ps .header)) in
     let t = passed part limit s ps e in
     let w : boundsOf part limit c .most ≤ length (memoryOf part ps .share) = omega (arith, bounds-most part limit c (t .core), share-width part limit ps h) in
-    let r = accepted-placed (boundsOf part limit c) (s .number) (length (s .bytes)) (memoryOf part ps .kept) (memoryOf part ps .marks) (length (memoryOf part ps .share)) w (s .last) (t .joined) (t .accepted) in
+    let r = fits-placed (boundsOf part limit c) (memoryOf part ps .kept) (memoryOf part ps .marks) (s .last) (s .number) (length (s .bytes)) (t .own) (length (memoryOf part ps .share)) w in
     record { number = omega (arith, r .number, bounds-numbers part limit c); product = r .product; place = r .place }
-
--- one whose number its part does not have is not taken
-pub takes-beyond : (part : Part) (limit : ℕ) (s : Segment) (ps : Parts) → numbersOf part ≤ s .number → takesIn part limit s ps ≡ false
-takes-beyond part limit s ps h = go (takesIn part limit s ps) refl
-  where
-    b : Bounds
-    b = boundsOf part limit (coreWith part s (coreIn (ps .header)))
-
-    go : (x : Bool) → takesIn part limit s ps ≡ x → x ≡ false
-    go false e = refl
-    go true e =
-        let t = passed part limit s ps e in
-        let r = accepted-placed b (s .number) (length (s .bytes)) (memoryOf part ps .kept) (memoryOf part ps .marks) (b .most) (omega arith) (s .last) (t .joined) (t .accepted) in
-        absurd (omega (arith, r .number, bounds-numbers part limit (coreWith part s (coreIn (ps .header)))))
 
 -- the last one that a new segment of its part gives a place
 pub settled-inside : (part : Part) (limit : ℕ) (s : Segment) (ps : Parts) → Shaped limit ps → takesIn part limit s ps ≡ true → 2 ≤ memoryOf part ps .kept .end → Moves (length (memoryOf part ps .share)) (memoryOf part ps .kept) (recordAfter part limit s ps)
@@ -108,53 +94,54 @@ settled-inside part limit s ps h e g =
     let c : Core = coreWith part s (coreIn (ps .header)) in
     let t = passed part limit s ps e in
     let w : boundsOf part limit c .most ≤ length (memoryOf part ps .share) = omega (arith, bounds-most part limit c (t .core), share-width part limit ps h) in
-    accepted-moves (boundsOf part limit c) (s .number) (length (s .bytes)) (memoryOf part ps .kept) (memoryOf part ps .marks) (length (memoryOf part ps .share)) w (s .last) (t .joined) (t .accepted) g
+    fits-moves (boundsOf part limit c) (memoryOf part ps .kept) (memoryOf part ps .marks) (s .last) (s .number) (length (s .bytes)) (t .own) (length (memoryOf part ps .share)) w g
 
 -- the body's last one, that a header segment gives a place
-body-possible : (limit : ℕ) (s : Segment) (ps : Parts) → takesIn Header limit s ps ≡ true → possibleIn (boundsOf Body limit (coreAfter s (coreIn (ps .header)))) (ps .body .kept) (ps .body .marks) ≡ true
-unfolding takesIn
-body-possible limit s ps e =
-    let j = both-true (joins (fullIn (ps .header .kept) (ps .header .marks)) (s .last) (length (s .bytes)) (ps .header .kept)) _ e in
-    all-true (coreFits limit (coreAfter s (coreIn (ps .header))) ∷ acceptsIn (s .last) (s .number) (boundsOf Header limit (coreAfter s (coreIn (ps .header)))) (addPart (s .last) (s .number) (length (s .bytes)) (ps .header .kept)) (ps .header .marks) ∷ possibleIn (boundsOf Body limit (coreAfter s (coreIn (ps .header)))) (ps .body .kept) (ps .body .marks) ∷ []) (j .1) .1 .1 .0
-
 pub body-inside : (limit : ℕ) (s : Segment) (ps : Parts) → Shaped limit ps → takesIn Header limit s ps ≡ true → ps .body .kept .size ≡ 0 → 0 < recordWithin (boundsOf Body limit (coreAfter s (coreIn (ps .header)))) (ps .body) .size → 2 ≤ ps .body .kept .end → Moves (length (ps .body .share)) (ps .body .kept) (recordWithin (boundsOf Body limit (coreAfter s (coreIn (ps .header)))) (ps .body))
 unfolding recordWithin
 body-inside limit s ps h e z g t =
     let c : Core = coreAfter s (coreIn (ps .header)) in
     let w : boundsOf Body limit c .most ≤ length (ps .body .share) = omega (arith, bounds-most Body limit c (passed Header limit s ps e .core), h .bodyShare) in
-    within-moves (boundsOf Body limit c) (ps .body .kept) (ps .body .marks) (length (ps .body .share)) w (body-possible limit s ps e) z g t
+    within-moves (boundsOf Body limit c) (ps .body .kept) (ps .body .marks) (length (ps .body .share)) w (passed Header limit s ps e .other) z g t
 
 -- ---- a segment that is marked
 
 -- what a part of a sound slot has passed
 pub record Right (part : Part) (limit : ℕ) (ps : Parts) : Type 0 where
   pub core : coreFits limit (coreIn (ps .header)) ≡ true
-  pub right : recordRight (boundsOf part limit (coreIn (ps .header))) (memoryOf part ps) ≡ true
+  pub right : recordRight (boundsOf part limit (coreIn (ps .header))) (memoryOf part ps .kept) (memoryOf part ps .marks) ≡ true
   pub can : possibleIn (boundsOf part limit (coreIn (ps .header))) (memoryOf part ps .kept) (memoryOf part ps .marks) ≡ true
 
 pub sound-right : (part : Part) (limit : ℕ) (stage : Stage) (ps : Parts) → soundParts limit stage ps ≡ true → Right part limit ps
-unfolding soundParts suitsIn
+unfolding soundParts soundPart
 sound-right part limit stage ps e =
     let c : Core = coreIn (ps .header) in
-    let t = all-true (recordRight (boundsOf Header limit c) (ps .header) ∷ recordRight (boundsOf Body limit c) (ps .body) ∷ suitsIn limit c (ps .header .kept) (ps .header .marks) (ps .body .kept) (ps .body .marks) ∷ sameStage stage (stageOf ps) ∷ []) e in
-    let u = all-true (coreFits limit c ∷ possibleIn (boundsOf Header limit c) (ps .header .kept) (ps .header .marks) ∷ possibleIn (boundsOf Body limit c) (ps .body .kept) (ps .body .marks) ∷ []) (t .1 .1 .0) in
-    by part (t .0) (t .1 .0) (u .0) (u .1 .0) (u .1 .1 .0)
+    let t = all-true
+    (coreFits limit c
+    ∷ soundPart (boundsOf Header limit c) (ps .header .kept) (ps .header .marks)
+    ∷ soundPart (boundsOf Body limit c) (ps .body .kept) (ps .body .marks)
+    ∷ sameStage stage (stageOf ps)
+    ∷ []) e in
+    by part (t .0) (t .1 .0) (t .1 .1 .0)
   where
-    Tests : Part → Type 0
-    Tests part = recordRight (boundsOf part limit (coreIn (ps .header))) (memoryOf part ps) ≡ true
+    Passes : Part → Type 0
+    Passes part = soundPart (boundsOf part limit (coreIn (ps .header))) (memoryOf part ps .kept) (memoryOf part ps .marks) ≡ true
 
-    Can : Part → Type 0
-    Can part = possibleIn (boundsOf part limit (coreIn (ps .header))) (memoryOf part ps .kept) (memoryOf part ps .marks) ≡ true
+    of : (part : Part) → coreFits limit (coreIn (ps .header)) ≡ true → Passes part → Right part limit ps
+    of part k p =
+        let b : Bounds = boundsOf part limit (coreIn (ps .header)) in
+        let t = both-true (recordRight b (memoryOf part ps .kept) (memoryOf part ps .marks)) (possibleIn b (memoryOf part ps .kept) (memoryOf part ps .marks)) p in
+        record { core = k; right = t .0; can = t .1 }
 
-    by : (part : Part) → Tests Header → Tests Body → coreFits limit (coreIn (ps .header)) ≡ true → Can Header → Can Body → Right part limit ps
-    by Header r r' k c c' = record { core = k; right = r; can = c }
-    by Body r r' k c c' = record { core = k; right = r'; can = c' }
+    by : (part : Part) → coreFits limit (coreIn (ps .header)) ≡ true → Passes Header → Passes Body → Right part limit ps
+    by Header k h b = of Header k h
+    by Body k h b = of Body k b
 
 pub part-bits : (part : Part) (ps : Parts) → Bits ps → Each (λ x. x ≤ 1) (memoryOf part ps .marks)
 part-bits Header ps h = each-bit (ps .header .marks) (h .0)
 part-bits Body ps h = each-bit (ps .body .marks) (h .1)
 
-numbers-most : (part : Part) → numbersOf part ≤ bodyNumbers
+pub numbers-most : (part : Part) → numbersOf part ≤ bodyNumbers
 numbers-most Header = omega arith
 numbers-most Body = omega arith
 
@@ -195,6 +182,10 @@ module _ (part : Part) (limit : ℕ) (stage : Stage) (ps : Parts) (h : Shaped li
 
 -- ---- of a slot and what is lent for it
 
+pub marks-length : (part : Part) (marks : List ℕ) → length marks ≡ headerNumbers + bodyNumbers → length (marksOf part marks) ≡ numbersOf part
+marks-length Header marks h = simp length-take (omega arith)
+marks-length Body marks h = simp length-drop (omega arith)
+
 pub lent-shaped : (limit : ℕ) (slot : Slot) (lent : Lent) → length (lent .header) ≡ headerMost → length (lent .body) ≡ limit → length (lent .marks) ≡ headerNumbers + bodyNumbers → Shaped limit (partsOf slot lent)
 unfolding partsOf
 lent-shaped limit slot lent h b m = record { headerShare = h; bodyShare = b; headerMarks = simp length-take (omega arith); bodyMarks = simp length-drop (omega arith) }
@@ -203,8 +194,9 @@ lent-shaped limit slot lent h b m = record { headerShare = h; bodyShare = b; hea
 pub sound-slot : (limit : ℕ) (slot : Slot) (lent : Lent) → soundSlot limit slot lent ≡ true → (largestOf (lent .marks) ≤ 1) × (1 ≤ sumOf (lent .marks)) × (soundParts limit (slot .stage) (partsOf slot lent) ≡ true)
 unfolding soundSlot
 sound-slot limit slot lent e =
-    let t = all-true (leb (largestOf (lent .marks)) 1 ∷ leb 1 (sumOf (lent .marks)) ∷ soundParts limit (slot .stage) (partsOf slot lent) ∷ []) e in
-    (leb-true (largestOf (lent .marks)) 1 (t .0), leb-true 1 (sumOf (lent .marks)) (t .1 .0), t .1 .1 .0)
+    let t = both-true (marksRight (lent .marks)) (soundParts limit (slot .stage) (partsOf slot lent)) e in
+    let m = both-true (leb (largestOf (lent .marks)) 1) (leb 1 (sumOf (lent .marks))) (t .0) in
+    (leb-true (largestOf (lent .marks)) 1 (m .0), leb-true 1 (sumOf (lent .marks)) (m .1), t .1)
 
 pub lent-bits : (slot : Slot) (lent : Lent) → largestOf (lent .marks) ≤ 1 → Bits (partsOf slot lent)
 unfolding partsOf

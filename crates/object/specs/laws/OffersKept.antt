@@ -11,7 +11,7 @@ use Rattle.answer.specs.declared.Part.{Part}
 use Rattle.answer.specs.declared.Part.the-variants.{Header, Body}
 use Rattle.cut.specs.Lists.{Each, Among, Bytes}
 use Rattle.cut.specs.Requirement.{limitMost, Segment, Fits, Finished}
-use Rattle.cut.specs.laws.Object.{headersWith, bodiesWith, those}
+use Rattle.cut.specs.Parts.{headersWith, bodiesWith, those}
 use Rattle.cut.specs.laws.Order.{SameSet}
 use Rattle.cut.specs.laws.Finished.{segmentOf, segment-sent, finished-every, finished-one}
 use Rattle.object.specs.declared.Slot.{Slot}
@@ -20,15 +20,16 @@ use Rattle.object.specs.declared.Stage.the-variants as Stage
 use Rattle.object.specs.declared.Outcome.{Outcome}
 use Rattle.object.specs.declared.Outcome.the-variants.{Stored, Complete, Repeat, Conflict}
 use Rattle.object.specs.Take.{Lent, partsOf, Taken, takeInto}
-use Rattle.object.specs.Shape.{IsLent}
-use Rattle.object.specs.Held.{Gathers, Vacant}
+use Rattle.object.specs.laws.Shape.{IsLent}
+use Rattle.object.specs.laws.Held.{Gathers, Vacant}
 use Rattle.object.specs.laws.Step.{Tells, outcome-tells, conflict-exactly}
 use Rattle.object.specs.laws.StepSound.{vacant-gathers, taken-lent, added-sound}
 use Rattle.object.specs.laws.StepStage.{stage-one}
 use Rattle.object.specs.laws.Shown.{holds-shows}
 use Rattle.object.specs.State.{markedSegments}
 use Rattle.object.specs.laws.StateParts.{part-same}
-use Rattle.object.specs.Offers.{Offer, ifStored, storedHeaders, storedBodies, After, Standing, none, some, Source, SentBy, AllOffered}
+use Rattle.object.specs.laws.Offers.{Offer, ifStored, storedHeaders, storedBodies, After, Standing, none, some, AllOffered}
+use Rattle.object.specs.Source.{Source, SentBy}
 
 -- ---- what it holds
 

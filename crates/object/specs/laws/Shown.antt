@@ -17,20 +17,21 @@ use Rattle.cut.specs.Requirement.{limitMost, IsCut, Segment, Sends, Fits, Whole
 use Rattle.cut.specs.declared.Bounds.{Bounds}
 use Rattle.cut.specs.Decision.{boundsOf, coreOf}
 use Rattle.cut.specs.laws.Segment.{Sits, Stands, inside, sits-sends, Numbered}
-use Rattle.cut.specs.laws.Object.{those, partOf, cutOf}
+use Rattle.cut.specs.Parts.{those, partOf, cutOf}
 use Rattle.cut.specs.laws.Finished.{whole-numbers, part-joined, finished-joined, finished-every, finished-one}
 use Rattle.object.specs.declared.Slot.{Slot}
 use Rattle.object.specs.declared.Stage.{Stage}
 use Rattle.object.specs.declared.Stage.the-variants as Stage
-use Rattle.object.specs.Memory.{Memory, placeOf}
+use Rattle.part.specs.Memory.{Memory, placeOf}
 use Rattle.object.specs.Take.{Lent, Parts, partsOf, memoryOf}
 use Rattle.object.specs.Sound.{soundSlot}
-use Rattle.object.specs.Shape.{IsLent, numbersOf}
-use Rattle.object.specs.Held.{LaidAs, Laid, Keeps, Gathers, Holds, StageFor, Shows}
+use Rattle.object.specs.laws.Shape.{IsLent, numbersOf}
+use Rattle.object.specs.laws.Held.{Gathers, Holds, Shows}
+use Rattle.object.specs.State.{StageFor, markedSegments}
+use Rattle.part.specs.laws.Keeps.{LaidAs, Laid, Keeps}
 use Rattle.part.specs.laws.HeldBytes.{place-known}
 use Rattle.part.specs.laws.HeldPart.{Room, size-is, size-none, one-last}
 use Rattle.object.specs.laws.HeldSlot.{fits-room, part-keeps}
-use Rattle.object.specs.State.{markedSegments}
 use Rattle.object.specs.laws.StateExact.{sound-holds}
 
 -- ---- one part

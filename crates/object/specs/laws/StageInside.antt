@@ -14,11 +14,11 @@ use Rattle.cut.specs.declared.Core.{Core}
 use Rattle.cut.specs.declared.Core.the-variants.{Unseen, Seen}
 use Rattle.cut.specs.Decision.{boundsOf, coreTests, coreFits, finished}
 use Rattle.cut.specs.laws.Decision.{both-true, all-true, false-true}
-use Rattle.cut.specs.Sums.{suitsIn}
 use Rattle.object.specs.declared.Stage.{Stage}
 use Rattle.object.specs.declared.Stage.the-variants.{Free, Gathering, Finished}
 use Rattle.object.specs.Take.{Parts, coreIn, stageBy, stageOf}
-use Rattle.object.specs.Sound.{recordRight, sameStage, soundParts}
+use Rattle.object.specs.Sound.{sameStage, soundParts}
+use Rattle.part.specs.Asked.{soundPart}
 use Rattle.object.specs.laws.Inside.{sound-right}
 
 pub same-stage : (x y : Stage) → sameStage x y ≡ true → x ≡ y
@@ -37,7 +37,12 @@ pub sound-stage : (limit : ℕ) (stage : Stage) (ps : Parts) → soundParts limi
 unfolding soundParts
 sound-stage limit stage ps e =
     let c : Core = coreIn (ps .header) in
-    let t = all-true (recordRight (boundsOf Header limit c) (ps .header) ∷ recordRight (boundsOf Body limit c) (ps .body) ∷ suitsIn limit c (ps .header .kept) (ps .header .marks) (ps .body .kept) (ps .body .marks) ∷ sameStage stage (stageOf ps) ∷ []) e in
+    let t = all-true
+    (coreFits limit c
+    ∷ soundPart (boundsOf Header limit c) (ps .header .kept) (ps .header .marks)
+    ∷ soundPart (boundsOf Body limit c) (ps .body .kept) (ps .body .marks)
+    ∷ sameStage stage (stageOf ps)
+    ∷ []) e in
     same-stage stage (stageOf ps) (t .1 .1 .1 .0)
 
 finished-core : (done : Bool) (c : Core) (h b : ℕ) → stageBy done c ≡ Finished h b → c ≡ Seen b h

@@ -8,15 +8,15 @@ use Rattle.answer.specs.declared.Part.{Part}
 use Rattle.answer.specs.declared.Part.the-variants.{Header, Body}
 use Rattle.cut.specs.Lists.{Among, Bytes}
 use Rattle.cut.specs.Requirement.{limitMost, Segment, Fits, Finished}
-use Rattle.cut.specs.laws.Object.{headersWith, bodiesWith, those}
+use Rattle.cut.specs.Parts.{headersWith, bodiesWith, those}
 use Rattle.cut.specs.laws.Order.{SameSet}
 use Rattle.object.specs.declared.Slot.{Slot}
 use Rattle.object.specs.declared.Outcome.{Outcome}
 use Rattle.object.specs.declared.Outcome.the-variants.{Stored, Complete, Repeat, Conflict}
 use Rattle.object.specs.Take.{Lent, partsOf, Taken, takeInto}
 use Rattle.object.specs.Sound.{soundSlot}
-use Rattle.object.specs.Shape.{IsLent}
-use Rattle.object.specs.Held.{Gathers, Added}
+use Rattle.object.specs.laws.Shape.{IsLent}
+use Rattle.object.specs.laws.Held.{Gathers, Added}
 use Rattle.object.specs.laws.Step.{Tells, outcome-tells, conflict-exactly, repeat-exactly, complete-exactly, stored-exactly}
 use Rattle.object.specs.laws.StepSound.{added-sound, taken-lent}
 use Rattle.object.specs.State.{markedSegments}

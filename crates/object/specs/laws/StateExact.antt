@@ -14,25 +14,27 @@ use Rattle.answer.specs.declared.Part.{Part}
 use Rattle.answer.specs.declared.Part.the-variants.{Header, Body}
 use Rattle.cut.specs.Lists.{Each, each-map, each-take, each-drop, each-append}
 use Rattle.cut.specs.Requirement.{limitMost, headerNumbers, Segment}
-use Rattle.cut.specs.laws.Decision.{true-all}
+use Rattle.cut.specs.laws.Decision.{true-both}
 use Rattle.cut.specs.laws.Segment.{Numbered}
-use Rattle.cut.specs.laws.Object.{those, partOf, cutOf}
+use Rattle.cut.specs.Parts.{those, partOf, cutOf}
 use Rattle.cut.specs.Decision.{boundsOf, summary, recordOf, coreOf}
 use Rattle.cut.specs.laws.Marks.{total-some}
 use Rattle.object.specs.declared.Slot.{Slot}
 use Rattle.object.specs.declared.Stage.{Stage}
-use Rattle.object.specs.Memory.{heldIn}
+use Rattle.part.specs.Memory.{heldIn}
 use Rattle.object.specs.Take.{Lent, Parts, partsOf, memoryOf, stageOf}
-use Rattle.object.specs.Sound.{soundParts, soundSlot}
-use Rattle.object.specs.Shape.{IsLent, Shaped}
-use Rattle.object.specs.laws.Inside.{each-bit, lent-shaped, lent-bits, sound-slot}
+use Rattle.object.specs.Sound.{marksRight, soundParts, soundSlot}
+use Rattle.object.specs.laws.Shape.{IsLent, Shaped}
+use Rattle.object.specs.laws.Inside.{lent-shaped, lent-bits, sound-slot}
+use Rattle.part.specs.laws.Inside.{each-bit}
 use Rattle.object.specs.laws.StageInside.{sound-stage}
-use Rattle.object.specs.Held.{Keeps, Gathers, StageFor, Holds}
+use Rattle.object.specs.laws.Held.{Gathers, Holds}
+use Rattle.object.specs.State.{StageFor, markedSegments, Sound}
+use Rattle.part.specs.laws.Keeps.{Keeps}
 use Rattle.part.specs.laws.HeldIn.{held-reads, held-marked}
 use Rattle.part.specs.laws.HeldPart.{reads-keeps}
 use Rattle.object.specs.laws.HeldSlot.{fits-room, part-keeps}
 use Rattle.object.specs.laws.StepStage.{stage-right, stage-one}
-use Rattle.object.specs.State.{markedSegments, Sound}
 use Rattle.object.specs.laws.StateParts.{sound-gathers, gathers-passes}
 
 -- ---- marks
@@ -78,9 +80,12 @@ parts-sum slot lent Body n h = omega (arith, sum-split (lent .marks) headerNumbe
 
 holds-passes : (limit : ℕ) (slot : Slot) (lent : Lent) (hs bs : List Segment) → Holds limit slot lent hs bs → 1 ≤ sumOf (lent .marks) → soundSlot limit slot lent ≡ true
 unfolding soundSlot
-holds-passes limit slot lent hs bs h some = true-all
-    (leb (largestOf (lent .marks)) 1 ∷ leb 1 (sumOf (lent .marks)) ∷ soundParts limit (slot .stage) (partsOf slot lent) ∷ [])
-    (le-leb (largestOf (lent .marks)) 1 (parts-largest slot lent (g .header .marked .bits) (g .body .marked .bits)), (le-leb 1 (sumOf (lent .marks)) some, (gathers-passes limit (slot .stage) (partsOf slot lent) hs bs g stage, tt)))
+holds-passes limit slot lent hs bs h some =
+    true-both (marksRight (lent .marks)) (soundParts limit (slot .stage) (partsOf slot lent))
+    (true-both (leb (largestOf (lent .marks)) 1) (leb 1 (sumOf (lent .marks)))
+    (le-leb (largestOf (lent .marks)) 1 (parts-largest slot lent (g .header .marked .bits) (g .body .marked .bits)))
+    (le-leb 1 (sumOf (lent .marks)) some))
+    (gathers-passes limit (slot .stage) (partsOf slot lent) hs bs g stage)
   where
     g : Gathers limit (partsOf slot lent) hs bs
     g = h .gathers

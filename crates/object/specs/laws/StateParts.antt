@@ -17,18 +17,22 @@ use Rattle.cut.specs.declared.Bounds.{Bounds}
 use Rattle.cut.specs.Decision.{someFull, boundsOf, coreTests, coreFits, possible, derived, settle, summary, recordOf, coreOf, suitTests, suits}
 use Rattle.cut.specs.laws.Segment.{Sits, among-numbered}
 use Rattle.cut.specs.laws.Decision.{Clear, all-true, true-all, true-both, sits-possible}
-use Rattle.cut.specs.laws.Object.{WithinOf, those, Passes, fits-passes, passes-fits}
+use Rattle.cut.specs.laws.Object.{WithinOf, Passes, fits-passes, passes-fits}
+use Rattle.cut.specs.Parts.{those}
 use Rattle.cut.specs.laws.Order.{SameSet, EndFrom, end-from}
 use Rattle.cut.specs.laws.Marks.{Marked}
-use Rattle.cut.specs.Sums.{fullIn, suitsIn, suits-kept}
+use Rattle.cut.specs.Sums.{fullIn, possibleIn}
+use Rattle.cut.specs.laws.Sums.{core-suits, part-suits}
 use Rattle.object.specs.declared.Stage.{Stage}
 use Rattle.object.specs.declared.Stage.the-variants.{Free, Gathering, Finished}
-use Rattle.object.specs.Memory.{Memory, placeOf, lengthOf, segmentAs, segmentAt, heldIn}
+use Rattle.part.specs.Memory.{Memory, placeOf, lengthOf, segmentAs, segmentAt, heldIn}
 use Rattle.object.specs.Take.{Parts, memoryOf, coreIn, stageOf}
-use Rattle.object.specs.Sound.{endRight, recordRight, sameStage, soundParts}
-use Rattle.object.specs.Shape.{Shaped, Bits}
+use Rattle.object.specs.Sound.{sameStage, soundParts}
+use Rattle.part.specs.Asked.{endRight, recordRight, soundPart}
+use Rattle.object.specs.laws.Shape.{Shaped, Bits}
 use Rattle.object.specs.laws.Inside.{Right, sound-right, part-bits, bounds-most, share-width}
-use Rattle.object.specs.Held.{Laid, Keeps, Gathers}
+use Rattle.object.specs.laws.Held.{Gathers}
+use Rattle.part.specs.laws.Keeps.{Laid, Keeps}
 use Rattle.part.specs.laws.HeldIn.{held-reads, held-marked, reads-same, reads-agree}
 use Rattle.object.specs.laws.HeldSlot.{part-keeps, part-reads, core-laid, core-read, full-read}
 use Rattle.part.specs.laws.StatePart.{cut, long, within, held-sits, held-laid, held-record}
@@ -128,7 +132,7 @@ size-passes : (top size other : ℕ) → pick (leb 1 top) true (eqb (pick (leb 1
 size-passes zero size other = eq-eqb other other refl
 size-passes (suc t) size other = rw (le-leb 1 (suc t) (omega arith)) refl
 
-keeps-right : (b : Bounds) (m : Memory) (ss : List Segment) → Keeps b m ss → fullIn (m .kept) (m .marks) ≡ someFull (summary ss) → recordRight b m ≡ true
+keeps-right : (b : Bounds) (m : Memory) (ss : List Segment) → Keeps b m ss → fullIn (m .kept) (m .marks) ≡ someFull (summary ss) → recordRight b (m .kept) (m .marks) ≡ true
 unfolding recordRight settle
 keeps-right b m ss k e =
     rw (e, k .kept)
@@ -142,16 +146,27 @@ stage-same Gathering = refl
 stage-same (Finished h b) = true-both (eqb h h) (eqb b b) (eq-eqb h h refl) (eq-eqb b b refl)
 
 pub gathers-passes : (limit : ℕ) (stage : Stage) (ps : Parts) (hs bs : List Segment) → Gathers limit ps hs bs → stage ≡ stageOf ps → soundParts limit stage ps ≡ true
-unfolding soundParts
+unfolding soundParts soundPart
 gathers-passes limit stage ps hs bs g e = true-all
-    (recordRight (boundsOf Header limit (coreIn (ps .header))) (ps .header) ∷ recordRight (boundsOf Body limit (coreIn (ps .header))) (ps .body) ∷ suitsIn limit (coreIn (ps .header)) (ps .header .kept) (ps .header .marks) (ps .body .kept) (ps .body .marks) ∷ sameStage stage (stageOf ps) ∷ [])
-    (right Header, (right Body, (suit, (rw e (stage-same (stageOf ps)), tt))))
+    (coreFits limit (coreIn (ps .header))
+    ∷ soundPart (boundsOf Header limit (coreIn (ps .header))) (ps .header .kept) (ps .header .marks)
+    ∷ soundPart (boundsOf Body limit (coreIn (ps .header))) (ps .body .kept) (ps .body .marks)
+    ∷ sameStage stage (stageOf ps)
+    ∷ [])
+    (rw said (core-suits limit hs bs (g .object) (ps .header .marks) (ps .body .marks) (g .header .marked) (g .body .marked)), (sound Header, (sound Body, (rw e (stage-same (stageOf ps)), tt))))
   where
-    right : (part : Part) → recordRight (boundsOf part limit (coreIn (ps .header))) (memoryOf part ps) ≡ true
-    right part = rw (core-read limit ps hs bs g) (keeps-right (boundsOf part limit (coreOf hs)) (memoryOf part ps) (those part hs bs) (part-keeps part limit ps hs bs g) (full-read part limit ps hs bs g))
+    said : coreIn (ps .header) ≡ coreOf hs
+    said = core-read limit ps hs bs g
 
-    suit : suitsIn limit (coreIn (ps .header)) (ps .header .kept) (ps .header .marks) (ps .body .kept) (ps .body .marks) ≡ true
-    suit = rw (core-read limit ps hs bs g, g .header .kept, g .body .kept) (suits-kept limit hs bs (g .object) (ps .header .marks) (ps .body .marks) (g .header .marked) (g .body .marked) (coreOf hs) ∙ fits-passes limit hs bs (g .object) .suit)
+    can : (part : Part) → possibleIn (boundsOf part limit (coreOf hs)) (memoryOf part ps .kept) (memoryOf part ps .marks) ≡ true
+    can Header = rw (g .header .kept) (part-suits limit hs bs (g .object) (ps .header .marks) (ps .body .marks) (g .header .marked) (g .body .marked) Header)
+    can Body = rw (g .body .kept) (part-suits limit hs bs (g .object) (ps .header .marks) (ps .body .marks) (g .header .marked) (g .body .marked) Body)
+
+    sound : (part : Part) → soundPart (boundsOf part limit (coreIn (ps .header))) (memoryOf part ps .kept) (memoryOf part ps .marks) ≡ true
+    sound part = rw said
+        (true-both (recordRight (boundsOf part limit (coreOf hs)) (memoryOf part ps .kept) (memoryOf part ps .marks)) (possibleIn (boundsOf part limit (coreOf hs)) (memoryOf part ps .kept) (memoryOf part ps .marks))
+        (keeps-right (boundsOf part limit (coreOf hs)) (memoryOf part ps) (those part hs bs) (part-keeps part limit ps hs bs g) (full-read part limit ps hs bs g))
+        (can part))
 
 -- ---- what a slot holds are its marked segments
 

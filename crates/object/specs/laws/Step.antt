@@ -16,7 +16,7 @@ use Rattle.cut.specs.Lists.{Among, Bytes}
 use Rattle.cut.specs.Requirement.{limitMost, headerNumbers, Segment, Fits, Finished}
 use Rattle.cut.specs.laws.Segment.{Numbered, among-numbered}
 use Rattle.cut.specs.laws.Decision.{both-true, true-both, false-true}
-use Rattle.cut.specs.laws.Object.{headersWith, bodiesWith, those}
+use Rattle.cut.specs.Parts.{headersWith, bodiesWith, those}
 use Rattle.cut.specs.laws.Theorem.{repeat-fits, same-fits}
 use Rattle.cut.specs.laws.Finished.{finished-every}
 use Rattle.object.specs.declared.Slot.{Slot}
@@ -24,9 +24,12 @@ use Rattle.object.specs.declared.Stage.{Stage}
 use Rattle.object.specs.declared.Stage.the-variants as Stage
 use Rattle.object.specs.declared.Outcome.{Outcome}
 use Rattle.object.specs.declared.Outcome.the-variants.{Stored, Complete, Repeat, Conflict}
-use Rattle.object.specs.Memory.{segmentAt}
-use Rattle.object.specs.Take.{Lent, Parts, partsOf, lentOf, memoryOf, takesIn, partsWith, stageOf, Taken, unchanged, sameFlag, sameSegment, outcomeBy, slotWith, storedAs, ifNew, ifHeld, byMark, takeInto}
-use Rattle.object.specs.Held.{Gathers, StageFor, Holds, Added}
+use Rattle.part.specs.Memory.{segmentAt}
+use Rattle.object.specs.Take.{Lent, Parts, partsOf, lentOf, memoryOf, takesIn, partsWith, stageOf, Taken, unchanged, outcomeBy, slotWith, storedAs, takeInto}
+use Rattle.object.specs.laws.Decided.{ifNew, ifHeld, byMark, take-by-mark}
+use Rattle.part.specs.Asked.{sameFlag, sameSegment}
+use Rattle.object.specs.laws.Held.{Gathers, Holds, Added}
+use Rattle.object.specs.State.{StageFor}
 use Rattle.part.specs.laws.HeldIn.{at-number, at-among}
 use Rattle.object.specs.laws.HeldSlot.{part-keeps, part-reads, takes-fits, fits-less, next-gathers}
 use Rattle.object.specs.laws.StepStage.{stage-right}
@@ -91,7 +94,7 @@ module _ (part : Part) (limit : ℕ) (s : Segment) (slot : Slot) (lent : Lent) (
       by-stage part limit s slot lent hs bs (storedAs (slot .number) ps) (stageOf ps) (record { new = a; holds = parts-hold limit (slot .number) ps (headersWith part s hs) (bodiesWith part s bs) k; number = refl }) (stage-right limit ps (headersWith part s hs) (bodiesWith part s bs) k)
   if-new a false e = ((λ f. false-true e (takes-fits part limit s (partsOf slot lent) hs bs z y g a .1 f)), refl)
 
-  if-held : Numbered (s .number) (those part hs bs) → (b : Bool) → sameSegment s (segmentAt (memoryOf part (partsOf slot lent)) (s .number)) ≡ b → Tells (ifHeld b slot lent .outcome) part limit s slot lent hs bs (ifHeld b slot lent)
+  if-held : Numbered (s .number) (those part hs bs) → (b : Bool) → sameSegment s (segmentAt (memoryOf part (partsOf slot lent)) (s .number)) ≡ b → Tells (ifHeld b part limit s slot lent .outcome) part limit s slot lent hs bs (ifHeld b part limit s slot lent)
   if-held i b e = go b e
     where
       t : Segment
@@ -103,14 +106,13 @@ module _ (part : Part) (limit : ℕ) (s : Segment) (slot : Slot) (lent : Lent) (
       held : Among t (those part hs bs)
       held = at-among (memoryOf part (partsOf slot lent)) (s .number) (those part hs bs) (part-reads part limit (partsOf slot lent) hs bs g) i
 
-      go : (b : Bool) → sameSegment s t ≡ b → Tells (ifHeld b slot lent .outcome) part limit s slot lent hs bs (ifHeld b slot lent)
+      go : (b : Bool) → sameSegment s t ≡ b → Tells (ifHeld b part limit s slot lent .outcome) part limit s slot lent hs bs (ifHeld b part limit s slot lent)
       go true e = (subst (λ (x : Segment). Among x (those part hs bs)) (sym (same-exactly s t n .0 e)) held, refl)
       go false e = ((λ f. false-true e (same-exactly s t n .1 (same-fits part limit s t hs bs f held n))), refl)
 
   -- whatever the outcome is, it tells what document 01 says
   told : Tells (takeInto part limit s slot lent .outcome) part limit s slot lent hs bs (takeInto part limit s slot lent)
-  unfolding takeInto
-  told = go (getD (memoryOf part (partsOf slot lent) .marks) (s .number) 0) (part-keeps part limit (partsOf slot lent) hs bs g .marked .marked (s .number))
+  told = rw (take-by-mark part limit s slot lent) (go (getD (memoryOf part (partsOf slot lent) .marks) (s .number) 0) (part-keeps part limit (partsOf slot lent) hs bs g .marked .marked (s .number)))
     where
       go : (mark : ℕ) → (0 < mark) ↔ Numbered (s .number) (those part hs bs) → Tells (byMark mark part limit s slot lent .outcome) part limit s slot lent hs bs (byMark mark part limit s slot lent)
       go zero i = if-new (λ j. let q : 0 < 0 = i .1 j in omega arith) (takesIn part limit s (partsOf slot lent)) refl

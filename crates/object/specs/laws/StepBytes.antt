@@ -17,9 +17,12 @@ use Rattle.cut.specs.Requirement.{headerNumbers, bodyNumbers, Segment}
 use Rattle.cut.specs.declared.Record.{Record}
 use Rattle.cut.specs.Decision.{boundsOf, coreAfter}
 use Rattle.object.specs.declared.Slot.{Slot}
-use Rattle.object.specs.Memory.{Memory, placeOf, segmentAt, movedAs, settled, put}
-use Rattle.object.specs.Take.{Lent, Parts, partsOf, lentOf, memoryOf, coreIn, takesIn, recordWithin, partsWith, slotWith, sameSegment, ifNew, ifHeld, byMark, takeInto}
-use Rattle.object.specs.Shape.{Shaped, recordAfter, keptOf, shareOf, Placed, Moves, Copied, Written, Leaves}
+use Rattle.part.specs.Memory.{Memory, placeOf, segmentAt, movedAs, settled, put}
+use Rattle.object.specs.Take.{Lent, Parts, partsOf, lentOf, memoryOf, coreIn, takesIn, partsWith, slotWith, takeInto, keptOf, shareOf}
+use Rattle.object.specs.laws.Decided.{ifNew, ifHeld, byMark, take-by-mark}
+use Rattle.part.specs.Asked.{recordWithin, sameSegment}
+use Rattle.object.specs.laws.Shape.{Shaped, recordAfter, Copied, Written, Leaves}
+use Rattle.part.specs.laws.Inside.{Placed, Moves}
 use Rattle.object.specs.laws.Step.{parts-back}
 use Rattle.part.specs.laws.HeldBytes.{tail-length}
 use Rattle.object.specs.laws.Inside.{takes-inside, settled-inside, body-inside}
@@ -133,14 +136,13 @@ new-leaves true part limit s slot lent h e = record {
     qs : Parts
     qs = partsWith part limit s ps
 
-held-leaves : (b : Bool) (part : Part) (s : Segment) (slot : Slot) (lent : Lent) → Leaves part s slot lent (ifHeld b slot lent)
-held-leaves true part s slot lent = record { bytes = λ p i c w. refl; marks = λ p n d. refl }
-held-leaves false part s slot lent = record { bytes = λ p i c w. refl; marks = λ p n d. refl }
+held-leaves : (b : Bool) (part : Part) (limit : ℕ) (s : Segment) (slot : Slot) (lent : Lent) → Leaves part s slot lent (ifHeld b part limit s slot lent)
+held-leaves true part limit s slot lent = record { bytes = λ p i c w. refl; marks = λ p n d. refl }
+held-leaves false part limit s slot lent = record { bytes = λ p i c w. refl; marks = λ p n d. refl }
 
 pub taken-leaves : (part : Part) (limit : ℕ) (s : Segment) (slot : Slot) (lent : Lent) → Shaped limit (partsOf slot lent) → Leaves part s slot lent (takeInto part limit s slot lent)
-unfolding takeInto
-taken-leaves part limit s slot lent h = go (getD (memoryOf part (partsOf slot lent) .marks) (s .number) 0)
+taken-leaves part limit s slot lent h = rw (take-by-mark part limit s slot lent) (go (getD (memoryOf part (partsOf slot lent) .marks) (s .number) 0))
   where
     go : (mark : ℕ) → Leaves part s slot lent (byMark mark part limit s slot lent)
     go zero = new-leaves (takesIn part limit s (partsOf slot lent)) part limit s slot lent h refl
-    go (suc mark) = held-leaves (sameSegment s (segmentAt (memoryOf part (partsOf slot lent)) (s .number))) part s slot lent
+    go (suc mark) = held-leaves (sameSegment s (segmentAt (memoryOf part (partsOf slot lent)) (s .number))) part limit s slot lent

@@ -18,18 +18,22 @@ use Rattle.cut.specs.declared.Record.{Record}
 use Rattle.cut.specs.Decision.{boundsOf, settle, coreAfter}
 use Rattle.cut.specs.declared.Core.the-variants.{Unseen}
 use Rattle.cut.specs.laws.Segment.{Numbered}
-use Rattle.cut.specs.laws.Object.{headersWith, bodiesWith, those}
+use Rattle.cut.specs.Parts.{headersWith, bodiesWith, those}
 use Rattle.cut.specs.laws.Theorem.{nothing-fits}
 use Rattle.cut.specs.laws.Marks.{Marked}
 use Rattle.object.specs.declared.Slot.{Slot}
 use Rattle.object.specs.declared.Outcome.{Outcome}
 use Rattle.object.specs.declared.Outcome.the-variants.{Stored, Complete, Repeat, Conflict}
-use Rattle.object.specs.Memory.{Memory, placeOf, segmentAt, movedAs, settled, put}
-use Rattle.object.specs.Take.{Lent, Parts, partsOf, lentOf, memoryOf, coreIn, takesIn, recordWith, recordWithin, partsWith, Taken, unchanged, sameSegment, ifNew, ifHeld, byMark, takeInto}
+use Rattle.part.specs.Memory.{Memory, placeOf, segmentAt, movedAs, settled, put}
+use Rattle.object.specs.Take.{Lent, Parts, partsOf, lentOf, memoryOf, coreIn, partsWith, Taken, unchanged, decided, takenBy, takeInto}
+use Rattle.object.specs.declared.Decided.{Decided}
+use Rattle.object.specs.declared.Decided.the-variants as Decided
+use Rattle.part.specs.Asked.{recordWith, recordWithin, sameSegment}
 use Rattle.object.specs.Sound.{soundSlot}
-use Rattle.object.specs.Shape.{IsLent, Shaped}
+use Rattle.object.specs.laws.Shape.{IsLent, Shaped}
 use Rattle.object.specs.laws.Inside.{lent-shaped}
-use Rattle.object.specs.Held.{Keeps, Gathers, Vacant, Added}
+use Rattle.object.specs.laws.Held.{Gathers, Vacant, Added}
+use Rattle.part.specs.laws.Keeps.{Keeps}
 use Rattle.object.specs.laws.Step.{Tells, outcome-tells}
 use Rattle.object.specs.laws.StateExact.{holds-sound}
 
@@ -77,22 +81,14 @@ unfolding partsWith
 parts-bytes Header limit s ps y h b = (put-bytes s (settled (recordWith (boundsOf Header limit (coreAfter s (coreIn (ps .header)))) s (ps .header)) (ps .header)) y (settled-bytes (recordWith (boundsOf Header limit (coreAfter s (coreIn (ps .header)))) s (ps .header)) (ps .header) h), settled-bytes (recordWithin (boundsOf Body limit (coreAfter s (coreIn (ps .header)))) (ps .body)) (ps .body) b)
 parts-bytes Body limit s ps y h b = (h, put-bytes s (settled (recordWith (boundsOf Body limit (coreIn (ps .header))) s (ps .body)) (ps .body)) y (settled-bytes (recordWith (boundsOf Body limit (coreIn (ps .header))) s (ps .body)) (ps .body) b))
 
-new-bytes : (b : Bool) (part : Part) (limit : ℕ) (s : Segment) (slot : Slot) (lent : Lent) → Bytes (s .bytes) → Bytes (lent .header) → Bytes (lent .body) → Bytes (ifNew b part limit s slot lent .lent .header) × Bytes (ifNew b part limit s slot lent .lent .body)
-unfolding partsOf lentOf
-new-bytes true part limit s slot lent y h b = parts-bytes part limit s (partsOf slot lent) y h b
-new-bytes false part limit s slot lent y h b = (h, b)
-
-held-bytes : (b : Bool) (slot : Slot) (lent : Lent) → Bytes (lent .header) → Bytes (lent .body) → Bytes (ifHeld b slot lent .lent .header) × Bytes (ifHeld b slot lent .lent .body)
-held-bytes true slot lent h b = (h, b)
-held-bytes false slot lent h b = (h, b)
-
 taken-bytes : (part : Part) (limit : ℕ) (s : Segment) (slot : Slot) (lent : Lent) → Bytes (s .bytes) → Bytes (lent .header) → Bytes (lent .body) → Bytes (takeInto part limit s slot lent .lent .header) × Bytes (takeInto part limit s slot lent .lent .body)
-unfolding takeInto
-taken-bytes part limit s slot lent y h b = go (getD (memoryOf part (partsOf slot lent) .marks) (s .number) 0)
+unfolding takeInto partsOf lentOf
+taken-bytes part limit s slot lent y h b = go (decided part limit s (partsOf slot lent))
   where
-    go : (mark : ℕ) → Bytes (byMark mark part limit s slot lent .lent .header) × Bytes (byMark mark part limit s slot lent .lent .body)
-    go zero = new-bytes (takesIn part limit s (partsOf slot lent)) part limit s slot lent y h b
-    go (suc mark) = held-bytes (sameSegment s (segmentAt (memoryOf part (partsOf slot lent)) (s .number))) slot lent h b
+    go : (d : Decided) → Bytes (takenBy d part limit s slot lent .lent .header) × Bytes (takenBy d part limit s slot lent .lent .body)
+    go Decided.Repeat = (h, b)
+    go Decided.Conflict = (h, b)
+    go (Decided.Fits core) = parts-bytes part limit s (partsOf slot lent) y h b
 
 shaped-lent : (limit : ℕ) (slot : Slot) (lent : Lent) → Shaped limit (partsOf slot lent) → Bytes (lent .header) → Bytes (lent .body) → IsLent limit lent
 unfolding partsOf

@@ -19,7 +19,8 @@ use Rattle.object.specs.declared.Slot.{Slot}
 use Rattle.object.specs.declared.Stage.{Stage}
 use Rattle.object.specs.declared.Stage.the-variants as Stage
 use Rattle.object.specs.Take.{Lent, Parts, stageBy, stageOf}
-use Rattle.object.specs.Held.{Gathers, StageFor, Holds}
+use Rattle.object.specs.laws.Held.{Gathers, Holds}
+use Rattle.object.specs.State.{StageFor}
 use Rattle.object.specs.laws.HeldSlot.{core-read}
 
 -- only the ends of the records play a part

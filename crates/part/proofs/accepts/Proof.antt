@@ -1,53 +1,65 @@
--- `part::accepts` meets its contract, test by test.
+-- `part::accepts` meets its contract: sums of marks, as the definition asks them.
 -- Assumes nothing.
-use mathlib.Core.Path.{_≡_, sym, ap, _∙_}
-use mathlib.Core.Bool.{Bool}
-use borrow.Author.Tests.{not-true, not-false}
-use Rattle.cut.specs.Decision.{joins, addPart}
-use Rattle.cut.specs.Sums.{fullIn, acceptsIn}
-use Rattle.part.specs.Asked.{fitsPart}
-use Rattle.part.specs.laws.Inside.{fits-beyond}
+use mathlib.Core.Path.{sym, ap, ap₂, _∙_}
+use Prim.Native.Nat.{ℕ, suc}
+use native.Mathlib.Omega.{arith}
+use lib.Dec.{eqb}
+use borrow.Author.Tests.{eq-eqb, ne-eqb, le-leb, lt-leb}
+use Rattle.cut.specs.Decision.{room}
+use Rattle.cut.specs.laws.Sums.{room-within}
 use borrow.Author.Needs.{needs}
 use Rattle.part.proofs.accepts.Statement.{statement}
 use Rattle.part.proofs.accepts.Tie as tie
 
+room-requires : tie.Need-room-requires
+room-requires c κs = search needs
+
+alone-requires : tie.Need-alone-requires
+alone-requires c κs = search needs
+
 returns : tie.Need-returns
-returns c = let a = c .before .before .before .args in sym (fits-beyond (a .bounds) (a .kept) (a .marks .now) (a .last) (a .number) (a .count) (c .if1 .taken))
+returns c =
+    let none = sym (c .before .before .before .before .before .pre .sum) ∙ c .before .if2 .taken in
+    rw (c .before .before .if1 .taken, eq-eqb _ _ none) (c .alone .ensures)
 
-full-requires : tie.Need-full-requires
-full-requires c κs = search needs
-
-joins-requires : tie.Need-joins-requires
-joins-requires c κs = search needs
+total-from-requires : tie.Need-total-from-requires
+total-from-requires c κs =
+    let a = c .before .before .before .before .args in
+    (c .before .before .before .before .pre .sum, omega (arith, c .before .before .before .before .pre .numbers, c .before .before .room .ensures, room-within (a .bounds) (a .kept)), omega (arith, c .before .before .before .before .pre .numbers, c .before .before .before .before .pre .few))
 
 returns-2 : tie.Need-returns-2
-unfolding fitsPart
 returns-2 c =
-    let a = c .before .before .before .before .before .before .args in
-    let joined : c .before .joins .result ≡ joins (fullIn (a .kept) (a .marks .now)) (a .last) (a .count) (a .kept) = rw (c .before .before .before .before .before .before .pre .sum) at (c .before .joins .ensures ∙ ap (λ (f : Bool). joins f (a .last) (a .count) (a .kept)) (c .before .before .full .ensures)) in
-    rw (sym joined ∙ not-true _ (c .if2 .taken))
+    let some = rw (c .before .before .before .before .before .pre .sum) at (c .before .if2 .left) in
+    rw (c .before .before .if1 .taken, ne-eqb _ _ some) (ap (λ (n : ℕ). eqb n 0) (rw (c .before .before .before .room .ensures) at (c .total-from .ensures)))
 
-add-requires : tie.Need-add-requires
-add-requires c κs = search needs
+total-from-requires-2 : tie.Need-total-from-requires-2
+total-from-requires-2 c κs =
+    let a = c .before .before .before .before .args in
+    (c .before .before .before .before .pre .sum, omega (arith, c .before .before .before .before .pre .numbers, c .before .before .room .ensures, room-within (a .bounds) (a .kept)), omega (arith, c .before .before .before .before .pre .numbers, c .before .before .before .before .pre .few))
 
-possible-with-requires : tie.Need-possible-with-requires
-possible-with-requires c κs = search needs
+ended-requires : tie.Need-ended-requires
+ended-requires c κs = search needs
 
 returns-3 : tie.Need-returns-3
-unfolding fitsPart
 returns-3 c =
-    let a = c .before .before .before .before .before .before .before .before .args in
-    let joined : c .before .before .before .joins .result ≡ joins (fullIn (a .kept) (a .marks .now)) (a .last) (a .count) (a .kept) = rw (c .before .before .before .before .before .before .before .before .pre .sum) at (c .before .before .before .joins .ensures ∙ ap (λ (f : Bool). joins f (a .last) (a .count) (a .kept)) (c .before .before .before .before .full .ensures)) in
-    rw (sym joined ∙ not-false _ (c .before .before .if2 .left)) (rw (c .before .add .ensures) at (c .possible-with .ensures))
+    let below = rw (c .before .before .before .before .room .ensures) at (c .before .before .if3 .taken) in
+    rw (c .before .before .before .if1 .left, le-leb _ _ below) (ap₂ eqb (rw (c .before .before .before .before .room .ensures) at (c .before .total-from2 .ensures)) (c .ended .ensures))
+
+returns-4 : tie.Need-returns-4
+returns-4 c =
+    let above = rw (c .before .before .room .ensures) at (c .if3 .left) in
+    rw (c .before .if1 .left, lt-leb (suc (c .before .before .before .before .args .number)) (room (c .before .before .before .before .args .bounds) (c .before .before .before .before .args .kept)) (omega (arith, above)))
 
 pub accepts-spec : {M : Type 1} → statement M
 accepts-spec =
     tie.close
     (tie.spec
+    room-requires
+    alone-requires
     returns
-    full-requires
-    joins-requires
+    total-from-requires
     returns-2
-    add-requires
-    possible-with-requires
-    returns-3)
+    total-from-requires-2
+    ended-requires
+    returns-3
+    returns-4)

@@ -13,7 +13,7 @@ use Rattle.octets.specs.laws.Over.{over-length, over-inside, over-after, over-b
 use Rattle.cut.specs.laws.Segment.{SitsAs}
 use Rattle.cut.specs.laws.Decision.{EndSits}
 use Rattle.part.specs.Memory.{placeOf, movedAs}
-use Rattle.part.specs.Keeps.{LaidAs}
+use Rattle.part.specs.laws.Keeps.{LaidAs}
 
 -- once the size is known, a segment stands at its number times the size
 pub place-known : (last : Bool) (size width n k : ℕ) → 0 < size → placeOf last size width n k ≡ n * size

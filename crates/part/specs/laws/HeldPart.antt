@@ -25,7 +25,7 @@ use Rattle.cut.specs.laws.Order.{KnowsAs, Knows, knows-each}
 use Rattle.cut.specs.laws.Marks.{Marked}
 use Rattle.part.specs.Memory.{Memory, placeOf, lengthOf, segmentAs, segmentAt, movedAs, settled, put}
 use Rattle.part.specs.laws.Inside.{derived-is, sits-before, place-lies}
-use Rattle.part.specs.Keeps.{Laid, Keeps}
+use Rattle.part.specs.laws.Keeps.{Laid, Keeps}
 use Rattle.part.specs.laws.HeldBytes.{moved-length, moved-laid, put-laid, put-other}
 
 -- the segments are those of a part of length L cut at S, within the bounds, and the share has room for it

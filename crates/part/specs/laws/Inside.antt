@@ -22,10 +22,31 @@ use Rattle.cut.specs.laws.Decision.{EndSits, TopSits, Suits, both-true, possibl
 use Rattle.cut.specs.laws.Object.{WithinOf}
 use Rattle.cut.specs.laws.Marks.{topFrom, top-high, top-open, top-ended, total-some}
 use Rattle.cut.specs.laws.Segment.{SitsAs}
-use Rattle.cut.specs.Sums.{ended, possibleIn, acceptsIn, fullIn, possible-in}
+use Rattle.cut.specs.Sums.{ended, possibleIn, acceptsIn, fullIn, fitsIn}
+use Rattle.cut.specs.laws.Sums.{possible-in}
 use Rattle.part.specs.Memory.{Memory, placeOf, lengthOf}
-use Rattle.part.specs.Asked.{fitsPart, endRight, recordRight}
-use Rattle.part.specs.Places.{Placed, Small, Moves}
+use Rattle.part.specs.Asked.{endRight, recordRight}
+
+-- ---- where in a share the bytes of a part lie
+
+-- a segment of k bytes lies inside its share, both at its number times the size and where it stands
+pub record Placed (width numbers : ℕ) (last : Bool) (size n k : ℕ) : Type 0 where
+  pub number : n < numbers
+  pub product : n * size + k ≤ width
+  pub place : placeOf last size width n k + k ≤ width
+
+-- the numbers of a record: the size, the last segment, and their products
+pub record Small (width numbers : ℕ) (p : Record) : Type 0 where
+  pub size : p .size ≤ sizeMost
+  pub end : p .end ≤ numbers
+  pub tail : p .tail ≤ sizeMost
+  pub product : p .end * p .size ≤ bodyNumbers * sizeMost
+  pub last : (p .end - 1) * p .size + p .tail ≤ width
+
+-- a last segment that is copied from the end of the share to its place, once the size is known
+pub record Moves (width : ℕ) (old new : Record) : Type 0 where
+  pub tail : old .tail ≤ width
+  pub place : (old .end - 1) * new .size + old .tail ≤ width
 
 -- ---- a record that some length and size within the bounds suit
 
@@ -242,7 +263,7 @@ abbrev pub topIn : Memory → ℕ
 topIn m = topFrom (m .kept .end) 0 (m .marks)
 
 -- the marked segments of a part can be, and its record is right
-module _ (b : Bounds) (m : Memory) (bits : Each (λ x. x ≤ 1) (m .marks)) (right : recordRight b m ≡ true) (can : possibleIn b (m .kept) (m .marks) ≡ true) where
+module _ (b : Bounds) (m : Memory) (bits : Each (λ x. x ≤ 1) (m .marks)) (right : recordRight b (m .kept) (m .marks) ≡ true) (can : possibleIn b (m .kept) (m .marks) ≡ true) where
   pub right-end : (m .kept .end ≡ 0 → m .kept .tail ≡ 0) × ((n : ℕ) → m .kept .end ≡ suc n → 0 < getD (m .marks) n 0)
   unfolding recordRight
   right-end = end-right (m .kept .end) (m .kept .tail) (m .marks) (both-true (endRight (m .kept .end) (m .kept .tail) (m .marks)) _ right .0)
@@ -280,9 +301,9 @@ module _ (b : Bounds) (m : Memory) (bits : Each (λ x. x ≤ 1) (m .marks)) (rig
 
 -- ---- one that fits
 
-module _ (b : Bounds) (p : Record) (marks : List ℕ) (last : Bool) (n k : ℕ) (fits : fitsPart b p marks last n k ≡ true) where
+module _ (b : Bounds) (p : Record) (marks : List ℕ) (last : Bool) (n k : ℕ) (fits : fitsIn b p marks last n k ≡ true) where
   fits-both : (joins (fullIn p marks) last k p ≡ true) × (acceptsIn last n b (addPart last n k p) marks ≡ true)
-  unfolding fitsPart
+  unfolding fitsIn
   fits-both = both-true (joins (fullIn p marks) last k p) (acceptsIn last n b (addPart last n k p) marks) fits
 
   pub fits-placed : (width : ℕ) → b .most ≤ width → Placed width (b .numbers) last (settle b (pick last (fullIn p marks) true) (addPart last n k p) .size) n k
@@ -292,9 +313,9 @@ module _ (b : Bounds) (p : Record) (marks : List ℕ) (last : Bool) (n k : ℕ) 
   fits-moves width h g = accepted-moves b n k p marks width h last (fits-both .0) (fits-both .1) g
 
 -- one whose number the part does not have does not fit
-pub fits-beyond : (b : Bounds) (p : Record) (marks : List ℕ) (last : Bool) (n k : ℕ) → b .numbers ≤ n → fitsPart b p marks last n k ≡ false
-fits-beyond b p marks last n k h = go (fitsPart b p marks last n k) refl
+pub fits-beyond : (b : Bounds) (p : Record) (marks : List ℕ) (last : Bool) (n k : ℕ) → b .numbers ≤ n → fitsIn b p marks last n k ≡ false
+fits-beyond b p marks last n k h = go (fitsIn b p marks last n k) refl
   where
-    go : (x : Bool) → fitsPart b p marks last n k ≡ x → x ≡ false
+    go : (x : Bool) → fitsIn b p marks last n k ≡ x → x ≡ false
     go false e = refl
     go true e = absurd (omega (arith, fits-placed b p marks last n k e (b .most) (omega arith) .number))

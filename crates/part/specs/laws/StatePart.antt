@@ -21,7 +21,7 @@ use Rattle.cut.specs.Sums.{possibleIn}
 use Rattle.part.specs.Memory.{Memory, placeOf, lengthOf, segmentAs, segmentAt, heldIn}
 use Rattle.part.specs.Asked.{recordRight}
 use Rattle.part.specs.laws.Inside.{topIn, right-end, right-size, right-suits, size-known, marked-sits, sits-before, place-lies}
-use Rattle.part.specs.Keeps.{Laid}
+use Rattle.part.specs.laws.Keeps.{Laid}
 use Rattle.part.specs.laws.HeldIn.{at-number, at-among, held-reads, held-numbered, held-marked, reads-agree}
 use Rattle.part.specs.laws.HeldPart.{Noted, segment-laid}
 
@@ -29,7 +29,7 @@ at-last : (m : Memory) (n : ℕ) → segmentAt m n .last ≡ eqb (suc n) (m .kep
 unfolding segmentAt
 at-last m n = refl
 
-module _ (b : Bounds) (m : Memory) (bits : Each (λ x. x ≤ 1) (m .marks)) (right : recordRight b m ≡ true) (can : possibleIn b (m .kept) (m .marks) ≡ true) (space : b .most ≤ length (m .share)) where
+module _ (b : Bounds) (m : Memory) (bits : Each (λ x. x ≤ 1) (m .marks)) (right : recordRight b (m .kept) (m .marks) ≡ true) (can : possibleIn b (m .kept) (m .marks) ≡ true) (space : b .most ≤ length (m .share)) where
   pub cut : ℕ
   cut = right-suits b m bits right can .cut
 

@@ -15,16 +15,18 @@ use Rattle.cut.specs.declared.Core.{Core}
 use Rattle.cut.specs.declared.Bounds.{Bounds}
 use Rattle.cut.specs.declared.Record.{Record}
 use Rattle.cut.specs.declared.Core.the-variants.{Unseen}
-use Rattle.cut.specs.Decision.{boundsOf, coreFits, alone, room, addPart, coreAfter}
+use Rattle.cut.specs.Decision.{boundsOf, coreFits, alone, room, addPart, coreAfter, coreWith}
 use Rattle.cut.specs.Sums.{possibleIn, suitsIn, acceptsIn, fullIn, takes}
-use Rattle.object.specs.Memory.{Memory}
+use Rattle.part.specs.Memory.{Memory}
 use Rattle.object.specs.declared.Stage.the-variants.{Gathering}
-use Rattle.object.specs.Take.{Lent, partsOf, marksOf, memoryOf, coreIn, takesIn, stageOf, ifNew, takeInto}
-use Rattle.object.specs.Shape.{coreWith}
-use Rattle.object.specs.Sound.{recordRight, soundParts}
+use Rattle.object.specs.Take.{Lent, partsOf, marksOf, memoryOf, coreIn, takesIn, stageOf, takeInto, decided, decidedNew}
+use Rattle.object.specs.laws.Decided.{ifNew}
+use Rattle.object.specs.Sound.{soundParts}
+use Rattle.part.specs.Asked.{recordRight}
 use Rattle.object.specs.declared.Decided.{Decided}
 use Rattle.object.specs.declared.Decided.the-variants.{Repeat, Conflict, Fits}
-use Rattle.object.specs.Inner.{otherPart, Offered, decided, decidedNew, Readable}
+use Rattle.object.specs.Asked.{Offered, Readable}
+use Rattle.cut.specs.Parts.{otherPart}
 use Rattle.slots.specs.Stores.{Stores, lentAt, noRecord, freshSlot}
 use Rattle.slots.specs.Alone.{fitsAlone}
 use Rattle.slots.specs.Take.{OpenAt}

@@ -11,11 +11,11 @@ use Rattle.cut.specs.Lists.{Bytes}
 use Rattle.cut.specs.Requirement.{headerMost, sizeMost, headerNumbers, bodyNumbers, Segment}
 use Rattle.cut.specs.declared.Core.{Core}
 use Rattle.cut.specs.declared.Record.{Record}
-use Rattle.cut.specs.Decision.{coreAfter, boundsOf}
+use Rattle.cut.specs.Decision.{coreWith, boundsOf}
 use Rattle.object.specs.declared.Slot.{Slot}
-use Rattle.object.specs.Memory.{placeOf}
-pub use Rattle.part.specs.Places.{Placed, Small, Moves}
-use Rattle.object.specs.Take.{Lent, Parts, partsOf, memoryOf, coreIn, recordWith, Taken}
+use Rattle.part.specs.Memory.{placeOf}
+use Rattle.object.specs.Take.{Lent, Parts, partsOf, memoryOf, keptOf, shareOf, coreIn, Taken}
+use Rattle.part.specs.Asked.{recordWith}
 
 -- how many bytes a part's share has, and how many marks
 abbrev pub widthOf : Part → ℕ → ℕ
@@ -44,23 +44,9 @@ pub record IsLent (limit : ℕ) (lent : Lent) : Type 0 where
   pub headerBytes : Bytes (lent .header)
   pub bodyBytes : Bytes (lent .body)
 
--- what header segment 0 says once a segment of a part is in
-abbrev pub coreWith : Part → Segment → Core → Core
-coreWith Header s c = coreAfter s c
-coreWith Body s c = c
-
 -- the record of the part that gets a segment
 abbrev pub recordAfter : Part → ℕ → Segment → Parts → Record
 recordAfter part limit s ps = recordWith (boundsOf part limit (coreWith part s (coreIn (ps .header)))) s (memoryOf part ps)
-
--- a slot's record of a part, and the part's share of what is lent
-abbrev pub keptOf : Part → Slot → Record
-keptOf Header slot = slot .header
-keptOf Body slot = slot .body
-
-abbrev pub shareOf : Part → Lent → List ℕ
-shareOf Header lent = lent .header
-shareOf Body lent = lent .body
 
 -- byte i of a share lies where a last segment is copied to, or where a segment is written
 pub record Copied (old new : Record) (i : ℕ) : Type 0 where

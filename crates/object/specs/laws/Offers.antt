@@ -6,14 +6,15 @@ use mathlib.Core.List.{List, [], _∷_}
 use Prim.Native.Nat.{ℕ}
 use Rattle.answer.specs.declared.Part.{Part}
 use Rattle.cut.specs.Lists.{Among, Bytes}
-use Rattle.cut.specs.Requirement.{Segment, Sends, Fits}
-use Rattle.cut.specs.laws.Object.{headersWith, bodiesWith, partOf, cutOf}
+use Rattle.cut.specs.Requirement.{Segment}
+use Rattle.cut.specs.Parts.{headersWith, bodiesWith}
 use Rattle.object.specs.declared.Slot.{Slot}
 use Rattle.object.specs.declared.Outcome.{Outcome}
 use Rattle.object.specs.declared.Outcome.the-variants.{Stored, Complete, Repeat, Conflict}
 use Rattle.object.specs.Take.{Lent, takeInto}
 use Rattle.object.specs.Sound.{soundSlot}
-use Rattle.object.specs.Held.{Holds}
+use Rattle.object.specs.Source.{Source, SentBy}
+use Rattle.object.specs.laws.Held.{Holds}
 
 pub record Offer : Type 0 where
   pub part : Part
@@ -49,13 +50,6 @@ pub data Standing (limit : ℕ) (slot₀ : Slot) (lent₀ : Lent) (slot : Slot) 
   some : Holds limit slot lent hs bs → soundSlot limit slot lent ≡ true → Standing limit slot₀ lent₀ slot lent hs bs
 
 -- ---- segments of one object and cut
-
--- an object and a cut of it: they fit no segments at all
-abbrev pub Source : ℕ → Type 0
-Source limit = Fits limit [] []
-
-abbrev pub SentBy : {limit : ℕ} → Source limit → Part → Segment → Type 0
-SentBy o part s = Sends (partOf part o) (cutOf part o) s
 
 -- every segment that it sends was offered
 abbrev pub AllOffered : {limit : ℕ} → Source limit → List Offer → Type 0

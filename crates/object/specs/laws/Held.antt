@@ -9,14 +9,14 @@ use Rattle.answer.specs.declared.Part.the-variants.{Header, Body}
 use Rattle.cut.specs.Requirement.{headerNumbers, bodyNumbers, Segment, Fits, Finished, joined}
 use Rattle.cut.specs.Decision.{boundsOf, coreOf}
 use Rattle.cut.specs.laws.Segment.{Numbered}
-use Rattle.cut.specs.laws.Object.{headersWith, bodiesWith, those}
+use Rattle.cut.specs.Parts.{headersWith, bodiesWith, those}
 use Rattle.object.specs.declared.Slot.{Slot}
 use Rattle.object.specs.declared.Stage.{Stage}
 use Rattle.object.specs.declared.Stage.the-variants as Stage
-pub use Rattle.part.specs.Keeps.{LaidAs, Keeps}
-unfoldable pub use Rattle.part.specs.Keeps.{Laid}
 use Rattle.object.specs.Take.{Lent, Parts, partsOf, Taken}
-use Rattle.object.specs.Shape.{Shaped, IsLent}
+use Rattle.part.specs.laws.Keeps.{Keeps}
+use Rattle.object.specs.State.{StageFor}
+use Rattle.object.specs.laws.Shape.{Shaped, IsLent}
 
 -- a slot's two parts hold these segments of a header and of a body, which fit some object and cut
 pub record Gathers (limit : ℕ) (ps : Parts) (hs bs : List Segment) : Type 0 where
@@ -24,12 +24,6 @@ pub record Gathers (limit : ℕ) (ps : Parts) (hs bs : List Segment) : Type 0 wh
   pub shape : Shaped limit ps
   pub header : Keeps (boundsOf Header limit (coreOf hs)) (ps .header) hs
   pub body : Keeps (boundsOf Body limit (coreOf hs)) (ps .body) bs
-
--- the stage that segments give which fit an object: finished with its two lengths, once every segment of it is in
-abbrev pub StageFor : {limit : ℕ} {hs bs : List Segment} → Fits limit hs bs → Stage → Type 0
-StageFor f Stage.Free = ⊥
-StageFor f Stage.Gathering = ¬ (Finished f)
-StageFor f (Stage.Finished header body) = Finished f × (header ≡ length (f .header)) × (body ≡ length (f .body))
 
 -- a slot with what is lent for it holds these segments, and its stage is the one that they give
 pub record Holds (limit : ℕ) (slot : Slot) (lent : Lent) (hs bs : List Segment) : Type 0 where
