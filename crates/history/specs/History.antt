@@ -20,7 +20,7 @@ use Rattle.cut.specs.Lists.{pick, Bytes}
 use Rattle.cut.specs.Requirement.{Segment}
 use Rattle.cut.specs.Parts.{headersWith, bodiesWith}
 use Rattle.slots.specs.Stores.{Stores}
-use Rattle.slots.specs.laws.StateTests.{Limits}
+use Rattle.slots.specs.State.{Limits}
 use Rattle.collector.specs.declared.Located.{Located}
 use Rattle.collector.specs.declared.Opening.{Opening}
 use Rattle.collector.specs.Calls.{segmentIn, openedBy}

@@ -1,5 +1,6 @@
 pub mod Stores
 pub mod Find
+pub mod Keys
 pub mod Alone
 pub mod State
 pub mod Take

@@ -4,26 +4,28 @@
 // the collector above has the type, the answers and the counts. Each function is one definition (specs/), and slot i has
 // share i of each store and of the marks.
 use answer::Part;
+use cut::Core;
 use cut::Record;
 use object::Decided;
 use object::Slot;
 use object::Stage;
+use object::Tally;
 use object::Took;
 ghost use mathlib.Core.Path.{_≡_};
 ghost use Prim.Native.Nat.{_+_, _*_, _≤_, _<_};
 ghost use lib.Dec.{leb};
 ghost use lib.ListN.{length, take, drop, set};
 ghost use Rattle.octets.specs.Octets.{zeros};
-ghost use Rattle.cut.specs.Requirement.{headerMost};
+ghost use Rattle.cut.specs.Requirement.{headerMost, segment};
 ghost use Rattle.object.specs.Take.{takeInto};
 ghost use Rattle.object.specs.Asked.{Offered};
-ghost use Rattle.slots.specs.Stores.{slotsMost, slotMarks, noRecord, freeSlot, freshSlot, lentAt};
+ghost use Rattle.slots.specs.Stores.{slotsMost, slotMarks, noRecord, freeSlot, freshSlot, stores, lentAt};
 ghost use Rattle.slots.specs.Find.{isFree, holds, findIn, freeIn};
 ghost use Rattle.slots.specs.Alone.{fitsAlone};
 ghost use Rattle.slots.specs.State.{withinLimits, rightBy, soundSlots};
-ghost use Rattle.slots.specs.laws.Keys.{keyOf, keysOf, unlikeKey, distinctKeys};
+ghost use Rattle.slots.specs.Keys.{keyOf, keysOf, unlikeKey, distinctKeys};
 ghost use Rattle.slots.specs.Show.{startOf, shownOf};
-ghost use Rattle.slots.specs.Take.{placedAt, dropAt, Inside};
+ghost use Rattle.slots.specs.Take.{placed, placedAt, dropAt, Inside};
 
 // How many slots a collector may have.
 pub const SLOTS_LEAST: usize = 1;
@@ -148,12 +150,18 @@ fn no_marks() -> [u8; SLOT_MARKS]
 
 // Whether a segment fits some object and cut by itself: what comes of it where nothing is in yet.
 pub fn fits_alone(part: Part, limit: usize, last: bool, number: usize, bytes: &[u8]) -> bool
-    ensures { λ r. ⌜ r ≡ fitsAlone part limit (record { number = number; last = last; bytes = now (bytes .entry) }) ⌝ }
+    ensures { λ r. ⌜ r ≡ fitsAlone part limit (segment number last (now (bytes .entry))) ⌝ }
 {
     let marks = no_marks();
     let fresh = fresh_slot(0);
-    let decided = object::outcome_of(
+    let nothing = Tally {
+        core: Core::Unseen,
+        headers: 0,
+        bodies: 0,
+    };
+    let decided = object::decide(
         fresh,
+        nothing,
         limit,
         part,
         last,
@@ -166,7 +174,7 @@ pub fn fits_alone(part: Part, limit: usize, last: bool, number: usize, bytes: &[
     match decided {
         Decided::Repeat => false,
         Decided::Conflict => false,
-        Decided::Fits(_, _, _) => true,
+        Decided::Fits(_) => true,
     }
 }
 
@@ -277,7 +285,7 @@ pub fn sound(
     body: &[u8],
     marks: &[u8],
 ) -> bool
-    ensures { λ r. ⌜ r ≡ soundSlots limit count slots (record { header = now (header .entry); body = now (body .entry); marks = now (marks .entry) }) ⌝ }
+    ensures { λ r. ⌜ r ≡ soundSlots limit count slots (stores (now (header .entry)) (now (body .entry)) (now (marks .entry))) ⌝ }
 {
     if !within_limits(limit, count, header.len(), body.len(), marks.len()) {
         return false;
@@ -309,9 +317,9 @@ pub fn take_into(
     body: &mut [u8],
     marks: &mut [u8],
 ) -> Took
-    requires { ⌜ Inside limit i (record { header = now header; body = now body; marks = now marks }) ⌝ }
-    requires { ⌜ Offered limit slot (lentAt limit i (record { header = now header; body = now body; marks = now marks })) ⌝ }
-    ensures { λ r. ⌜ record { outcome = r .outcome; slot = r .slot; stores = record { header = now (header .exit); body = now (body .exit); marks = now (marks .exit) } } ≡ placedAt limit i (record { header = now (header .entry); body = now (body .entry); marks = now (marks .entry) }) (takeInto part limit (record { number = number; last = last; bytes = now (bytes .entry) }) slot (lentAt limit i (record { header = now (header .entry); body = now (body .entry); marks = now (marks .entry) }))) ⌝ }
+    requires { ⌜ Inside limit i (stores (now header) (now body) (now marks)) ⌝ }
+    requires { ⌜ Offered limit slot (lentAt limit i (stores (now header) (now body) (now marks))) ⌝ }
+    ensures { λ r. ⌜ placed r (stores (now (header .exit)) (now (body .exit)) (now (marks .exit))) ≡ placedAt limit i (stores (now (header .entry)) (now (body .entry)) (now (marks .entry))) (takeInto part limit (segment number last (now (bytes .entry))) slot (lentAt limit i (stores (now (header .entry)) (now (body .entry)) (now (marks .entry))))) ⌝ }
 {
     let header_start = i * cut::HEADER_MOST;
     let header_end = header_start + cut::HEADER_MOST;

@@ -14,8 +14,7 @@ use Rattle.object.specs.laws.Shape.{IsLent}
 use Rattle.slots.specs.declared.Found.the-variants.{Nothing, At}
 use Rattle.slots.specs.Stores.{slotMarks, Stores, lentAt}
 use Rattle.slots.specs.Find.{isFree, holds, findIn, freeIn}
-use Rattle.slots.specs.State.{soundSlots}
-use Rattle.slots.specs.laws.StateTests.{Limits}
+use Rattle.slots.specs.State.{soundSlots, Limits}
 use Rattle.slots.specs.Take.{Inside}
 use Rattle.slots.specs.laws.Shares.{lent-wide}
 use Rattle.slots.specs.laws.Ready.{inside-store, held-sound, free-unmarked}

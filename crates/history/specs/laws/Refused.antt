@@ -30,10 +30,10 @@ use Rattle.object.specs.declared.Stage.{Stage}
 use Rattle.object.specs.declared.Stage.the-variants as Stage
 use Rattle.object.specs.declared.Outcome.{Outcome}
 use Rattle.object.specs.declared.Outcome.the-variants.{Stored, Complete, Repeat, Conflict}
-use Rattle.part.specs.Memory.{segmentAt}
-use Rattle.object.specs.Take.{Lent, partsOf, memoryOf, takesIn, partsWith, stageOf, outcomeBy, Taken, unchanged, takeInto}
-use Rattle.object.specs.laws.Decided.{ifNew, ifHeld, byMark}
-use Rattle.part.specs.Asked.{sameSegment}
+use Rattle.object.specs.declared.Decided.{Decided}
+use Rattle.object.specs.declared.Decided.the-variants as Decided
+use Rattle.object.specs.Take.{Lent, partsOf, decided, partsWith, stageOf, outcomeBy, Taken, unchanged, takenBy, takeInto}
+use Rattle.object.specs.laws.Decided.{ifNew}
 use Rattle.slots.specs.declared.Found.{Found}
 use Rattle.slots.specs.declared.Found.the-variants.{Nothing, At}
 use Rattle.slots.specs.Stores.{freeSlot, freshSlot, slotAt}
@@ -64,19 +64,12 @@ stage-stores (Stage.Finished header body) l = l
 
 offer-leaves : (part : Part) (limit : ℕ) (segment : Segment) (slot : Slot) (lent : Lent) → Leaving (takeInto part limit segment slot lent .outcome) → takeInto part limit segment slot lent ≡ unchanged (takeInto part limit segment slot lent .outcome) slot lent
 unfolding takeInto
-offer-leaves part limit segment slot lent = go (getD (memoryOf part (partsOf slot lent) .marks) (segment .number) 0)
+offer-leaves part limit segment slot lent = go (decided part limit segment (partsOf slot lent))
   where
-    new : (b : Bool) → Leaving (ifNew b part limit segment slot lent .outcome) → ifNew b part limit segment slot lent ≡ unchanged (ifNew b part limit segment slot lent .outcome) slot lent
-    new true l = absurd (stage-stores (stageOf (partsWith part limit segment (partsOf slot lent))) l)
-    new false l = refl
-
-    held : (b : Bool) → ifHeld b slot lent ≡ unchanged (ifHeld b slot lent .outcome) slot lent
-    held true = refl
-    held false = refl
-
-    go : (mark : ℕ) → Leaving (byMark mark part limit segment slot lent .outcome) → byMark mark part limit segment slot lent ≡ unchanged (byMark mark part limit segment slot lent .outcome) slot lent
-    go zero l = new (takesIn part limit segment (partsOf slot lent)) l
-    go (suc mark) l = held (sameSegment segment (segmentAt (memoryOf part (partsOf slot lent)) (segment .number)))
+    go : (d : Decided) → Leaving (takenBy d part limit segment slot lent .outcome) → takenBy d part limit segment slot lent ≡ unchanged (takenBy d part limit segment slot lent .outcome) slot lent
+    go Decided.Repeat l = refl
+    go Decided.Conflict l = refl
+    go (Decided.Fits core) l = absurd (stage-stores (stageOf (partsWith part limit segment (partsOf slot lent))) l)
 
 -- the first segment of a number, where it fits alone, is stored
 first-stores : (part : Part) (limit number : ℕ) (segment : Segment) (lent : Lent) → fitsAlone part limit segment ≡ true → takeInto part limit segment (freshSlot number) lent ≡ ifNew (fitsAlone part limit segment) part limit segment (freshSlot number) lent → Leaving (takeInto part limit segment (freshSlot number) lent .outcome) → ⊥

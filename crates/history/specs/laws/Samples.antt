@@ -17,14 +17,14 @@ use Rattle.wire.specs.Reading.{kindOf, checkHolds, sizeWrong, segmentOf, readin
 use Rattle.cut.specs.Lists.{Each, Among, bytes-zeros}
 use Rattle.cut.specs.Requirement.{bodySize, headerSize, contentType, contentSubType, Segment}
 use Rattle.cut.specs.Decision.{boundsOf, coreFits, room, largest, alone, settle}
-use Rattle.cut.specs.Sums.{possibleIn, suitsIn}
+use Rattle.cut.specs.Sums.{possibleIn, fitsIn}
 use Rattle.cut.specs.laws.Segment.{Numbered}
 use Rattle.cut.specs.laws.Finished.{whole-numbers}
 use Rattle.header.specs.Parameters.{lengthAt, parameterAt, within as inHeader, foundAt, turns, parametersFrom, widthFits, allFit, single, count, twice, find as findParameter, fieldsOf, judged, readHeader}
 use Rattle.header.specs.Names.{unslashed, nameMatches}
 use Rattle.part.specs.Memory.{segmentAt, settled, put}
-use Rattle.object.specs.Take.{partsOf, lentOf, coreIn, takesIn, partsWith, stageOf, slotWith, takeInto}
-use Rattle.part.specs.Asked.{recordWith, recordWithin, sameSegment, recordRight}
+use Rattle.object.specs.Take.{partsOf, lentOf, coreIn, takesIn, decided, partsWith, stageOf, slotWith, takeInto}
+use Rattle.part.specs.Asked.{recordWith, recordWithin, sameSegment, recordRight, soundPart}
 use Rattle.object.specs.Sound.{soundParts, soundSlot}
 use Rattle.object.specs.Source.{Source, SentBy}
 use Rattle.slots.specs.Alone.{fitsAlone}
@@ -63,7 +63,7 @@ otherNumber = 0x73 ∷ 0x00 ∷ 0x80 ∷ 0x00 ∷ 0x12 ∷ 0x00 ∷ 0x06 ∷ 0x0
 
 -- all that a run is computed with
 unfoldable pub computing : Unit {0}
-unfolding parameters name findByName nameData hasName headerIn holderIn lowestFrom foundByName readHeader judged fieldsOf findParameter twice count single allFit widthFits parametersFrom turns foundAt inHeader parameterAt lengthAt contentType contentSubType nameMatches unslashed under opening openedBy taking takeGroup dropping dropNumber soundState segmentIn locate show shownOf startOf takeAt takeNew dropAt slotAt freshSlot freeSlot withLent lentAt soundSlots rightFrom rightSlot distinct unlike heldAmong withinLimits freeIn findIn firstFrom holds isFree fitsAlone soundSlot soundParts recordRight takeInto slotWith sameSegment stageOf partsWith recordWithin recordWith takesIn coreIn lentOf partsOf put settled segmentAt suitsIn possibleIn settle alone largest room coreFits boundsOf headerSize bodySize within risen largestOf equal zeros over readingOf kindOf checkHolds sizeWrong segmentOf checkWord divided bitsEntered entered step
+unfolding parameters name findByName nameData hasName headerIn holderIn lowestFrom foundByName readHeader judged fieldsOf findParameter twice count single allFit widthFits parametersFrom turns foundAt inHeader parameterAt lengthAt contentType contentSubType nameMatches unslashed under opening openedBy taking takeGroup dropping dropNumber soundState segmentIn locate show shownOf startOf takeAt takeNew dropAt slotAt freshSlot freeSlot withLent lentAt soundSlots rightFrom rightSlot distinct unlike heldAmong withinLimits freeIn findIn firstFrom holds isFree fitsAlone soundSlot soundParts soundPart recordRight takeInto decided slotWith sameSegment stageOf partsWith recordWithin recordWith takesIn fitsIn coreIn lentOf partsOf put settled segmentAt possibleIn settle alone largest room coreFits boundsOf headerSize bodySize within risen largestOf equal zeros over readingOf kindOf checkHolds sizeWrong segmentOf checkWord divided bitsEntered entered step
 computing = tt
 
 -- ---- small collectors

@@ -21,8 +21,7 @@ use Rattle.slots.specs.declared.Found.{Found}
 use Rattle.slots.specs.declared.Found.the-variants.{Nothing, At}
 use Rattle.slots.specs.Stores.{slotsMost, slotMarks, Stores, lentAt, withLent, freeSlot, slotAt}
 use Rattle.slots.specs.Find.{freeStage, isFree, holds, firstFrom}
-use Rattle.slots.specs.State.{withinLimits, heldAmong, unlike, distinct, rightSlot, rightFrom, soundSlots}
-use Rattle.slots.specs.laws.StateTests.{Limits}
+use Rattle.slots.specs.State.{withinLimits, heldAmong, unlike, distinct, rightSlot, rightFrom, soundSlots, Limits}
 use Rattle.slots.specs.Take.{Inside}
 use Rattle.slots.specs.laws.Shares.{Wide, lent-back, lent-other, stores-lengths}
 use Rattle.slots.specs.laws.Ready.{sound-limits, right-at, found-passes}

@@ -37,8 +37,7 @@ use Rattle.slots.specs.declared.Found.{Found}
 use Rattle.slots.specs.declared.Found.the-variants.{Nothing, At}
 use Rattle.slots.specs.Stores.{freshSlot}
 use Rattle.slots.specs.Find.{isFree, holds}
-use Rattle.slots.specs.State.{rightSlot, soundSlots}
-use Rattle.slots.specs.laws.StateTests.{Limits}
+use Rattle.slots.specs.State.{rightSlot, soundSlots, Limits}
 use Rattle.collector.specs.declared.Located.{Located}
 use Rattle.collector.specs.declared.Located.the-variants as Located
 use Rattle.names.specs.declared.Holder.{Holder}

@@ -20,10 +20,10 @@ use Rattle.object.specs.declared.Stage.{Stage}
 use Rattle.object.specs.declared.Stage.the-variants as Stage
 use Rattle.object.specs.declared.Outcome.{Outcome}
 use Rattle.object.specs.declared.Outcome.the-variants.{Stored, Complete, Repeat, Conflict}
-use Rattle.part.specs.Memory.{segmentAt}
-use Rattle.object.specs.Take.{Lent, partsOf, memoryOf, takesIn, partsWith, stageOf, slotWith, outcomeBy, Taken, takeInto}
-use Rattle.object.specs.laws.Decided.{ifNew, ifHeld, byMark}
-use Rattle.part.specs.Asked.{sameSegment}
+use Rattle.object.specs.declared.Decided.{Decided}
+use Rattle.object.specs.declared.Decided.the-variants as Decided
+use Rattle.object.specs.Take.{Lent, partsOf, decided, partsWith, stageOf, slotWith, outcomeBy, Taken, takenBy, takeInto}
+use Rattle.object.specs.laws.Decided.{ifNew}
 use Rattle.object.specs.Sound.{soundSlot}
 use Rattle.object.specs.laws.Shape.{IsLent}
 use Rattle.object.specs.State.{markedSegments, StageFor}
@@ -55,19 +55,12 @@ sound-right limit slot lent z l e = rw (holds-held limit slot lent (markedSegmen
 -- whatever is taken, the slot keeps its number
 pub taken-number : (part : Part) (limit : ℕ) (segment : Segment) (slot : Slot) (lent : Lent) → takeInto part limit segment slot lent .slot .number ≡ slot .number
 unfolding takeInto slotWith
-taken-number part limit segment slot lent = go (getD (memoryOf part (partsOf slot lent) .marks) (segment .number) 0)
+taken-number part limit segment slot lent = go (decided part limit segment (partsOf slot lent))
   where
-    new : (b : Bool) → ifNew b part limit segment slot lent .slot .number ≡ slot .number
-    new true = refl
-    new false = refl
-
-    held : (b : Bool) → ifHeld b slot lent .slot .number ≡ slot .number
-    held true = refl
-    held false = refl
-
-    go : (mark : ℕ) → byMark mark part limit segment slot lent .slot .number ≡ slot .number
-    go zero = new (takesIn part limit segment (partsOf slot lent))
-    go (suc mark) = held (sameSegment segment (segmentAt (memoryOf part (partsOf slot lent)) (segment .number)))
+    go : (d : Decided) → takenBy d part limit segment slot lent .slot .number ≡ slot .number
+    go Decided.Repeat = refl
+    go Decided.Conflict = refl
+    go (Decided.Fits core) = refl
 
 -- ---- a slot that a number has just taken
 

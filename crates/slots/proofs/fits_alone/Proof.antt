@@ -3,9 +3,11 @@
 use mathlib.Core.Path.{sym, ap, _∙_}
 use Rattle.octets.specs.Octets.{zeros}
 use Rattle.octets.specs.laws.Marks.{zeros-sum}
-use Rattle.cut.specs.Requirement.{Segment}
-use Rattle.object.specs.Take.{Lent}
-use Rattle.slots.specs.laws.Fresh.{isFits, fresh-decided, fresh-readable}
+use Rattle.cut.specs.Requirement.{Segment, segment}
+use Rattle.object.specs.Take.{Lent, shares}
+use Rattle.slots.specs.Stores.{slotMarks}
+use Rattle.slots.specs.Alone.{isFits}
+use Rattle.slots.specs.laws.Fresh.{fresh-decided, fresh-readable}
 use Rattle.slots.proofs.Laws.{zeros-long}
 use borrow.Author.Needs.{needs}
 use Rattle.slots.proofs.fits_alone.Statement.{statement}
@@ -17,14 +19,14 @@ no-marks-requires c κs = search needs
 fresh-slot-requires : tie.Need-fresh-slot-requires
 fresh-slot-requires c κs = search needs
 
-slice-aggregate-outcome-of : tie.Need-slice-aggregate-outcome-of
-slice-aggregate-outcome-of c = search needs
+slice-aggregate-decide : tie.Need-slice-aggregate-decide
+slice-aggregate-decide c = search needs
 
-outcome-of-requires : tie.Need-outcome-of-requires
-outcome-of-requires c κs =
-    let s : Segment = record { number = c .before .before .before .before .args .number; last = c .before .before .before .before .args .last; bytes = c .before .before .before .before .args .bytes .now } in
-    let lent : Lent = record { header = c .before .before .before .before .args .bytes .now; body = c .before .before .before .before .args .bytes .now; marks = zeros 1088 } in
-    rw (c .before .fresh-slot .ensures, c .before .before .no-marks .ensures) (fresh-readable (c .before .before .before .before .args .part) (c .before .before .before .before .args .limit) 0 s lent (zeros-sum 1088) (zeros-long 1088))
+decide-requires : tie.Need-decide-requires
+decide-requires c κs =
+    let s : Segment = segment (c .before .before .before .before .args .number) (c .before .before .before .before .args .last) (c .before .before .before .before .args .bytes .now) in
+    let lent : Lent = shares (c .before .before .before .before .args .bytes .now) (c .before .before .before .before .args .bytes .now) (zeros slotMarks) in
+    rw (c .before .fresh-slot .ensures, c .before .before .no-marks .ensures) (fresh-readable (c .before .before .before .before .args .part) (c .before .before .before .before .args .limit) 0 s lent (zeros-sum slotMarks) (zeros-long slotMarks))
 
 enum-told : tie.Need-enum-told
 enum-told c = search needs
@@ -37,24 +39,24 @@ enum-told-3 c = search needs
 
 returns : tie.Need-returns
 returns c =
-    let s : Segment = record { number = c .before .before .before .before .before .before .before .args .number; last = c .before .before .before .before .before .before .before .args .last; bytes = c .before .before .before .before .before .before .before .args .bytes .now } in
-    let lent : Lent = record { header = c .before .before .before .before .before .before .before .args .bytes .now; body = c .before .before .before .before .before .before .before .args .bytes .now; marks = zeros 1088 } in
-    let decided = rw (c .before .before .before .before .fresh-slot .ensures, c .before .before .before .before .before .no-marks .ensures) at (c .before .before .outcome-of .ensures) in
-    ap isFits (sym (c .enum-told .given .1) ∙ decided) ∙ fresh-decided (c .before .before .before .before .before .before .before .args .part) (c .before .before .before .before .before .before .before .args .limit) 0 s lent (zeros-sum 1088)
+    let s : Segment = segment (c .before .before .before .before .before .before .before .args .number) (c .before .before .before .before .before .before .before .args .last) (c .before .before .before .before .before .before .before .args .bytes .now) in
+    let lent : Lent = shares (c .before .before .before .before .before .before .before .args .bytes .now) (c .before .before .before .before .before .before .before .args .bytes .now) (zeros slotMarks) in
+    let decided = rw (c .before .before .before .before .fresh-slot .ensures, c .before .before .before .before .before .no-marks .ensures) at (c .before .before .decide .ensures) in
+    ap isFits (sym (c .enum-told .given .1) ∙ decided) ∙ fresh-decided (c .before .before .before .before .before .before .before .args .part) (c .before .before .before .before .before .before .before .args .limit) 0 s lent (zeros-sum slotMarks)
 
 returns-2 : tie.Need-returns-2
 returns-2 c =
-    let s : Segment = record { number = c .before .before .before .before .before .before .before .args .number; last = c .before .before .before .before .before .before .before .args .last; bytes = c .before .before .before .before .before .before .before .args .bytes .now } in
-    let lent : Lent = record { header = c .before .before .before .before .before .before .before .args .bytes .now; body = c .before .before .before .before .before .before .before .args .bytes .now; marks = zeros 1088 } in
-    let decided = rw (c .before .before .before .before .fresh-slot .ensures, c .before .before .before .before .before .no-marks .ensures) at (c .before .before .outcome-of .ensures) in
-    ap isFits (sym (c .enum-told2 .given .1) ∙ decided) ∙ fresh-decided (c .before .before .before .before .before .before .before .args .part) (c .before .before .before .before .before .before .before .args .limit) 0 s lent (zeros-sum 1088)
+    let s : Segment = segment (c .before .before .before .before .before .before .before .args .number) (c .before .before .before .before .before .before .before .args .last) (c .before .before .before .before .before .before .before .args .bytes .now) in
+    let lent : Lent = shares (c .before .before .before .before .before .before .before .args .bytes .now) (c .before .before .before .before .before .before .before .args .bytes .now) (zeros slotMarks) in
+    let decided = rw (c .before .before .before .before .fresh-slot .ensures, c .before .before .before .before .before .no-marks .ensures) at (c .before .before .decide .ensures) in
+    ap isFits (sym (c .enum-told2 .given .1) ∙ decided) ∙ fresh-decided (c .before .before .before .before .before .before .before .args .part) (c .before .before .before .before .before .before .before .args .limit) 0 s lent (zeros-sum slotMarks)
 
 returns-3 : tie.Need-returns-3
 returns-3 c =
-    let s : Segment = record { number = c .before .before .before .before .before .before .before .args .number; last = c .before .before .before .before .before .before .before .args .last; bytes = c .before .before .before .before .before .before .before .args .bytes .now } in
-    let lent : Lent = record { header = c .before .before .before .before .before .before .before .args .bytes .now; body = c .before .before .before .before .before .before .before .args .bytes .now; marks = zeros 1088 } in
-    let decided = rw (c .before .before .before .before .fresh-slot .ensures, c .before .before .before .before .before .no-marks .ensures) at (c .before .before .outcome-of .ensures) in
-    ap isFits (sym (c .enum-told3 .given .1) ∙ decided) ∙ fresh-decided (c .before .before .before .before .before .before .before .args .part) (c .before .before .before .before .before .before .before .args .limit) 0 s lent (zeros-sum 1088)
+    let s : Segment = segment (c .before .before .before .before .before .before .before .args .number) (c .before .before .before .before .before .before .before .args .last) (c .before .before .before .before .before .before .before .args .bytes .now) in
+    let lent : Lent = shares (c .before .before .before .before .before .before .before .args .bytes .now) (c .before .before .before .before .before .before .before .args .bytes .now) (zeros slotMarks) in
+    let decided = rw (c .before .before .before .before .fresh-slot .ensures, c .before .before .before .before .before .no-marks .ensures) at (c .before .before .decide .ensures) in
+    ap isFits (sym (c .enum-told3 .given .1) ∙ decided) ∙ fresh-decided (c .before .before .before .before .before .before .before .args .part) (c .before .before .before .before .before .before .before .args .limit) 0 s lent (zeros-sum slotMarks)
 
 pub fits-alone-spec : {M : Type 1} → statement M
 fits-alone-spec =
@@ -62,8 +64,8 @@ fits-alone-spec =
     (tie.spec
     no-marks-requires
     fresh-slot-requires
-    slice-aggregate-outcome-of
-    outcome-of-requires
+    slice-aggregate-decide
+    decide-requires
     enum-told
     enum-told-2
     enum-told-3

@@ -1,8 +1,8 @@
 -- A slot that a transport number has just taken can be offered its first segment.
-use mathlib.Core.Path.{_≡_, refl}
+use mathlib.Core.Path.{_≡_, refl, sym, ap, _∙_}
 use mathlib.Core.Bool.{Bool, true, false}
 use mathlib.Core.List.{List, [], _∷_}
-use Prim.Native.Nat.{ℕ, _≤_}
+use Prim.Native.Nat.{ℕ, _+_, _≤_}
 use native.Mathlib.Omega.{arith}
 use lib.ListN.{length, take, drop, getD}
 use borrow.Author.Tests.{le-leb}
@@ -10,25 +10,24 @@ use Rattle.octets.specs.Octets.{sumOf, largestOf}
 use Rattle.octets.specs.laws.Marks.{sum-split, sum-none}
 use Rattle.answer.specs.declared.Part.{Part}
 use Rattle.answer.specs.declared.Part.the-variants.{Header, Body}
-use Rattle.cut.specs.Requirement.{headerNumbers, Segment}
+use Rattle.cut.specs.Requirement.{headerNumbers, bodyNumbers, Segment}
 use Rattle.cut.specs.declared.Core.{Core}
+use Rattle.cut.specs.declared.Core.the-variants.{Unseen}
 use Rattle.cut.specs.declared.Bounds.{Bounds}
 use Rattle.cut.specs.declared.Record.{Record}
-use Rattle.cut.specs.declared.Core.the-variants.{Unseen}
-use Rattle.cut.specs.Decision.{boundsOf, coreFits, alone, room, addPart, coreAfter, coreWith}
-use Rattle.cut.specs.Sums.{possibleIn, suitsIn, acceptsIn, fullIn, takes}
-use Rattle.part.specs.Memory.{Memory}
-use Rattle.object.specs.declared.Stage.the-variants.{Gathering}
-use Rattle.object.specs.Take.{Lent, partsOf, marksOf, memoryOf, coreIn, takesIn, stageOf, takeInto, decided, decidedNew}
-use Rattle.object.specs.laws.Decided.{ifNew}
-use Rattle.object.specs.Sound.{soundParts}
-use Rattle.part.specs.Asked.{recordRight}
-use Rattle.object.specs.declared.Decided.{Decided}
-use Rattle.object.specs.declared.Decided.the-variants.{Repeat, Conflict, Fits}
-use Rattle.object.specs.Asked.{Offered, Readable}
 use Rattle.cut.specs.Parts.{otherPart}
+use Rattle.cut.specs.Decision as Decision
+use Rattle.cut.specs.Decision.{boundsOf, coreFits, room, addPart, coreWith}
+use Rattle.cut.specs.Sums.{possibleIn, fitsIn, takes}
+use Rattle.part.specs.Memory.{Memory}
+use Rattle.part.specs.Asked.{recordRight, soundPart}
+use Rattle.object.specs.declared.Stage.the-variants.{Gathering}
+use Rattle.object.specs.Take.{Lent, shares, partsOf, keptOf, marksOf, memoryOf, coreFrom, coreIn, takesIn, stageOf, decided, decidedNew, takeInto}
+use Rattle.object.specs.Sound.{soundParts}
+use Rattle.object.specs.Asked.{tallyOf, Readable, Offered}
+use Rattle.object.specs.laws.Decided.{memory-is, ifNew, byMark, take-by-mark}
 use Rattle.slots.specs.Stores.{Stores, lentAt, noRecord, freshSlot}
-use Rattle.slots.specs.Alone.{fitsAlone}
+use Rattle.slots.specs.Alone.{isFits, fitsAlone}
 use Rattle.slots.specs.Take.{OpenAt}
 use Rattle.slots.specs.laws.Shares.{lent-wide}
 
@@ -62,7 +61,7 @@ module _ (limit number : ℕ) (lent : Lent) (none : sumOf (lent .marks) ≡ 0) w
 
   -- it is as sound as one that holds nothing can be
   pub fresh-sound : soundParts limit Gathering (partsOf (freshSlot number) lent) ≡ true
-  unfolding soundParts recordRight suitsIn possibleIn alone coreFits boundsOf stageOf partsOf freshSlot
+  unfolding soundParts soundPart recordRight possibleIn Decision.alone coreFits boundsOf stageOf partsOf freshSlot
   fresh-sound = rw (fresh-core, header-none, body-none, le-leb 0 limit (omega arith)) refl
 
 pub fresh-offered : (limit i number : ℕ) (stores : Stores) → OpenAt limit i stores → Offered limit (freshSlot number) (lentAt limit i stores)
@@ -79,61 +78,73 @@ fresh-offered limit i number stores opened =
 
 -- ---- its first segment is taken exactly when it fits alone
 
--- a segment that is decided on fits
-abbrev pub isFits : Decided → Bool
-isFits Repeat = false
-isFits Conflict = false
-isFits (Fits core own others) = true
-
-new-fits : (fits : Bool) (core : Core) (own others : ℕ) → isFits (decidedNew fits core own others) ≡ fits
-new-fits true core own others = refl
-new-fits false core own others = refl
-
 -- marks of which none is set are as good as none at all
 module _ (b : Bounds) (p : Record) (marks : List ℕ) (none : sumOf marks ≡ 0) where
-  full-none : fullIn p marks ≡ fullIn p []
-  full-none = rw none refl
-
   possible-none : possibleIn b p marks ≡ possibleIn b p []
   unfolding possibleIn
   possible-none = rw (none, rest-none (room b p) marks none, rest-none (room b p) [] refl) refl
 
-  accepts-none : (last : Bool) (n : ℕ) → acceptsIn last n b p marks ≡ acceptsIn last n b p []
-  accepts-none true n = rw none refl
-  accepts-none false n = rw (rest-none (room b p) marks none, rest-none (room b p) [] refl) refl
+  fits-none : (last : Bool) (n k : ℕ) → fitsIn b p marks last n k ≡ fitsIn b p [] last n k
+  unfolding fitsIn
+  fits-none true n k = rw none refl
+  fits-none false n k = rw (none, rest-none (room b (addPart false n k p)) marks none, rest-none (room b (addPart false n k p)) [] refl) refl
 
-takes-none : (part : Part) (limit : ℕ) (core : Core) (p q : Record) (headerMarks bodyMarks : List ℕ) (s : Segment) → sumOf headerMarks ≡ 0 → sumOf bodyMarks ≡ 0 → takes part limit core p headerMarks q bodyMarks s ≡ takes part limit core p [] q [] s
-takes-none Header limit core p q headerMarks bodyMarks s h b =
-    let c : Core = coreAfter s core in
-    let x : Record = addPart (s .last) (s .number) (length (s .bytes)) p in
-    rw (full-none (boundsOf Header limit c) p headerMarks h, accepts-none (boundsOf Header limit c) x headerMarks h (s .last) (s .number), possible-none (boundsOf Body limit c) q bodyMarks b) refl
-takes-none Body limit core p q headerMarks bodyMarks s h b =
-    let x : Record = addPart (s .last) (s .number) (length (s .bytes)) q in
-    rw (full-none (boundsOf Body limit core) q bodyMarks b, accepts-none (boundsOf Body limit core) x bodyMarks b (s .last) (s .number), possible-none (boundsOf Header limit core) p headerMarks h) refl
+-- the decision where nothing is in yet
+abbrev alone : Part → ℕ → Segment → Bool
+alone part limit s = takes part limit (coreWith part s Unseen) noRecord [] noRecord [] (s .last) (s .number) (length (s .bytes))
 
 module _ (part : Part) (limit number : ℕ) (s : Segment) (lent : Lent) (none : sumOf (lent .marks) ≡ 0) where
-  fresh-fits : takesIn part limit s (partsOf (freshSlot number) lent) ≡ fitsAlone part limit s
-  unfolding takesIn fitsAlone partsOf freshSlot
-  fresh-fits = rw (fresh-core limit number lent none) (takes-none part limit Unseen noRecord noRecord (take headerNumbers (lent .marks)) (drop headerNumbers (lent .marks)) s (header-none limit number lent none) (body-none limit number lent none))
+  marks-none : (p : Part) → sumOf (marksOf p (lent .marks)) ≡ 0
+  marks-none Header = header-none limit number lent none
+  marks-none Body = body-none limit number lent none
 
-  unmarked : (part : Part) → getD (memoryOf part (partsOf (freshSlot number) lent) .marks) (s .number) 0 ≡ 0
-  unfolding partsOf freshSlot
-  unmarked Header = sum-none (take headerNumbers (lent .marks)) .0 (header-none limit number lent none) (s .number)
-  unmarked Body = sum-none (drop headerNumbers (lent .marks)) .0 (body-none limit number lent none) (s .number)
+  kept-none : (p : Part) → keptOf p (freshSlot number) ≡ noRecord
+  unfolding freshSlot
+  kept-none Header = refl
+  kept-none Body = refl
+
+  fresh-fits : takesIn part limit s (partsOf (freshSlot number) lent) ≡ alone part limit s
+  unfolding takesIn
+  fresh-fits =
+      rw (
+        fresh-core limit number lent none,
+        memory-is part (freshSlot number) lent,
+        memory-is (otherPart part) (freshSlot number) lent,
+        kept-none part,
+        kept-none (otherPart part),
+        fits-none (boundsOf part limit (coreWith part s Unseen)) noRecord (marksOf part (lent .marks)) (marks-none part) (s .last) (s .number) (length (s .bytes)),
+        possible-none (boundsOf (otherPart part) limit (coreWith part s Unseen)) noRecord (marksOf (otherPart part) (lent .marks)) (marks-none (otherPart part)),
+      )
+
+  unmarked : getD (memoryOf part (partsOf (freshSlot number) lent) .marks) (s .number) 0 ≡ 0
+  unmarked = rw (memory-is part (freshSlot number) lent) (sum-none (marksOf part (lent .marks)) .0 (marks-none part) (s .number))
+
+  fresh-alone : isFits (decided part limit s (partsOf (freshSlot number) lent)) ≡ alone part limit s
+  unfolding decided
+  fresh-alone = rw unmarked (new-fits (takesIn part limit s (partsOf (freshSlot number) lent)) (coreWith part s (coreIn (partsOf (freshSlot number) lent .header))) ∙ fresh-fits)
+    where
+      new-fits : (fits : Bool) (core : Core) → isFits (decidedNew fits core) ≡ fits
+      new-fits true core = refl
+      new-fits false core = refl
+
+  -- nothing is in yet, so the tally is this, and there is no segment to read
+  pub fresh-readable : length (lent .marks) ≡ headerNumbers + bodyNumbers → Readable (record { core = Unseen; headers = 0; bodies = 0 }) part (s .number) (freshSlot number) lent
+  fresh-readable h = record { marks = h; tallied = tallied; held = λ m. absurd (omega (arith, sum-none (marksOf part (lent .marks)) .0 (marks-none part) (s .number), m)) }
+    where
+      core : coreFrom (marksOf Header (lent .marks)) (lent .header) ≡ Unseen
+      core = rw (sum-none (marksOf Header (lent .marks)) .0 (marks-none Header) 0) refl
+
+      tallied : record { core = Unseen; headers = 0; bodies = 0 } ≡ tallyOf (lent .header) (lent .marks)
+      tallied = rw (core, marks-none Header, marks-none Body) refl
+
+module _ (part : Part) (limit number : ℕ) (s : Segment) (lent : Lent) (none : sumOf (lent .marks) ≡ 0) where
+  -- what is decided of it, whatever bytes the shares have, tells whether it fits alone
+  pub fresh-decided : isFits (decided part limit s (partsOf (freshSlot number) lent)) ≡ fitsAlone part limit s
+  unfolding fitsAlone
+  fresh-decided = fresh-alone part limit number s lent none ∙ sym (fresh-alone part limit 0 s (shares [] [] []) refl)
 
   pub fresh-taken : takeInto part limit s (freshSlot number) lent ≡ ifNew (fitsAlone part limit s) part limit s (freshSlot number) lent
-  unfolding takeInto
-  fresh-taken = rw (unmarked part, fresh-fits) refl
-
-  -- so what comes of it, where nothing is in yet, tells whether it fits alone
-  pub fresh-decided : isFits (decided part limit s (partsOf (freshSlot number) lent)) ≡ fitsAlone part limit s
-  unfolding decided
-  fresh-decided = rw (unmarked part, fresh-fits) (new-fits (fitsAlone part limit s) (coreWith part s (coreIn (partsOf (freshSlot number) lent .header))) (sumOf (memoryOf part (partsOf (freshSlot number) lent) .marks)) (sumOf (memoryOf (otherPart part) (partsOf (freshSlot number) lent) .marks)))
-
-  pub fresh-readable : length (lent .marks) ≡ 1088 → Readable part (s .number) (freshSlot number) lent
-  unfolding partsOf freshSlot
-  fresh-readable h = record { marks = h; held = λ m. absurd (omega (arith, none-of part, m)) }
-    where
-      none-of : (p : Part) → getD (marksOf p (lent .marks)) (s .number) 0 ≡ 0
-      none-of Header = unmarked Header
-      none-of Body = unmarked Body
+  fresh-taken =
+      take-by-mark part limit s (freshSlot number) lent
+      ∙ ap (λ (m : ℕ). byMark m part limit s (freshSlot number) lent) (unmarked part limit number s lent none)
+      ∙ ap (λ (f : Bool). ifNew f part limit s (freshSlot number) lent) (fresh-fits part limit number s lent none ∙ sym (fresh-alone part limit number s lent none) ∙ fresh-decided)

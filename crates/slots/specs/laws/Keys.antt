@@ -1,5 +1,4 @@
--- Slots told apart by a key: the number and 1, or 0 of a free slot. No two slots hold one number exactly where no two keys
--- but 0 are one.
+-- No two slots hold one number exactly where no two keys but 0 are one.
 use mathlib.Core.Path.{_≡_, refl, sym, _∙_}
 use mathlib.Core.Bool.{Bool, true, false}
 use mathlib.Core.List.{List, [], _∷_, _++_, append-nil}
@@ -17,27 +16,8 @@ use Rattle.object.specs.declared.Slot.{Slot}
 use Rattle.slots.specs.Stores.{freeSlot}
 use Rattle.slots.specs.Find.{freeStage, isFree, holds}
 use Rattle.slots.specs.State.{heldAmong, unlike, distinct}
+use Rattle.slots.specs.Keys.{keyOf, keysOf, absentKey, unlikeKey, distinctKeys}
 use Rattle.slots.specs.laws.StateTests.{spent, one-more}
-
-unfoldable pub keyOf : Slot → ℕ
-keyOf slot = pick (isFree slot) 0 (slot .number + 1)
-
-unfoldable pub keysOf : List Slot → List ℕ
-keysOf [] = []
-keysOf (slot ∷ slots) = keyOf slot ∷ keysOf slots
-
--- none of the others is the key
-unfoldable pub absentKey : ℕ → List ℕ → Bool
-absentKey key [] = true
-absentKey key (other ∷ others) = pick (eqb other key) false (absentKey key others)
-
--- a key is 0, or none of the others
-unfoldable pub unlikeKey : ℕ → List ℕ → Bool
-unlikeKey key others = pick (eqb key 0) true (absentKey key others)
-
-unfoldable pub distinctKeys : List ℕ → Bool
-distinctKeys [] = true
-distinctKeys (key ∷ keys) = both (unlikeKey key keys) (distinctKeys keys)
 
 -- ---- keys for slots
 

@@ -21,8 +21,8 @@ use Rattle.object.specs.laws.Inside.{sound-slot}
 use Rattle.slots.specs.declared.Found.the-variants.{At}
 use Rattle.slots.specs.Stores.{slotMarks, Stores, lentAt, freeSlot, slotAt}
 use Rattle.slots.specs.Find.{freeStage, isFree, holds, firstFrom, findIn, freeIn}
-use Rattle.slots.specs.State.{withinLimits, distinct, rightSlot, rightFrom, soundSlots}
-use Rattle.slots.specs.laws.StateTests.{Limits, limits-hold}
+use Rattle.slots.specs.State.{withinLimits, distinct, rightSlot, rightFrom, soundSlots, Limits}
+use Rattle.slots.specs.laws.StateTests.{limits-hold}
 use Rattle.slots.specs.Take.{Inside, OfferedAt, OpenAt}
 use Rattle.slots.specs.laws.Shares.{lent-wide}
 

@@ -13,9 +13,10 @@ use Rattle.cut.specs.Requirement.{headerMost, limitLeast, limitMost}
 use Rattle.cut.specs.Decision.{both, all}
 use Rattle.cut.specs.laws.Decision.{all-true}
 use Rattle.object.specs.declared.Slot.{Slot}
-use Rattle.object.specs.laws.Meets.{sound-meets}
+use Rattle.object.specs.Take.{partsOf, coreIn, stageOf}
+use Rattle.object.specs.Sound.{soundParts, soundSlot}
 use Rattle.slots.specs.Stores.{slotsMost, slotMarks, Stores, lentAt, freeSlot}
-use Rattle.slots.specs.State.{withinLimits, rightSlot, rightBy, rightFrom}
+use Rattle.slots.specs.State.{withinLimits, Limits, rightSlot, rightBy, rightFrom}
 
 -- ---- the limits
 
@@ -29,16 +30,6 @@ turned true false c d = sym (both-none d)
 turned true true false d = sym (both-none d)
 turned true true true true = refl
 turned true true true false = refl
-
--- what a state within them has, h, b and m being the lent lengths
-pub record Limits (limit count h b m : ℕ) : Type 0 where
-  pub header : h ≡ count * headerMost
-  pub body : b ≡ count * limit
-  pub marks : m ≡ count * slotMarks
-  pub least : limitLeast ≤ limit
-  pub most : limit ≤ limitMost
-  pub some : 1 ≤ count
-  pub slots : count ≤ slotsMost
 
 module _ (limit count header body marks : ℕ) where
   pub limits-tests : withinLimits limit count header body marks
@@ -75,8 +66,8 @@ pub one-more : {A : Type 0} (d : A) (l : List A) (count i : ℕ) → i < count �
 one-more d l count i h g = drop-cons (take count l) i d (rw length-take (omega arith)) ∙ rw (getD-take count l i d h, add-one) refl
 
 pub right-meets : (limit i : ℕ) (slot : Slot) (stores : Stores) → rightSlot limit slot (lentAt limit i stores) ≡ rightBy limit i slot (stores .header) (stores .marks)
-unfolding rightSlot rightBy lentAt
-right-meets limit i slot stores = rw (sound-meets limit slot (lentAt limit i stores)) refl
+unfolding rightSlot rightBy lentAt soundSlot soundParts partsOf coreIn stageOf
+right-meets limit i slot stores = refl
 
 module _ (slots : List Slot) (count i : ℕ) where
   pub right-none : (limit : ℕ) (stores : Stores) → length (take count slots) ≤ i → rightFrom limit i (drop i (take count slots)) stores ≡ true
