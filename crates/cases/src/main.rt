@@ -1,6 +1,6 @@
-// The worked cases of document 01, "Both sides of the line", and others at each bound, run on the decision of crate `cut`
-// and written with its verdict, one case a line. What must be written comes from the independent program, which searches
-// every length and every size (independent/src/bin/cases.rs).
+// The worked cases of document 01, "Both sides of the line", and others at each bound, run on the decision of crate
+// `cut` and written with its verdict, one case a line. What must be written comes from the independent program, which
+// searches every length and every size (independent/src/bin/cases.rs).
 use cut::Core;
 use cut::Record;
 ghost use mathlib.Core.Path.{_≡_};
@@ -268,8 +268,8 @@ fn cases_of_bodies() {
     sized(MOST, 8385536, full(0, 8189), none());
 }
 
-// The last one alone, number n of length k: n times the greater of 16 and k, and k, at the limit and one or as little as
-// can be over.
+// The last one alone, number n of length k: n times the greater of 16 and k, and k, at the limit and one or as little
+// as can be over.
 fn cases_of_the_last_alone() {
     body_alone(1024, last(63, 16));
     body_alone(1024, last(63, 17));
@@ -287,7 +287,8 @@ fn cases_of_the_last_alone() {
     body_alone(MOST, last(128, 8129));
 }
 
-// Two segments of a part: there is one last one, full ones have one length, and the last one is no longer and comes after.
+// Two segments of a part: there is one last one, full ones have one length, and the last one is no longer and comes
+// after.
 fn cases_of_two_segments() {
     pair(full(0, 16), full(1, 17));
     pair(full(0, 17), full(1, 17));

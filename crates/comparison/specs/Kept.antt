@@ -21,9 +21,6 @@ coreSaid seen body header = pick seen (Seen body header) Unseen
 abbrev pub keptOf : ℕ → ℕ → ℕ → ℕ → Kept
 keptOf top size end tail = record { top = top; part = record { size = size; end = end; tail = tail } }
 
-abbrev pub segmentOf : ℕ → Bool → List ℕ → Segment
-segmentOf number last bytes = record { number = number; last = last; bytes = bytes }
-
 abbrev pub summaryOf : Kept → Summary
 summaryOf k = record { top = k .top; part = k .part }
 

@@ -5,9 +5,9 @@ use cut::Core;
 use cut::Record;
 ghost use mathlib.Core.Path.{_≡_};
 ghost use Prim.Native.Nat.{_<_};
-ghost use Rattle.cut.specs.Requirement.{bodySize, headerSize};
+ghost use Rattle.cut.specs.Requirement.{bodySize, headerSize, segment};
 ghost use Rattle.cut.specs.Decision.{addTop, accepts};
-ghost use Rattle.comparison.specs.Kept.{partOf, coreSaid, coreWith, segmentOf, summaryOf, keptOf, keptWith, keptAfter, keptField, acceptsOf};
+ghost use Rattle.comparison.specs.Kept.{partOf, coreSaid, coreWith, summaryOf, keptOf, keptWith, keptAfter, keptField, acceptsOf};
 
 // What is kept of a part: 1 + the highest number of a full segment, or 0, and its record.
 struct Kept {
@@ -80,7 +80,10 @@ fn accepts_header(
     bytes: &[u8],
 ) -> bool
     requires { ⌜ number < 32768 ⌝ }
-    ensures { λ r. ⌜ r ≡ accepts Part.Header limit core (summaryOf header) (summaryOf body) (segmentOf number last (now (bytes .entry))) ⌝ }
+    ensures { λ r. ⌜
+        r ≡ accepts Part.Header limit core (summaryOf header) (summaryOf body)
+        (segment number last (now (bytes .entry)))
+        ⌝ }
 {
     if !part::record::joins(0 < header.top, last, bytes.len(), header.part) {
         return false;
@@ -100,7 +103,10 @@ fn accepts_body(
     bytes: &[u8],
 ) -> bool
     requires { ⌜ number < 32768 ⌝ }
-    ensures { λ r. ⌜ r ≡ accepts Part.Body limit core (summaryOf header) (summaryOf body) (segmentOf number last (now (bytes .entry))) ⌝ }
+    ensures { λ r. ⌜
+        r ≡ accepts Part.Body limit core (summaryOf header) (summaryOf body)
+        (segment number last (now (bytes .entry)))
+        ⌝ }
 {
     if !part::record::joins(0 < body.top, last, bytes.len(), body.part) {
         return false;
@@ -129,7 +135,12 @@ pub extern "C" fn compared_accepts(
     last: bool,
     bytes: &[u8],
 ) -> bool
-    ensures { λ r. ⌜ r ≡ acceptsOf (partOf part) limit (coreSaid seen body header) (keptOf «header_top» «header_size» «header_end» «header_tail») (keptOf «body_top» «body_size» «body_end» «body_tail») (segmentOf number last (now (bytes .entry))) ⌝ }
+    ensures { λ r. ⌜
+        r ≡ acceptsOf (partOf part) limit (coreSaid seen body header)
+        (keptOf «header_top» «header_size» «header_end» «header_tail»)
+        (keptOf «body_top» «body_size» «body_end» «body_tail»)
+        (segment number last (now (bytes .entry)))
+        ⌝ }
 {
     if 32767 < number {
         return false;

@@ -49,7 +49,8 @@ openTests b size = leb sizeLeast size ∷ leb size sizeMost ∷ leb (b .least) (
 abbrev pub endedTests : Bounds → ℕ → ℕ → ℕ → List Bool
 endedTests b size n tail = leb sizeLeast size ∷ leb size sizeMost ∷ leb 1 tail ∷ leb tail size ∷ leb (suc n) (b .numbers) ∷ leb (n * size + tail) (b .most) ∷ leb (b .least) (n * size + tail) ∷ []
 
--- how many numbers they may have, from 0: one more byte and one more number come after each; the last one comes after all
+-- how many numbers they may have, from 0: one more byte and one more number come after each; the last one comes after
+-- all
 abbrev pub roomOpen : Bounds → ℕ → ℕ
 roomOpen b size = pick (all (openTests b size)) (min (b .numbers - 1) ((b .most - 1) / size)) 0
 

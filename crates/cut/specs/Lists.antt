@@ -1,13 +1,14 @@
--- Lists, for any use: a choice by a test, what holds of each element, what is among them, and a run of bytes written over a list.
+-- Lists, for any use: a choice by a test, what holds of each element, what is among them, and a run of bytes written
+-- over a list.
 use Rattle.octets.specs.Octets.{over}
 use mathlib.Core.Path.{_≡_, refl, subst}
 use mathlib.Core.Logic.{_⊎_, inl, inr}
 use mathlib.Core.Bool.{Bool, true, false}
 use mathlib.Core.List.{List, [], _∷_, _++_}
-use Prim.Native.Nat.{ℕ, zero, suc, _+_, _-_, _≤_, _<_}
+use Prim.Native.Nat.{ℕ, zero, suc, _+_, _≤_, _<_}
 use native.Mathlib.Omega.{arith}
 use lib.ListN.{length, take, drop, replicate, length-take, length-drop}
-use lib.Seq.{take-append-le, drop-append-le, drop-at, take-take, take-add}
+use lib.Seq.{drop-at, take-add}
 
 -- a if the test passes, else b
 abbrev pub pick : {A : Type 0} → Bool → A → A → A
@@ -88,16 +89,6 @@ part-length k i l h = simp (length-take, length-drop) (omega arith)
 
 pub drop-take : (j n : ℕ) (l : List ℕ) → j ≤ length l → drop j (take (j + n) l) ≡ take n (drop j l)
 drop-take j n l h = rw take-add (drop-at (take j l) (take n (drop j l)) j (take-length j l h))
-
--- a part that ends before i is not touched by what follows i
-pub front-part : (l r : List ℕ) (i j m : ℕ) → i ≤ length l → j + m ≤ i → take m (drop j (take i l ++ r)) ≡ take m (drop j l)
-front-part l r i j m h g =
-    let e : j + (i - j) ≡ i = omega arith in
-    let t : length (take i l) ≡ i = take-length i l h in
-    let d1 : drop j (take i l ++ r) ≡ drop j (take i l) ++ r = drop-append-le j (take i l) r (omega arith) in
-    let d2 : drop j (take i l) ≡ take (i - j) (drop j l) = subst (λ (k : ℕ). drop j (take k l) ≡ take (i - j) (drop j l)) e (drop-take j (i - j) l (omega arith)) in
-    let d3 : take m (take (i - j) (drop j l) ++ r) ≡ take m (take (i - j) (drop j l)) = take-append-le m (take (i - j) (drop j l)) r (simp (length-take, length-drop) (omega arith)) in
-    rw (d1, d2, d3) (take-take m (i - j) (drop j l) (omega arith))
 
 -- ---- a run of bytes laid over a list
 

@@ -38,8 +38,8 @@ acceptsIn false n b p marks = both (leb (suc n) (room b p)) (eqb (sumOf (drop (r
 unfoldable pub fitsIn : Bounds → Record → List ℕ → Bool → ℕ → ℕ → Bool
 fitsIn b p marks last n k = both (joins (fullIn p marks) last k p) (acceptsIn last n b (addPart last n k p) marks)
 
--- THE DECISION, of the record and the marks of its part and of the other: a segment of a part whose number is not marked
--- fits, c being what header segment 0 says with it in
+-- THE DECISION, of the record and the marks of its part and of the other: a segment of a part whose number is not
+-- marked fits, c being what header segment 0 says with it in
 abbrev pub takes : Part → ℕ → Core → Record → List ℕ → Record → List ℕ → Bool → ℕ → ℕ → Bool
 takes part limit c p marks q others last n k = all
     (coreFits limit c

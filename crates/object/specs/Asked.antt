@@ -61,7 +61,8 @@ pub record Offered (limit : ℕ) (slot : Slot) (lent : Lent) : Type 0 where
   pub sound : soundParts limit (slot .stage) (partsOf slot lent) ≡ true
 
 -- a segment that fits can be stored
-pub record Fitting (tally : Tally) (part : Part) (limit : ℕ) (core : Core) (s : Segment) (slot : Slot) (lent : Lent) : Type 0 where
+pub record Fitting (tally : Tally) (part : Part) (limit : ℕ) (core : Core) (s : Segment) (slot : Slot) (lent : Lent)
+    : Type 0 where
   pub header : length (lent .header) ≡ headerMost
   pub body : length (lent .body) ≡ limit
   pub marks : length (lent .marks) ≡ headerNumbers + bodyNumbers

@@ -6,6 +6,7 @@ use Prim.Native.Nat.{ℕ}
 use lib.ListN.{length, getD}
 use Rattle.answer.specs.declared.Part.{Part}
 use Rattle.answer.specs.declared.Part.the-variants.{Header, Body}
+use Rattle.cut.specs.declared.Record.{Record}
 use Rattle.cut.specs.Lists.{Each}
 use Rattle.cut.specs.Requirement.{Segment, Fits, Finished}
 use Rattle.cut.specs.Decision.{boundsOf, summary, recordOf, coreOf}
@@ -18,6 +19,11 @@ use Rattle.object.specs.declared.Stage.the-variants as Stage
 -- the marked segments of a part, with their recorded lengths and stored bytes
 abbrev pub markedSegments : Part → Slot → Lent → List Segment
 markedSegments part slot lent = heldIn (memoryOf part (partsOf slot lent))
+
+-- the record that they give, within the bounds that segment 0 has set
+abbrev pub recordGiven : Part → ℕ → Slot → Lent → Record
+recordGiven part limit slot lent =
+    recordOf (boundsOf part limit (coreOf (markedSegments Header slot lent))) (summary (markedSegments part slot lent))
 
 -- the stage that segments give which fit an object: finished with its two lengths, once every segment of it is in
 abbrev pub StageFor : {limit : ℕ} {hs bs : List Segment} → Fits limit hs bs → Stage → Type 0
@@ -32,8 +38,8 @@ pub record Sound (limit : ℕ) (slot : Slot) (lent : Lent) : Type 0 where
   pub some : (n : ℕ) × (getD (lent .marks) n 0 ≡ 1)
   -- the marked segments fit some object and cut
   pub object : Fits limit (markedSegments Header slot lent) (markedSegments Body slot lent)
-  -- the records are those that these segments give, within the bounds that segment 0 has set
-  pub header : slot .header ≡ recordOf (boundsOf Header limit (coreOf (markedSegments Header slot lent))) (summary (markedSegments Header slot lent))
-  pub body : slot .body ≡ recordOf (boundsOf Body limit (coreOf (markedSegments Header slot lent))) (summary (markedSegments Body slot lent))
+  -- the records are those that these segments give
+  pub header : slot .header ≡ recordGiven Header limit slot lent
+  pub body : slot .body ≡ recordGiven Body limit slot lent
   -- and so is the stage
   pub stage : StageFor object (slot .stage)

@@ -109,16 +109,20 @@ decided part limit s ps =
 
 -- ---- what a segment that fits leaves
 
+-- the record of the part that gets it
+abbrev pub recordAfter : Part → ℕ → Segment → Parts → Record
+recordAfter part limit s ps =
+    recordWith (boundsOf part limit (coreWith part s (coreIn (ps .header)))) s (memoryOf part ps)
+
 -- the two parts with one segment more: both records are settled, and the segment is put into its part
 unfoldable pub partsWith : Part → ℕ → Segment → Parts → Parts
 partsWith Header limit s ps = record {
-  header =
-      put s (settled (recordWith (boundsOf Header limit (coreWith Header s (coreIn (ps .header)))) s (ps .header)) (ps .header));
+  header = put s (settled (recordAfter Header limit s ps) (ps .header));
   body = settled (recordWithin (boundsOf Body limit (coreWith Header s (coreIn (ps .header)))) (ps .body)) (ps .body);
 }
 partsWith Body limit s ps = record {
   header = ps .header;
-  body = put s (settled (recordWith (boundsOf Body limit (coreIn (ps .header))) s (ps .body)) (ps .body));
+  body = put s (settled (recordAfter Body limit s ps) (ps .body));
 }
 
 -- finished with the two lengths that the core says, once every segment is in
@@ -133,7 +137,8 @@ stageFrom core headers header bodies body = stageBy (finished core headers heade
 
 unfoldable pub stageOf : Parts → Stage
 stageOf ps =
-    stageFrom (coreIn (ps .header)) (sumOf (ps .header .marks)) (ps .header .kept) (sumOf (ps .body .marks)) (ps .body .kept)
+    stageFrom (coreIn (ps .header))
+    (sumOf (ps .header .marks)) (ps .header .kept) (sumOf (ps .body .marks)) (ps .body .kept)
 
 abbrev pub outcomeBy : Stage → Outcome
 outcomeBy Stage.Free = Outcome.Stored

@@ -1,5 +1,6 @@
-// The decision on an object's numbers (crate cut, specs/Decision): the bounds of its parts, whether the sizes that header
-// segment 0 says are within them, whether what is kept of both parts suits some object and cut, and whether all is in.
+// The decision on an object's numbers (crate cut, specs/Decision): the bounds of its parts, whether the sizes that
+// header segment 0 says are within them, whether what is kept of both parts suits some object and cut, and whether all
+// is in.
 use answer::Part;
 use cut::BODY_NUMBERS;
 use cut::Bounds;

@@ -1,6 +1,6 @@
 pub mod Keeps
 pub mod Inside
-pub mod HeldIn
-pub mod HeldBytes
-pub mod HeldPart
-pub mod StatePart
+pub mod Held
+pub mod Bytes
+pub mod Step
+pub mod Sound

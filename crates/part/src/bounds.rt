@@ -1,5 +1,5 @@
-// How far a part can reach within its bounds, numbers alone (crate cut, specs/Decision): the numbers that full segments may
-// have, and whether what is in can be. Any numbers are taken: the record of a damaged slot may be asked about too.
+// How far a part can reach within its bounds, numbers alone (crate cut, specs/Decision): the numbers that full segments
+// may have, and whether what is in can be. Any numbers are taken: the record of a damaged slot may be asked about too.
 use cut::Bounds;
 use cut::Record;
 use cut::SIZE_LEAST;
@@ -167,7 +167,8 @@ pub fn alone(b: Bounds, p: Record) -> bool
     alone_later(b, p.end - 1, p.tail)
 }
 
-// Whether some length and size within the bounds suit what is in; top is 1 + the highest number of a full segment, or 0.
+// Whether some length and size within the bounds suit what is in; top is 1 + the highest number of a full segment, or
+// 0.
 pub fn possible(b: Bounds, top: usize, p: Record) -> bool
     ensures { λ r. ⌜ r ≡ possible b top p ⌝ }
 {

@@ -1,6 +1,6 @@
-// One part of an object being gathered (document 01, "One object, one cut"), within any bounds: its record by value, its
-// marks and its share of a store lent. Whether a number is in and what stands there, whether one segment more fits, the
-// record with it, the segment put, and whether the part is sound. It knows neither header nor body.
+// One part of an object being gathered (document 01, "One object, one cut"), within any bounds: its record by value,
+// its marks and its share of a store lent. Whether a number is in and what stands there, whether one segment more fits,
+// the record with it, the segment put, and whether the part is sound. It knows neither header nor body.
 pub mod bounds;
 pub mod record;
 
@@ -79,7 +79,9 @@ fn same_flag(a: bool, b: bool) -> bool
 // Whether a segment is the one that is held under its number.
 pub fn same(kept: Record, last: bool, number: usize, bytes: &[u8], share: &[u8]) -> bool
     requires { ⌜ Held kept number (now share) ⌝ }
-    ensures { λ r. ⌜ r ≡ sameSegment (segment number last (now (bytes .entry))) (heldAt kept (now (share .entry)) number) ⌝ }
+    ensures { λ r. ⌜
+        r ≡ sameSegment (segment number last (now (bytes .entry))) (heldAt kept (now (share .entry)) number)
+        ⌝ }
 {
     if !same_flag(last, is_last(kept, number)) {
         return false;
@@ -232,7 +234,11 @@ pub fn put(
 )
     requires { ⌜ CanMove old new (now share) ⌝ }
     requires { ⌜ CanPut new number (length (now bytes)) (now share) (now marks) ⌝ }
-    ensures { λ _. ⌜ memory new (now (marks .exit)) (now (share .exit)) ≡ put (segment number last (now (bytes .entry))) (settled new (memory old (now (marks .entry)) (now (share .entry)))) ⌝ }
+    ensures { λ _. ⌜
+        memory new (now (marks .exit)) (now (share .exit))
+        ≡ put (segment number last (now (bytes .entry)))
+        (settled new (memory old (now (marks .entry)) (now (share .entry))))
+        ⌝ }
 {
     settle(old, new, share);
     let count = bytes.len();

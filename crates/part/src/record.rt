@@ -1,6 +1,6 @@
-// The record of a part, numbers alone (crate cut, specs/Decision): whether one segment more goes with it, the record with
-// that one, the size of the cut once it is settled, and whether the part is whole. Any numbers are taken: the record of a
-// damaged slot may be asked about too.
+// The record of a part, numbers alone (crate cut, specs/Decision): whether one segment more goes with it, the record
+// with that one, the size of the cut once it is settled, and whether the part is whole. Any numbers are taken: the
+// record of a damaged slot may be asked about too.
 use cut::Bounds;
 use cut::Record;
 ghost use mathlib.Core.Path.{_≡_};

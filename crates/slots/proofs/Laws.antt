@@ -10,21 +10,19 @@ use native.Mathlib.Decide.{decLe}
 use native.Mathlib.Numerals.{add-one}
 use native.Mathlib.Omega.{arith}
 use lib.ListN.{length, getD, take, drop, length-replicate}
-use lib.Dec.{ltb, leb}
+use lib.Dec.{leb}
 use borrow.Author.Tests.{le-leb, lt-leb}
 use types.Run.{OneOf}
 use denote.Enum.Declared.{tagOf}
 use Rattle.octets.specs.Octets.{zeros}
 use Rattle.answer.specs.declared.Part.{Part}
 use Rattle.cut.specs.Decision.{both}
-use Rattle.cut.specs.Requirement.{Segment}
-use Rattle.object.specs.Take.{takeInto}
 use Rattle.object.specs.declared.Slot.{Slot}
 use Rattle.object.specs.declared.Stage.{Stage}
 use Rattle.object.specs.declared.Stage.the-variants.{Free, Gathering, Finished}
 use Rattle.object.proofs.Stage.{the-type}
 use Rattle.slots.specs.declared.Found.the-variants.{Nothing, At}
-use Rattle.slots.specs.Stores.{Stores, lentAt, freeSlot}
+use Rattle.slots.specs.Stores.{freeSlot}
 use Rattle.slots.specs.Find.{firstFrom}
 use Rattle.slots.specs.laws.StateTests.{spent, one-more}
 use Rattle.slots.specs.Show.{startOf, shownAs}

@@ -1,8 +1,8 @@
-// All the slots of a collector by value, with the stores and the marks that are lent for them: which slot holds a number
-// or is free, whether a segment fits alone, whether a state is damaged (document 01, STATE), a segment taken into one of
-// the slots, a slot dropped, and a finished object's part of a store. Everything that runs over slots or marks stands here;
-// the collector above has the type, the answers and the counts. Each function is one definition (specs/), and slot i has
-// share i of each store and of the marks.
+// All the slots of a collector by value, with the stores and the marks that are lent for them: which slot holds a
+// number or is free, whether a segment fits alone, whether a state is damaged (document 01, STATE), a segment taken
+// into one of the slots, a slot dropped, and a finished object's part of a store. Everything that runs over slots or
+// marks stands here; the collector above has the type, the answers and the counts. Each function is one definition
+// (specs/), and slot i has share i of each store and of the marks.
 use answer::Part;
 use cut::Core;
 use cut::Record;
@@ -285,7 +285,9 @@ pub fn sound(
     body: &[u8],
     marks: &[u8],
 ) -> bool
-    ensures { λ r. ⌜ r ≡ soundSlots limit count slots (stores (now (header .entry)) (now (body .entry)) (now (marks .entry))) ⌝ }
+    ensures { λ r. ⌜
+        r ≡ soundSlots limit count slots (stores (now (header .entry)) (now (body .entry)) (now (marks .entry)))
+        ⌝ }
 {
     if !within_limits(limit, count, header.len(), body.len(), marks.len()) {
         return false;
@@ -319,7 +321,12 @@ pub fn take_into(
 ) -> Took
     requires { ⌜ Inside limit i (stores (now header) (now body) (now marks)) ⌝ }
     requires { ⌜ Offered limit slot (lentAt limit i (stores (now header) (now body) (now marks))) ⌝ }
-    ensures { λ r. ⌜ placed r (stores (now (header .exit)) (now (body .exit)) (now (marks .exit))) ≡ placedAt limit i (stores (now (header .entry)) (now (body .entry)) (now (marks .entry))) (takeInto part limit (segment number last (now (bytes .entry))) slot (lentAt limit i (stores (now (header .entry)) (now (body .entry)) (now (marks .entry))))) ⌝ }
+    ensures { λ r. ⌜
+        placed r (stores (now (header .exit)) (now (body .exit)) (now (marks .exit)))
+        ≡ placedAt limit i (stores (now (header .entry)) (now (body .entry)) (now (marks .entry)))
+        (takeInto part limit (segment number last (now (bytes .entry))) slot
+        (lentAt limit i (stores (now (header .entry)) (now (body .entry)) (now (marks .entry)))))
+        ⌝ }
 {
     let header_start = i * cut::HEADER_MOST;
     let header_end = header_start + cut::HEADER_MOST;
@@ -376,8 +383,8 @@ pub fn start_of(store: &[u8], width: usize, i: usize, count: usize) -> &[u8]
     &store[start..end]
 }
 
-// A finished object's header or body, as the part of the one of the two stores that has it; nothing where the slot is not
-// finished or its share does not hold so many bytes.
+// A finished object's header or body, as the part of the one of the two stores that has it; nothing where the slot is
+// not finished or its share does not hold so many bytes.
 pub fn shown<'a>(
     part: Part,
     i: usize,

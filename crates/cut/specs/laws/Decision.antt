@@ -1,5 +1,6 @@
--- What is kept says all that matters: a size and a length suit every segment exactly when they suit the summary, and the tests pass exactly when some size and length within the bounds do.
-use mathlib.Core.Path.{_≡_, refl, sym, ap}
+-- What is kept says all that matters: a size and a length suit every segment exactly when they suit the summary, and
+-- the tests pass exactly when some size and length within the bounds do.
+use mathlib.Core.Path.{_≡_, refl, ap}
 use mathlib.Core.Logic.{_↔_}
 use mathlib.Core.Bool.{Bool, true, false}
 use mathlib.Core.List.{List, [], _∷_}
@@ -8,12 +9,12 @@ use native.Mathlib.Nat.{mul-le-mul-right, mul-le-mul-left, lt-of-mul-lt-mul-righ
 use native.Mathlib.Decide.{decLe}
 use native.Mathlib.Omega.{arith}
 use lib.ListN.{length}
-use borrow.Author.Tests.{leb-true, le-leb, eqb-true, eq-eqb}
+use borrow.Author.Tests.{leb-true, le-leb}
 use Rattle.cut.specs.Lists.{pick, Each}
 use Rattle.cut.specs.Requirement.{sizeMost, Segment}
 use Rattle.cut.specs.declared.Bounds.{Bounds}
 use Rattle.cut.specs.declared.Record.{Record}
-use Rattle.cut.specs.Decision.{both, all, openTests, endedTests, roomAs, room, largest, nothingTests, firstTests, laterTests, aloneTests, alone, possible, Summary, addPart, addTop, summary, derived, settle}
+use Rattle.cut.specs.Decision.{both, all, openTests, endedTests, roomAs, room, largest, nothingTests, firstTests, laterTests, aloneTests, alone, possible, Summary, addPart, addTop, summary}
 use Rattle.cut.specs.laws.Segment.{SitsAs, Sits, Within, PartSits}
 
 -- ---- tests

@@ -1,9 +1,10 @@
--- What is known of a cut. S follows from a full segment, or from the part's length and its last segment; the bounds alone never give it.
+-- What is known of a cut. S follows from a full segment, or from the part's length and its last segment; the bounds
+-- alone never give it.
 use mathlib.Core.Path.{_≡_, refl, subst}
 use mathlib.Core.Logic.{_≢_, _⊎_, inl, inr}
 use mathlib.Core.Bool.{true}
 use mathlib.Core.List.{List, [], _∷_}
-use Prim.Native.Nat.{ℕ, zero, suc, _+_, _-_, _*_, _≤_, _<_}
+use Prim.Native.Nat.{ℕ, zero, suc, _+_, _*_, _≤_, _<_}
 use native.Mathlib.Nat.{div-eq-of-eq-mul-left, mul-le-mul-right, lt-of-mul-lt-mul-right}
 use native.Mathlib.Decide.{ℕ-discrete}
 use native.Mathlib.Omega.{arith}
@@ -146,7 +147,8 @@ last-known kind limit hs bs z f t n k e g S l m h a b =
     (sum-sits S (n * S + k) (those kind hs bs) (sits-sum (cutOf kind f) (length (partOf kind f)) (those kind hs bs) (omega (arith, w .low)) (fits-sits limit hs bs f kind) .0)
     (rw t tt, rw (e, g) (refl, q .1, h)))
 
--- and where the bounds leave one size only, the record still does not say it: header number 63, the last one, of 16 bytes
+-- and where the bounds leave one size only, the record still does not say it: header number 63, the last one, of 16
+-- bytes
 abbrev pub only : Segment
 only = record { number = 63; last = true; bytes = replicate 16 0 }
 

@@ -1,4 +1,5 @@
--- Marks: a list of 0 and 1 that says which numbers of a part are in. Nothing has to be looked for in it: each test that the decision asks is a sum over a range of marks.
+-- Marks: a list of 0 and 1 that says which numbers of a part are in. Nothing has to be looked for in it: each test that
+-- the decision asks is a sum over a range of marks.
 use mathlib.Core.Path.{_≡_, refl, sym, ap, _∙_, subst}
 use mathlib.Core.Logic.{_≢_, _↔_}
 use mathlib.Core.Bool.{Bool, true, false}

@@ -1,8 +1,9 @@
--- Header and body together: only the core fields join the two. Segments fit an object and a cut exactly when they agree and the tests pass.
+-- Header and body together: only the core fields join the two. Segments fit an object and a cut exactly when they agree
+-- and the tests pass.
 use mathlib.Core.Path.{_≡_, refl, sym, ap, _∙_}
 use mathlib.Core.Bool.{Bool, true, false}
 use mathlib.Core.List.{List, [], _∷_, _++_}
-use Prim.Native.Nat.{ℕ, _+_, _-_, _*_, _≤_, _<_}
+use Prim.Native.Nat.{ℕ, _-_, _*_, _≤_, _<_}
 use native.Mathlib.Nat.{zero-mul}
 use native.Mathlib.Omega.{arith}
 use lib.ListN.{length, take, drop, replicate, length-replicate, length-append}
@@ -17,7 +18,7 @@ use Rattle.cut.specs.declared.Core.the-variants.{Unseen, Seen}
 use Rattle.cut.specs.declared.Bounds.{Bounds}
 use Rattle.cut.specs.Decision.{boundsOf, coreTests, coreFits, possible, summary, coreOf, suitTests, suits, suitsBoth}
 use Rattle.cut.specs.laws.Core.{coreBytes, core-body, core-header, core-is-bytes, front-body, front-header}
-use Rattle.cut.specs.Parts.{headersWith, bodiesWith, those, partOf, cutOf}
+use Rattle.cut.specs.Parts.{those, partOf, cutOf}
 use Rattle.cut.specs.laws.Segment.{Sits, Agree, Within, PartFits, PartSits, sits-fits, sends-agree, sends-sits, sent-bytes, fill, fill-length, fill-bytes, fill-sends, fill-front}
 use Rattle.cut.specs.laws.Decision.{Clear, all-true, true-all, sits-possible, possible-sits}
 

@@ -1,4 +1,5 @@
--- A segment in numbers: whether its number, flag and length suit a size and a length of its part; and a part that sends given segments, built from such numbers.
+-- A segment in numbers: whether its number, flag and length suit a size and a length of its part; and a part that sends
+-- given segments, built from such numbers.
 use mathlib.Core.Path.{_≡_, refl, sym, ap, _∙_}
 use mathlib.Core.Logic.{_⊎_, inl, inr}
 use mathlib.Core.Bool.{Bool, true, false}

@@ -1,13 +1,12 @@
 -- What is decided of a segment, case by case, and what the decision asks.
-use mathlib.Core.Path.{_≡_, refl, sym, ap, _∙_}
+use mathlib.Core.Path.{_≡_, refl, ap}
 use mathlib.Core.Bool.{Bool, true, false}
-use mathlib.Core.List.{List, []}
+use mathlib.Core.List.{List}
 use Prim.Native.Nat.{ℕ, zero, suc, _<_}
 use native.Mathlib.Omega.{arith}
-use lib.Dec.{leb}
 use lib.ListN.{length, getD}
 use Rattle.octets.specs.Octets.{sumOf}
-use borrow.Author.Tests.{leb-true, leb-false, le-leb}
+use borrow.Author.Tests.{leb-true, leb-false}
 use Rattle.answer.specs.declared.Part.{Part}
 use Rattle.answer.specs.declared.Part.the-variants.{Header, Body}
 use Rattle.cut.specs.Requirement.{Segment}
@@ -15,17 +14,16 @@ use Rattle.cut.specs.declared.Core.{Core}
 use Rattle.cut.specs.Parts.{otherPart}
 use Rattle.cut.specs.Decision.{coreWith}
 use Rattle.cut.specs.Sums.{takes}
-use Rattle.part.specs.Memory.{Memory, memory, segmentAt}
+use Rattle.part.specs.Memory.{memory, segmentAt}
 use Rattle.part.specs.Asked.{markOf, heldAt, sameSegment, Held}
 use Rattle.object.specs.declared.Slot.{Slot}
 use Rattle.object.specs.declared.Tally.{Tally}
-use Rattle.object.specs.declared.Decided.{Decided}
-use Rattle.object.specs.declared.Decided.the-variants.{Repeat, Conflict, Fits}
+use Rattle.object.specs.declared.Decided.the-variants.{Fits}
 use Rattle.object.specs.declared.Soundness.{Soundness}
 use Rattle.object.specs.declared.Soundness.the-variants.{Damaged, Sound}
 use Rattle.cut.specs.Lists.{pick}
 use Rattle.object.specs.Sound.{soundSlot}
-use Rattle.object.specs.Take.{Lent, Parts, Taken, partsOf, keptOf, marksOf, shareOf, memoryOf, coreFrom, coreIn, takesIn, decidedHeld, decidedNew, decidedBy, decided, takenBy, takeInto}
+use Rattle.object.specs.Take.{Lent, Taken, partsOf, keptOf, marksOf, shareOf, memoryOf, coreIn, takesIn, decidedHeld, decidedNew, decidedBy, decided, takenBy, takeInto}
 use Rattle.object.specs.Asked.{tallyOf, totalIn, soundness, Readable, Offered, Fitting}
 use Rattle.object.specs.laws.Inside.{marked-inside, lent-shaped, lent-bits}
 

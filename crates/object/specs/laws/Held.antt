@@ -2,17 +2,15 @@
 use mathlib.Core.Path.{_≡_}
 use mathlib.Core.List.{List}
 use Prim.Native.Nat.{ℕ}
-use lib.ListN.{length, take}
+use lib.ListN.{take}
 use Rattle.octets.specs.Octets.{sumOf}
 use Rattle.answer.specs.declared.Part.{Part}
 use Rattle.answer.specs.declared.Part.the-variants.{Header, Body}
-use Rattle.cut.specs.Requirement.{headerNumbers, bodyNumbers, Segment, Fits, Finished, joined}
+use Rattle.cut.specs.Requirement.{headerNumbers, bodyNumbers, Segment, Fits, joined}
 use Rattle.cut.specs.Decision.{boundsOf, coreOf}
 use Rattle.cut.specs.laws.Segment.{Numbered}
 use Rattle.cut.specs.Parts.{headersWith, bodiesWith, those}
 use Rattle.object.specs.declared.Slot.{Slot}
-use Rattle.object.specs.declared.Stage.{Stage}
-use Rattle.object.specs.declared.Stage.the-variants as Stage
 use Rattle.object.specs.Take.{Lent, Parts, partsOf, Taken}
 use Rattle.part.specs.laws.Keeps.{Keeps}
 use Rattle.object.specs.State.{StageFor}
@@ -43,8 +41,8 @@ pub record Added (part : Part) (limit : ℕ) (s : Segment) (slot : Slot) (hs bs 
   pub holds : Holds limit (t .slot) (t .lent) (headersWith part s hs) (bodiesWith part s bs)
   pub number : t .slot .number ≡ slot .number
 
--- the first bytes of the shares, as many as the two lengths say, are the header and the body of every object that fits, and
--- there is one; and they are the segments joined by number
+-- the first bytes of the shares, as many as the two lengths say, are the header and the body of every object that fits,
+-- and there is one; and they are the segments joined by number
 pub record Shows (limit : ℕ) (lent : Lent) (header body : ℕ) (hs bs : List Segment) : Type 0 where
   pub object : Fits limit hs bs
   pub every : (f : Fits limit hs bs) → (take header (lent .header) ≡ f .header) × (take body (lent .body) ≡ f .body)

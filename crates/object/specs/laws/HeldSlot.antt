@@ -1,5 +1,5 @@
--- Both parts of a slot that holds segments: what is read off them is what these segments give, the test is exact, and one
--- segment more is held.
+-- Both parts of a slot that holds segments: what is read off them is what these segments give, the test is exact, and
+-- one segment more is held.
 use mathlib.Core.Path.{_≡_, refl, sym, ap, _∙_, subst}
 use mathlib.Core.Logic.{inl, inr, _↔_}
 use mathlib.Core.Bool.{Bool, true, false}
@@ -35,7 +35,7 @@ use Rattle.object.specs.laws.Shape.{Shaped}
 use Rattle.object.specs.laws.Inside.{bounds-most, share-width}
 use Rattle.object.specs.laws.Held.{Gathers}
 use Rattle.part.specs.laws.Keeps.{LaidAs, Laid, Keeps}
-use Rattle.part.specs.laws.HeldPart.{Room, Met, reads, settled-length, settled-keeps, put-length, put-keeps}
+use Rattle.part.specs.laws.Step.{Room, Met, reads, settled-length, settled-keeps, put-length, put-keeps}
 
 -- ---- what a fitting object says of a part
 

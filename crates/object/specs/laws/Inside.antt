@@ -1,42 +1,35 @@
--- Everything that is read or written in a share lies inside it: the segments that are marked, one that is taken, and one
--- that is copied once the size is known.
-use mathlib.Core.Path.{_≡_, refl, sym, ap, _∙_, subst}
-use mathlib.Core.Logic.{_⊎_, inl, inr, _↔_}
-use mathlib.Core.Bool.{Bool, true, false}
+-- Everything that is read or written in a share lies inside it: the segments that are marked, one that is taken, and
+-- one that is copied once the size is known.
+use mathlib.Core.Path.{_≡_, refl, ap}
+use mathlib.Core.Bool.{Bool, true}
 use mathlib.Core.List.{List, [], _∷_}
-use Prim.Native.Nat.{ℕ, zero, suc, _+_, _-_, _*_, _≤_, _<_, min}
-use native.Mathlib.Nat.{mul-le-mul-right, lt-of-mul-lt-mul-right, div-eq-of-eq-mul-left, zero-mul}
-use native.Mathlib.Decide.{ℕ-discrete, decLe}
+use Prim.Native.Nat.{ℕ, suc, _+_, _≤_, _<_}
 use native.Mathlib.Omega.{arith}
 use lib.ListN.{length, take, drop, getD, length-take, length-drop}
 use lib.Seq.{take-all}
 use lib.Dec.{eqb, leb}
-use borrow.Author.Tests.{eqb-true, eqb-false, eq-eqb, ne-eqb, leb-true, le-leb, lt-leb}
+use borrow.Author.Tests.{leb-true}
 use Rattle.octets.specs.Octets.{sumOf, largestOf}
-use Rattle.octets.specs.laws.Marks.{sum-split, largest-part}
+use Rattle.octets.specs.laws.Marks.{largest-part}
 use Rattle.answer.specs.declared.Part.{Part}
 use Rattle.answer.specs.declared.Part.the-variants.{Header, Body}
-use Rattle.cut.specs.Lists.{pick, Each}
-use Rattle.cut.specs.Requirement.{headerMost, sizeMost, headerNumbers, bodyNumbers, Segment}
+use Rattle.cut.specs.Lists.{Each}
+use Rattle.cut.specs.Requirement.{headerMost, headerNumbers, bodyNumbers, Segment}
 use Rattle.cut.specs.declared.Core.{Core}
 use Rattle.cut.specs.declared.Core.the-variants.{Unseen, Seen}
 use Rattle.cut.specs.declared.Bounds.{Bounds}
-use Rattle.cut.specs.declared.Record.{Record}
-use Rattle.cut.specs.Decision.{boundsOf, coreTests, coreFits, room, possible, addPart, joins, derived, settle, coreAfter, coreWith}
-use Rattle.cut.specs.laws.Decision.{EndSits, TopSits, Suits, both-true, all-true, possible-iff}
-use Rattle.cut.specs.laws.Object.{WithinOf}
-use Rattle.cut.specs.laws.Marks.{topFrom, top-high, top-open, top-ended, total-some}
-use Rattle.cut.specs.laws.Segment.{SitsAs}
+use Rattle.cut.specs.Decision.{boundsOf, coreTests, coreFits, coreAfter, coreWith}
+use Rattle.cut.specs.laws.Decision.{Suits, both-true, all-true}
 use Rattle.cut.specs.Parts.{otherPart}
 use Rattle.cut.specs.Sums.{possibleIn, fitsIn}
 use Rattle.object.specs.declared.Slot.{Slot}
 use Rattle.object.specs.declared.Stage.{Stage}
-use Rattle.part.specs.Memory.{Memory, placeOf, lengthOf}
-use Rattle.object.specs.Take.{marksOf, Lent, Parts, partsOf, memoryOf, coreIn, takesIn, stageOf}
-use Rattle.part.specs.Asked.{soundPart, recordWith, recordWithin, endRight, recordRight}
-use Rattle.part.specs.laws.Inside.{Placed, Small, Moves, sits-before, each-bit, topIn, right-end, right-suits, size-known, marked-sits, suited-small, sits-number, placed, fits-placed, fits-moves, within-moves}
+use Rattle.part.specs.Memory.{Memory, lengthOf}
+use Rattle.object.specs.Take.{marksOf, Lent, Parts, partsOf, memoryOf, coreIn, takesIn, stageOf, recordAfter}
+use Rattle.part.specs.Asked.{soundPart, recordWith, recordWithin, recordRight}
+use Rattle.part.specs.laws.Inside.{Placed, Moves, sits-before, each-bit, topIn, right-suits, size-known, marked-sits, sits-number, placed, fits-placed, fits-moves, within-moves}
 use Rattle.object.specs.Sound.{marksRight, sameStage, soundParts, soundSlot}
-use Rattle.object.specs.laws.Shape.{widthOf, numbersOf, Shaped, Bits, recordAfter}
+use Rattle.object.specs.laws.Shape.{widthOf, numbersOf, Shaped, Bits}
 
 -- ---- the bounds of a part are those of its share
 
@@ -170,15 +163,6 @@ module _ (part : Part) (limit : ℕ) (stage : Stage) (ps : Parts) (h : Shaped li
       let t = marked-sits b m (part-bits part ps bits) (r .right) (r .can) last n refl g in
       let e = sits-before last (u .cut) (u .long) (m .kept .size) n (lengthOf last (m .kept)) t (size-known b m (part-bits part ps bits) (r .right) (r .can)) in
       placed last (length (m .share)) (numbersOf part) (m .kept .size) n (lengthOf last (m .kept)) (omega (arith, sits-number last b (u .cut) (u .long) n (lengthOf last (m .kept)) (u .within) t, numbers)) (omega (arith, e, u .within .short, most))
-
-  -- and the numbers of its record are small
-  pub record-small : Small (length (memoryOf part ps .share)) (numbersOf part) (memoryOf part ps .kept)
-  unfolding b
-  record-small =
-      let m : Memory = memoryOf part ps in
-      let u : Suits b (topIn m) (m .kept .size) (m .kept .end) (m .kept .tail) = right-suits b m (part-bits part ps bits) (r .right) (r .can) in
-      let s = suited-small b (m .kept) (length (m .share)) (record { cut = u .cut; long = u .long; within = u .within; ended = u .ended; size = size-known b m (part-bits part ps bits) (r .right) (r .can) }) (right-end b m (part-bits part ps bits) (r .right) (r .can) .0) most (omega (arith, numbers, numbers-most part)) in
-      record { size = s .size; end = omega (arith, s .end, numbers); tail = s .tail; product = s .product; last = s .last }
 
 -- ---- of a slot and what is lent for it
 

@@ -1,5 +1,5 @@
--- The segments that were offered to a slot since a number took it, each with its outcome, the latest first; and what was
--- stored of them, read off the outcomes alone.
+-- The segments that were offered to a slot since a number took it, each with its outcome, the latest first; and what
+-- was stored of them, read off the outcomes alone.
 use mathlib.Core.Path.{_≡_}
 use mathlib.Core.Bool.{true}
 use mathlib.Core.List.{List, [], _∷_}

@@ -1,5 +1,5 @@
--- After any offers to a slot it holds just what was stored, so the next outcome is decided by that alone; and segments of
--- one object and cut never conflict.
+-- After any offers to a slot it holds just what was stored, so the next outcome is decided by that alone; and segments
+-- of one object and cut never conflict.
 use mathlib.Core.Path.{_≡_, refl, sym, ap, _∙_, subst}
 use mathlib.Core.Logic.{_≢_, inl, inr}
 use mathlib.Core.List.{List, [], _∷_}

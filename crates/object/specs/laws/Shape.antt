@@ -1,21 +1,16 @@
 -- The sizes of what is lent for a slot, and where in a share its bytes lie: all that code needs to stay inside.
 use mathlib.Core.Path.{_≡_}
-use mathlib.Core.Bool.{Bool}
-use mathlib.Core.List.{List}
 use Prim.Native.Nat.{ℕ, _+_, _-_, _*_, _≤_, _<_}
 use lib.ListN.{length, getD}
 use Rattle.octets.specs.Octets.{largestOf}
 use Rattle.answer.specs.declared.Part.{Part}
 use Rattle.answer.specs.declared.Part.the-variants.{Header, Body}
 use Rattle.cut.specs.Lists.{Bytes}
-use Rattle.cut.specs.Requirement.{headerMost, sizeMost, headerNumbers, bodyNumbers, Segment}
-use Rattle.cut.specs.declared.Core.{Core}
+use Rattle.cut.specs.Requirement.{headerMost, headerNumbers, bodyNumbers, Segment}
 use Rattle.cut.specs.declared.Record.{Record}
-use Rattle.cut.specs.Decision.{coreWith, boundsOf}
 use Rattle.object.specs.declared.Slot.{Slot}
 use Rattle.part.specs.Memory.{placeOf}
-use Rattle.object.specs.Take.{Lent, Parts, partsOf, memoryOf, keptOf, shareOf, coreIn, Taken}
-use Rattle.part.specs.Asked.{recordWith}
+use Rattle.object.specs.Take.{Lent, Parts, partsOf, memoryOf, keptOf, shareOf, Taken}
 
 -- how many bytes a part's share has, and how many marks
 abbrev pub widthOf : Part → ℕ → ℕ
@@ -43,10 +38,6 @@ pub record IsLent (limit : ℕ) (lent : Lent) : Type 0 where
   pub marksLength : length (lent .marks) ≡ headerNumbers + bodyNumbers
   pub headerBytes : Bytes (lent .header)
   pub bodyBytes : Bytes (lent .body)
-
--- the record of the part that gets a segment
-abbrev pub recordAfter : Part → ℕ → Segment → Parts → Record
-recordAfter part limit s ps = recordWith (boundsOf part limit (coreWith part s (coreIn (ps .header)))) s (memoryOf part ps)
 
 -- byte i of a share lies where a last segment is copied to, or where a segment is written
 pub record Copied (old new : Record) (i : ℕ) : Type 0 where

@@ -29,8 +29,8 @@ use Rattle.object.specs.laws.Shape.{IsLent, numbersOf}
 use Rattle.object.specs.laws.Held.{Gathers, Holds, Shows}
 use Rattle.object.specs.State.{StageFor, markedSegments}
 use Rattle.part.specs.laws.Keeps.{LaidAs, Laid, Keeps}
-use Rattle.part.specs.laws.HeldBytes.{place-known}
-use Rattle.part.specs.laws.HeldPart.{Room, size-is, size-none, one-last}
+use Rattle.part.specs.laws.Bytes.{place-known}
+use Rattle.part.specs.laws.Step.{Room, size-is, size-none, one-last}
 use Rattle.object.specs.laws.HeldSlot.{fits-room, part-keeps}
 use Rattle.object.specs.laws.StateExact.{sound-holds}
 

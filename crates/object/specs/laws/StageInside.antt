@@ -1,5 +1,5 @@
--- The stage of a slot that passes the test is the one that its parts give; the two lengths of a finished object lie inside
--- the shares.
+-- The stage of a slot that passes the test is the one that its parts give; the two lengths of a finished object lie
+-- inside the shares.
 use mathlib.Core.Path.{_≡_, refl, sym}
 use mathlib.Core.Bool.{Bool, true, false}
 use mathlib.Core.List.{[], _∷_}

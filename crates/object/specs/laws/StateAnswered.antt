@@ -9,18 +9,16 @@ use Rattle.answer.specs.declared.Part.the-variants.{Header, Body}
 use Rattle.cut.specs.Lists.{Among, Bytes}
 use Rattle.cut.specs.Requirement.{limitMost, Segment, Fits, Finished}
 use Rattle.cut.specs.Parts.{headersWith, bodiesWith, those}
-use Rattle.cut.specs.laws.Order.{SameSet}
 use Rattle.object.specs.declared.Slot.{Slot}
 use Rattle.object.specs.declared.Outcome.{Outcome}
 use Rattle.object.specs.declared.Outcome.the-variants.{Stored, Complete, Repeat, Conflict}
 use Rattle.object.specs.Take.{Lent, partsOf, Taken, takeInto}
 use Rattle.object.specs.Sound.{soundSlot}
 use Rattle.object.specs.laws.Shape.{IsLent}
-use Rattle.object.specs.laws.Held.{Gathers, Added}
+use Rattle.object.specs.laws.Held.{Gathers}
 use Rattle.object.specs.laws.Step.{Tells, outcome-tells, conflict-exactly, repeat-exactly, complete-exactly, stored-exactly}
 use Rattle.object.specs.laws.StepSound.{added-sound, taken-lent}
 use Rattle.object.specs.State.{markedSegments}
-use Rattle.object.specs.laws.StateParts.{part-same}
 use Rattle.object.specs.laws.StateExact.{sound-holds}
 
 module _ (part : Part) (limit : ℕ) (s : Segment) (slot : Slot) (lent : Lent) (z : limit ≤ limitMost) (y : Bytes (s .bytes)) (l : IsLent limit lent) (sound : soundSlot limit slot lent ≡ true) where
@@ -66,7 +64,3 @@ module _ (part : Part) (limit : ℕ) (s : Segment) (slot : Slot) (lent : Lent) (
   -- and so does what is lent for it
   pub lent-stays : IsLent limit (takeInto part limit s slot lent .lent)
   lent-stays = taken-lent part limit s slot lent hs bs z y l g
-
--- a segment that is stored is marked afterwards, with those that were
-pub added-marked : (p part : Part) (limit : ℕ) (s : Segment) (slot : Slot) (hs bs : List Segment) (t : Taken) → Added part limit s slot hs bs t → SameSet (those p (headersWith part s hs) (bodiesWith part s bs)) (markedSegments p (t .slot) (t .lent))
-added-marked p part limit s slot hs bs t w = part-same p limit (partsOf (t .slot) (t .lent)) (headersWith part s hs) (bodiesWith part s bs) (w .holds .gathers)

@@ -31,8 +31,8 @@ use Rattle.object.specs.laws.StageInside.{sound-stage}
 use Rattle.object.specs.laws.Held.{Gathers, Holds}
 use Rattle.object.specs.State.{StageFor, markedSegments, Sound}
 use Rattle.part.specs.laws.Keeps.{Keeps}
-use Rattle.part.specs.laws.HeldIn.{held-reads, held-marked}
-use Rattle.part.specs.laws.HeldPart.{reads-keeps}
+use Rattle.part.specs.laws.Held.{held-reads, held-marked}
+use Rattle.part.specs.laws.Step.{reads-keeps}
 use Rattle.object.specs.laws.HeldSlot.{fits-room, part-keeps}
 use Rattle.object.specs.laws.StepStage.{stage-right, stage-one}
 use Rattle.object.specs.laws.StateParts.{sound-gathers, gathers-passes}

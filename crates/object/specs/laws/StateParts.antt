@@ -1,5 +1,5 @@
 -- The tests on the parts of a slot pass exactly when its marked segments fit and give its records and stage.
-use mathlib.Core.Path.{_≡_, refl, _∙_}
+use mathlib.Core.Path.{_≡_, refl}
 use mathlib.Core.Bool.{Bool, true}
 use mathlib.Core.List.{List, [], _∷_}
 use Prim.Native.Nat.{ℕ, zero, suc, _≤_}
@@ -17,7 +17,7 @@ use Rattle.cut.specs.declared.Bounds.{Bounds}
 use Rattle.cut.specs.Decision.{someFull, boundsOf, coreTests, coreFits, possible, derived, settle, summary, recordOf, coreOf, suitTests, suits}
 use Rattle.cut.specs.laws.Segment.{Sits, among-numbered}
 use Rattle.cut.specs.laws.Decision.{Clear, all-true, true-all, true-both, sits-possible}
-use Rattle.cut.specs.laws.Object.{WithinOf, Passes, fits-passes, passes-fits}
+use Rattle.cut.specs.laws.Object.{WithinOf, Passes, passes-fits}
 use Rattle.cut.specs.Parts.{those}
 use Rattle.cut.specs.laws.Order.{SameSet, EndFrom, end-from}
 use Rattle.cut.specs.laws.Marks.{Marked}
@@ -33,9 +33,9 @@ use Rattle.object.specs.laws.Shape.{Shaped, Bits}
 use Rattle.object.specs.laws.Inside.{Right, sound-right, part-bits, bounds-most, share-width}
 use Rattle.object.specs.laws.Held.{Gathers}
 use Rattle.part.specs.laws.Keeps.{Laid, Keeps}
-use Rattle.part.specs.laws.HeldIn.{held-reads, held-marked, reads-same, reads-agree}
+use Rattle.part.specs.laws.Held.{held-reads, held-marked, reads-same, reads-agree}
 use Rattle.object.specs.laws.HeldSlot.{part-keeps, part-reads, core-laid, core-read, full-read}
-use Rattle.part.specs.laws.StatePart.{cut, long, within, held-sits, held-laid, held-record}
+use Rattle.part.specs.laws.Sound.{cut, long, within, held-sits, held-laid, held-record}
 
 -- ---- the tests pass: the marked segments are held
 

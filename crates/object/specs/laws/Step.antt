@@ -1,5 +1,5 @@
--- A segment is offered to a slot that holds segments which fit: each outcome comes exactly when document 01 says, and what
--- the slot holds afterwards.
+-- A segment is offered to a slot that holds segments which fit: each outcome comes exactly when document 01 says, and
+-- what the slot holds afterwards.
 use mathlib.Core.Path.{_≡_, refl, sym, ap, subst}
 use mathlib.Core.Logic.{inl, inr, _↔_}
 use mathlib.Core.Bool.{Bool, true, false}
@@ -30,7 +30,7 @@ use Rattle.object.specs.laws.Decided.{ifNew, ifHeld, byMark, take-by-mar
 use Rattle.part.specs.Asked.{sameFlag, sameSegment}
 use Rattle.object.specs.laws.Held.{Gathers, Holds, Added}
 use Rattle.object.specs.State.{StageFor}
-use Rattle.part.specs.laws.HeldIn.{at-number, at-among}
+use Rattle.part.specs.laws.Held.{at-number, at-among}
 use Rattle.object.specs.laws.HeldSlot.{part-keeps, part-reads, takes-fits, fits-less, next-gathers}
 use Rattle.object.specs.laws.StepStage.{stage-right}
 
@@ -202,10 +202,3 @@ module _ (part : Part) (limit : ℕ) (s : Segment) (slot : Slot) (lent : Lent) (
 
   pub repeat-leaves : takeInto part limit s slot lent .outcome ≡ Repeat → takeInto part limit s slot lent ≡ unchanged Repeat slot lent
   repeat-leaves e = tells Repeat e .1
-
-  -- a segment that is stored is held afterwards, with those that were
-  pub stored-adds : takeInto part limit s slot lent .outcome ≡ Stored → Added part limit s slot hs bs (takeInto part limit s slot lent)
-  stored-adds e = tells Stored e .0
-
-  pub complete-adds : takeInto part limit s slot lent .outcome ≡ Complete → Added part limit s slot hs bs (takeInto part limit s slot lent)
-  complete-adds e = tells Complete e .0

@@ -1,5 +1,5 @@
--- Which bytes and marks change when a segment is taken: its own place and mark, and the place of a last one that is copied.
--- All others stay, whatever the outcome.
+-- Which bytes and marks change when a segment is taken: its own place and mark, and the place of a last one that is
+-- copied. All others stay, whatever the outcome.
 use mathlib.Core.Path.{_≡_, refl, sym, ap, _∙_}
 use mathlib.Core.Bool.{Bool, true, false}
 use mathlib.Core.List.{List}
@@ -18,13 +18,13 @@ use Rattle.cut.specs.declared.Record.{Record}
 use Rattle.cut.specs.Decision.{boundsOf, coreAfter}
 use Rattle.object.specs.declared.Slot.{Slot}
 use Rattle.part.specs.Memory.{Memory, placeOf, segmentAt, movedAs, settled, put}
-use Rattle.object.specs.Take.{Lent, Parts, partsOf, lentOf, memoryOf, coreIn, takesIn, partsWith, slotWith, takeInto, keptOf, shareOf}
+use Rattle.object.specs.Take.{Lent, Parts, partsOf, lentOf, memoryOf, coreIn, takesIn, partsWith, slotWith, takeInto, keptOf, shareOf, recordAfter}
 use Rattle.object.specs.laws.Decided.{ifNew, ifHeld, byMark, take-by-mark}
 use Rattle.part.specs.Asked.{recordWithin, sameSegment}
-use Rattle.object.specs.laws.Shape.{Shaped, recordAfter, Copied, Written, Leaves}
+use Rattle.object.specs.laws.Shape.{Shaped, Copied, Written, Leaves}
 use Rattle.part.specs.laws.Inside.{Placed, Moves}
 use Rattle.object.specs.laws.Step.{parts-back}
-use Rattle.part.specs.laws.HeldBytes.{tail-length}
+use Rattle.part.specs.laws.Bytes.{tail-length}
 use Rattle.object.specs.laws.Inside.{takes-inside, settled-inside, body-inside}
 
 -- ---- one byte under a run that is laid over a list

@@ -1,12 +1,12 @@
--- A slot stays sound: what is stored in it leaves it so, and so does what it refuses; a slot that holds nothing yet takes
--- its first segment the same way.
+-- A slot stays sound: what is stored in it leaves it so, and so does what it refuses; a slot that holds nothing yet
+-- takes its first segment the same way.
 use mathlib.Core.Path.{_≡_, refl}
 use mathlib.Core.Logic.{inl}
-use mathlib.Core.Bool.{Bool, true, false}
+use mathlib.Core.Bool.{true}
 use mathlib.Core.List.{List, [], _∷_}
 use Prim.Native.Nat.{ℕ, zero, suc, _-_, _*_, _≤_}
 use native.Mathlib.Omega.{arith}
-use lib.ListN.{length, take, drop, getD, length-drop}
+use lib.ListN.{length, take, drop, length-drop}
 use Rattle.octets.specs.Octets.{sumOf}
 use Rattle.octets.specs.laws.Marks.{sum-split, sum-none}
 use Rattle.answer.specs.declared.Part.{Part}
@@ -24,11 +24,11 @@ use Rattle.cut.specs.laws.Marks.{Marked}
 use Rattle.object.specs.declared.Slot.{Slot}
 use Rattle.object.specs.declared.Outcome.{Outcome}
 use Rattle.object.specs.declared.Outcome.the-variants.{Stored, Complete, Repeat, Conflict}
-use Rattle.part.specs.Memory.{Memory, placeOf, segmentAt, movedAs, settled, put}
-use Rattle.object.specs.Take.{Lent, Parts, partsOf, lentOf, memoryOf, coreIn, partsWith, Taken, unchanged, decided, takenBy, takeInto}
+use Rattle.part.specs.Memory.{Memory, placeOf, movedAs, settled, put}
+use Rattle.object.specs.Take.{Lent, Parts, partsOf, lentOf, coreIn, partsWith, Taken, unchanged, decided, takenBy, takeInto}
 use Rattle.object.specs.declared.Decided.{Decided}
 use Rattle.object.specs.declared.Decided.the-variants as Decided
-use Rattle.part.specs.Asked.{recordWith, recordWithin, sameSegment}
+use Rattle.part.specs.Asked.{recordWith, recordWithin}
 use Rattle.object.specs.Sound.{soundSlot}
 use Rattle.object.specs.laws.Shape.{IsLent, Shaped}
 use Rattle.object.specs.laws.Inside.{lent-shaped}

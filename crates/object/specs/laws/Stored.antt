@@ -3,7 +3,7 @@ use mathlib.Core.Path.{_≡_, refl, sym, ap, _∙_}
 use mathlib.Core.List.{List, [], _++_}
 use Prim.Native.Nat.{ℕ, _+_, _≤_, _<_}
 use native.Mathlib.Omega.{arith}
-use lib.ListN.{length, take, drop, length-take, length-drop, length-append, set, length-set}
+use lib.ListN.{length, take, drop, length-take, length-append, set, length-set}
 use lib.Seq.{take-at, drop-at}
 use Rattle.octets.specs.Octets.{sumOf, largestOf}
 use Rattle.octets.specs.laws.Marks.{sum-bound, sum-marked}
@@ -19,9 +19,9 @@ use Rattle.object.specs.declared.Slot.{Slot}
 use Rattle.object.specs.declared.Stage.{Stage}
 use Rattle.object.specs.declared.Tally.{Tally}
 use Rattle.object.specs.declared.Took.{Took}
-use Rattle.object.specs.Take.{Lent, shares, Parts, Taken, partsOf, lentOf, keptOf, marksOf, shareOf, memoryOf, coreIn, stageOf, slotWith, partsWith, left, tookOf, storedAs}
+use Rattle.object.specs.Take.{Lent, shares, partsOf, lentOf, keptOf, marksOf, memoryOf, coreIn, stageOf, slotWith, partsWith, left, tookOf, storedAs, recordAfter}
 use Rattle.object.specs.Asked.{totalIn, Summed, Fitting}
-use Rattle.object.specs.laws.Shape.{numbersOf, Shaped, recordAfter}
+use Rattle.object.specs.laws.Shape.{numbersOf, Shaped}
 use Rattle.object.specs.laws.Inside.{numbers-most, marks-length, takes-inside, settled-inside, body-inside, lent-shaped, lent-bits}
 use Rattle.object.specs.laws.Decided.{memory-is, tallied-total}
 

@@ -3,8 +3,8 @@
 use mathlib.Core.Path.{_≡_, sym, ap, _∙_}
 use mathlib.Core.Bool.{Bool}
 use borrow.Author.Tests.{not-true, not-false}
-use Rattle.cut.specs.Decision.{joins, addPart}
-use Rattle.cut.specs.Sums.{fullIn, acceptsIn, fitsIn}
+use Rattle.cut.specs.Decision.{joins}
+use Rattle.cut.specs.Sums.{fullIn, fitsIn}
 use Rattle.part.specs.laws.Inside.{fits-beyond}
 use borrow.Author.Needs.{needs}
 use Rattle.part.proofs.fits.Statement.{statement}

@@ -1,6 +1,6 @@
 -- `part::put` meets its contract: the place of the last one is settled, then the segment is copied to its own.
 -- Assumes nothing.
-use mathlib.Core.Path.{_≡_, ap, ap₂, _∙_}
+use mathlib.Core.Path.{_≡_, ap, _∙_}
 use mathlib.Core.List.{List}
 use Prim.Native.Nat.{ℕ, _+_, _-_, _≤_}
 use native.Mathlib.Omega.{arith}
@@ -8,7 +8,7 @@ use lib.ListN.{length, set}
 use borrow.Rule.Slice.PartMut.{putMid}
 use Rattle.octets.specs.Octets.{over}
 use Rattle.octets.specs.laws.Over.{over-start}
-use Rattle.part.specs.Memory.{Memory, placeOf, movedAs, settled, put}
+use Rattle.part.specs.Memory.{placeOf, settled, put}
 use Rattle.part.specs.laws.Inside.{place-lies}
 use borrow.Author.Needs.{needs}
 use Rattle.part.proofs.put.Statement.{statement}

@@ -8,13 +8,13 @@ use Prim.Native.Nat.{ℕ, zero, suc, _+_, _-_, _*_, _≤_, _<_, min}
 use native.Mathlib.Nat.{mul-le-mul-right, lt-of-mul-lt-mul-right, div-eq-of-eq-mul-left, zero-mul}
 use native.Mathlib.Decide.{ℕ-discrete, decLe}
 use native.Mathlib.Omega.{arith}
-use lib.ListN.{length, drop, getD}
+use lib.ListN.{drop, getD}
 use lib.Dec.{eqb, leb}
 use borrow.Author.Tests.{eqb-true, eqb-false, eq-eqb, ne-eqb, leb-true, le-leb, lt-leb}
 use Rattle.octets.specs.Octets.{sumOf, largestOf}
 use Rattle.octets.specs.laws.Marks.{sum-split}
 use Rattle.cut.specs.Lists.{pick, Each}
-use Rattle.cut.specs.Requirement.{sizeMost, bodyNumbers}
+use Rattle.cut.specs.Requirement.{sizeMost}
 use Rattle.cut.specs.declared.Bounds.{Bounds}
 use Rattle.cut.specs.declared.Record.{Record}
 use Rattle.cut.specs.Decision.{room, possible, addPart, joins, derived, settle}
@@ -34,14 +34,6 @@ pub record Placed (width numbers : ℕ) (last : Bool) (size n k : ℕ) : Type 0 
   pub number : n < numbers
   pub product : n * size + k ≤ width
   pub place : placeOf last size width n k + k ≤ width
-
--- the numbers of a record: the size, the last segment, and their products
-pub record Small (width numbers : ℕ) (p : Record) : Type 0 where
-  pub size : p .size ≤ sizeMost
-  pub end : p .end ≤ numbers
-  pub tail : p .tail ≤ sizeMost
-  pub product : p .end * p .size ≤ bodyNumbers * sizeMost
-  pub last : (p .end - 1) * p .size + p .tail ≤ width
 
 -- a last segment that is copied from the end of the share to its place, once the size is known
 pub record Moves (width : ℕ) (old new : Record) : Type 0 where
@@ -97,25 +89,12 @@ last-lies b S L size n k w e z =
     let h = sits-before true S L size n k e z in
     (sits-number true b S L n k w e, omega (arith, w .short), omega (arith, w .high))
 
-size-small : (b : Bounds) (S L size : ℕ) → WithinOf b S L → (size ≡ 0) ⊎ (size ≡ S) → size ≤ sizeMost
-size-small b S L size w (inl z) = omega arith
-size-small b S L size w (inr z) = omega (arith, w .high)
-
 end-lies : (b : Bounds) (S L size end tail : ℕ) → WithinOf b S L → EndSits S L end tail → (end ≡ 0 → tail ≡ 0) → (size ≡ 0) ⊎ (size ≡ S) → (end ≤ b .numbers) × (tail ≤ sizeMost) × ((end - 1) * size + tail ≤ b .most)
 end-lies b S L size zero tail w e t z = let y : tail ≡ 0 = t refl in (omega arith, omega arith, omega (arith, zero-mul size))
 end-lies b S L size (suc n) tail w e t z =
     let r = last-lies b S L size n tail w e z in
     let d : suc n - 1 ≡ n = omega arith in
     rw d (r .0, r .2, r .1)
-
-product-small : (n size : ℕ) → n ≤ bodyNumbers → size ≤ sizeMost → n * size ≤ bodyNumbers * sizeMost
-product-small n size h g = omega (arith, mul-le-mul-right size h)
-
-pub suited-small : (b : Bounds) (p : Record) (width : ℕ) → Suited b p → (p .end ≡ 0 → p .tail ≡ 0) → b .most ≤ width → b .numbers ≤ bodyNumbers → Small width (b .numbers) p
-suited-small b p width u t h g =
-    let s = size-small b (u .cut) (u .long) (p .size) (u .within) (u .size) in
-    let r = end-lies b (u .cut) (u .long) (p .size) (p .end) (p .tail) (u .within) (u .ended) t (u .size) in
-    record { size = s; end = r .0; tail = r .1; product = product-small (p .end) (p .size) (omega (arith, r .0)) s; last = omega (arith, r .2) }
 
 -- ---- a segment at its place
 

@@ -26,7 +26,7 @@ use Rattle.cut.specs.laws.Marks.{Marked}
 use Rattle.part.specs.Memory.{Memory, placeOf, lengthOf, segmentAs, segmentAt, movedAs, settled, put}
 use Rattle.part.specs.laws.Inside.{derived-is, sits-before, place-lies}
 use Rattle.part.specs.laws.Keeps.{Laid, Keeps}
-use Rattle.part.specs.laws.HeldBytes.{moved-length, moved-laid, put-laid, put-other}
+use Rattle.part.specs.laws.Bytes.{moved-length, moved-laid, put-laid, put-other}
 
 -- the segments are those of a part of length L cut at S, within the bounds, and the share has room for it
 pub record Room (b : Bounds) (S L : ℕ) (m : Memory) (ss : List Segment) : Type 0 where

@@ -1,5 +1,5 @@
--- The segments of the marked numbers: each is what is read at its number, their numbers are the marked ones, and any list
--- of segments that a part holds has the same ones.
+-- The segments of the marked numbers: each is what is read at its number, their numbers are the marked ones, and any
+-- list of segments that a part holds has the same ones.
 use mathlib.Core.Path.{_≡_, refl, sym, ap, _∙_}
 use mathlib.Core.Logic.{inl, inr, _↔_}
 use mathlib.Core.List.{List, [], _∷_}

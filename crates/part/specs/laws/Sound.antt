@@ -1,5 +1,5 @@
--- One part whose tests pass: its marked segments are those of a part so long, cut so, and its record is the one that they
--- give. And back.
+-- One part whose tests pass: its marked segments are those of a part so long, cut so, and its record is the one that
+-- they give. And back.
 use mathlib.Core.Path.{_≡_, refl, sym, ap, _∙_, subst}
 use mathlib.Core.Bool.{Bool, true, false}
 use Prim.Native.Nat.{ℕ, zero, suc, _≤_, _<_}
@@ -22,8 +22,8 @@ use Rattle.part.specs.Memory.{Memory, placeOf, lengthOf, segmentAs, segm
 use Rattle.part.specs.Asked.{recordRight}
 use Rattle.part.specs.laws.Inside.{topIn, right-end, right-size, right-suits, size-known, marked-sits, sits-before, place-lies}
 use Rattle.part.specs.laws.Keeps.{Laid}
-use Rattle.part.specs.laws.HeldIn.{at-number, at-among, held-reads, held-numbered, held-marked, reads-agree}
-use Rattle.part.specs.laws.HeldPart.{Noted, segment-laid}
+use Rattle.part.specs.laws.Held.{at-number, at-among, held-reads, held-numbered, held-marked, reads-agree}
+use Rattle.part.specs.laws.Step.{Noted, segment-laid}
 
 at-last : (m : Memory) (n : ℕ) → segmentAt m n .last ≡ eqb (suc n) (m .kept .end)
 unfolding segmentAt
