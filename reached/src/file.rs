@@ -46,10 +46,30 @@ pub struct Import {
     pub name: String,
 }
 
+impl Import {
+    /// The file of definitions or laws that it brings in; nothing where that is none of the project's, or
+    /// a type that code declares.
+    pub fn file(&self) -> Option<String> {
+        let crate_name = self.module.first()?.strip_prefix("Rattle·")?;
+        match &self.module[1..] {
+            [specs, inner @ ..] if specs == "specs" && inner.first()? != "declared" => {
+                Some(format!(
+                    "crates/{}/specs/{}.antt",
+                    crate_name.trim_end_matches("·specs"),
+                    inner.join("/")
+                ))
+            }
+            _ => None,
+        }
+    }
+}
+
 #[derive(Clone, Debug, Default)]
 pub struct File {
     pub entries: BTreeMap<String, Entry>,
     pub imports: Vec<Import>,
+    /// How many lines it has.
+    pub length: usize,
 }
 
 /// The lines of a comment that stands right above a line.

@@ -1,6 +1,7 @@
 //! Which definitions the promises and the contracts of the outside functions reach. A reader has to
 //! believe them, as nothing checks that they say what was meant.
 
+pub mod apart;
 pub mod file;
 pub mod reach;
 pub mod reader;

@@ -2,7 +2,8 @@
 //!
 //!     ./believed            file by file, bottom to top
 //!     ./believed --names    each definition, with those that mention it
-//!     ./believed --check    compares with the table in docs/LAYERS.md, and fails where they differ
+//!     ./believed --check    compares with the table in docs/LAYERS.md, and fails where they differ, where
+//!                           definitions and laws do not stand apart, or where the promises' files are long
 //!     ./believed --write    renews the numbers of that table
 //!
 //! A definition is an `abbrev`, an `unfoldable`, a record, a data type or a function to types; its text
@@ -15,10 +16,11 @@
 //! the type that it belongs to is mentioned where the value comes from. A form of the language that is
 //! not read ends the count with an error.
 
+use reached::apart;
 use reached::reach::{reach, Reached};
 use reached::repository::Repository;
 use reached::roots;
-use reached::table::{counted, sum, Table};
+use reached::table::{counted, sum, Counted, Table};
 use std::path::Path;
 use std::{env, fs};
 
@@ -42,7 +44,7 @@ fn crates() -> Result<Vec<String>, String> {
 fn texts(crates: &[String]) -> Result<Vec<(String, String)>, String> {
     let mut texts = Vec::new();
     for name in crates {
-        for (folder, kind) in [("specs", "antt"), ("src", "rt")] {
+        for (folder, kind) in [("specs", "antt"), ("specs/laws", "antt"), ("src", "rt")] {
             let folder = format!("crates/{name}/{folder}");
             let Ok(files) = fs::read_dir(&folder) else {
                 continue;
@@ -75,12 +77,24 @@ fn print_counts(table: &Table) {
     for (name, all) in [
         ("all", sum(&table.rows)),
         ("the promises' own words", table.words),
+        ("their files", table.files),
     ] {
         println!(
             "{name}: {} definitions, {} lines",
             all.definitions, all.lines
         );
     }
+}
+
+/// The files that must be open to read the promises: how many definitions stand in them, and how many
+/// lines they have.
+fn promises_files(repository: &Repository) -> Counted {
+    let files = apart::brought_in(repository, roots::WORDS);
+    let files = files.iter().map(|path| &repository.files[*path]);
+    files.fold(Counted::default(), |sum, file| Counted {
+        definitions: sum.definitions + file.entries.len(),
+        lines: sum.lines + file.length,
+    })
 }
 
 fn run(asked: &str) -> Result<(), String> {
@@ -103,7 +117,9 @@ fn run(asked: &str) -> Result<(), String> {
     let table = Table {
         rows: counted(&repository, &reached, &crates),
         words: sum(&counted(&repository, &words, &crates)),
+        files: promises_files(&repository),
     };
+    let faults = apart::faults(&repository, &reached);
     let document = Path::new(DOCUMENT);
     match asked {
         "" => print_counts(&table),
@@ -117,9 +133,21 @@ fn run(asked: &str) -> Result<(), String> {
             for line in &differ {
                 eprintln!("{DOCUMENT}: {line}");
             }
+            for fault in &faults {
+                eprintln!("{fault}");
+            }
             if !differ.is_empty() {
                 return Err(format!(
                     "{DOCUMENT} differs; ./believed --write renews its numbers"
+                ));
+            }
+            if !faults.is_empty() {
+                return Err("definitions and laws are not apart".into());
+            }
+            if table.files.lines >= apart::MOST {
+                return Err(format!(
+                    "the promises' files have {} lines or more",
+                    apart::MOST
                 ));
             }
         }

@@ -52,7 +52,8 @@ impl Repository {
             } else {
                 specs::parse
             };
-            let file = parse(text).map_err(|why| format!("{path}: {why}"))?;
+            let mut file = parse(text).map_err(|why| format!("{path}: {why}"))?;
+            file.length = text.lines().count();
             all.files.insert(path.clone(), file);
         }
         let mut scopes = HashMap::new();

@@ -26,7 +26,7 @@ const PROMISED: [(&str, &[&str]); 7] = [
 ];
 
 /// The file whose own words the promises are.
-const WORDS: &str = "crates/history/specs/Promise.antt";
+pub const WORDS: &str = "crates/history/specs/Promise.antt";
 
 /// The crates whose public functions are called from outside. What a listing writes has no contract
 /// but that of the crates which read its lines and lay them out, so theirs count too.

@@ -63,11 +63,12 @@ pub fn sum(rows: &[(String, Counted)]) -> Counted {
         })
 }
 
-/// The table's rows: all that is reached, and at the end how much that is, and how much of it the
-/// promises' own words reach.
+/// The table's rows: all that is reached, and at the end how much that is, how much of it the promises'
+/// own words reach, and how long the files are that these bring in.
 pub struct Table {
     pub rows: Vec<(String, Counted)>,
     pub words: Counted,
+    pub files: Counted,
 }
 
 fn head() -> [String; 2] {
@@ -95,8 +96,12 @@ impl Table {
             let name = format!("`{path}`");
             lines.push(row(&name, &words(&name), *counted));
         }
-        lines.push(row("*all*", &words("*all*"), sum(&self.rows)));
-        lines.push(row("*the promises*", &words("*the promises*"), self.words));
+        let ends = [
+            ("*all*", sum(&self.rows)),
+            ("*the promises*", self.words),
+            ("*their files*", self.files),
+        ];
+        lines.extend(ends.map(|(name, counted)| row(name, &words(name), counted)));
         lines
     }
 
