@@ -8,28 +8,33 @@ use native.Mathlib.Omega.{arith}
 use lib.ListN.{length, take, drop, length-drop, drop-of-length-le}
 use borrow.Rule.Slice.PartMut.{putMid}
 use lib.Dec.{leb, eqb}
-use borrow.Author.Tests.{le-leb, lt-leb, eq-eqb, ne-eqb}
-use Rattle.octets.specs.Octets.{sumOf, summed, largestOf}
-use Rattle.octets.specs.laws.Marks.{summed-short}
+use borrow.Author.Tests.{le-leb, lt-leb, leb-true, eq-eqb, ne-eqb}
+use Rattle.octets.specs.Octets.{sumOf, largestOf}
 use Rattle.answer.specs.declared.Part.{Part}
 use Rattle.cut.specs.declared.Core.{Core}
 use Rattle.cut.specs.Requirement.{headerNumbers, bodyNumbers}
 use Rattle.cut.specs.Decision.{boundsOf}
 use Rattle.part.specs.Asked.{Counted}
+use Rattle.cut.specs.laws.Decision.{both-true}
 use Rattle.object.specs.Take.{marksOf}
-use Rattle.object.specs.laws.Inside.{bounds-numbers, numbers-most, marks-length}
+use Rattle.object.specs.Sound.{marksRight}
+use Rattle.object.specs.laws.Inside.{bounds-numbers, numbers-most, marks-length, marks-bits}
 
 -- ---- a part's marks
 
-pub counted : (part : Part) (limit : ℕ) (core : Core) (marks : List ℕ) → length marks ≡ headerNumbers + bodyNumbers → Counted (boundsOf part limit core) (sumOf (marksOf part marks)) (marksOf part marks)
-counted part limit core marks h = record {
+pub counted : (part : Part) (limit : ℕ) (core : Core) (marks : List ℕ) → length marks ≡ headerNumbers + bodyNumbers
+    → largestOf marks ≤ 1 → Counted (boundsOf part limit core) (sumOf (marksOf part marks)) (marksOf part marks)
+counted part limit core marks h bits = record {
   numbers = marks-length part marks h ∙ sym (bounds-numbers part limit core);
   few = omega (arith, bounds-numbers part limit core, numbers-most part);
+  bits = marks-bits part marks bits;
   sum = refl;
 }
 
-pub counted-sum : (part : Part) (marks : List ℕ) → length marks ≡ headerNumbers + bodyNumbers → summed (marksOf part marks) ≡ sumOf (marksOf part marks)
-counted-sum part marks h = summed-short (marksOf part marks) (omega (arith, marks-length part marks h, numbers-most part))
+-- marks that are right are 0 or 1
+pub right-bits : (marks : List ℕ) (b : Bool) → b ≡ marksRight marks → b ≡ true → largestOf marks ≤ 1
+right-bits marks b e t =
+    leb-true (largestOf marks) 1 (both-true (leb (largestOf marks) 1) (leb 1 (sumOf marks)) (sym e ∙ t) .0)
 
 -- the body's marks, back among all
 pub back-whole : (l m : List ℕ) → headerNumbers ≤ length l → putMid headerNumbers (length l - headerNumbers) l m ≡ take headerNumbers l ++ m

@@ -48,6 +48,7 @@ pub record Summed (part : Part) (own others : ℕ) (marks : List ℕ) : Type 0 w
 -- the marks come to the tally, and a marked segment can be read
 pub record Readable (tally : Tally) (part : Part) (n : ℕ) (slot : Slot) (lent : Lent) : Type 0 where
   pub marks : length (lent .marks) ≡ headerNumbers + bodyNumbers
+  pub bits : largestOf (lent .marks) ≤ 1
   pub tallied : tally ≡ tallyOf (lent .header) (lent .marks)
   pub held : 0 < getD (marksOf part (lent .marks)) n 0 → Held (keptOf part slot) n (shareOf part lent)
 

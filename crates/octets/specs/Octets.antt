@@ -2,7 +2,7 @@
 use Prim.Native.Nat.{ℕ, _+_, max}
 use mathlib.Core.Bool.{Bool, true, false}
 use mathlib.Core.List.{List, [], _∷_, _++_}
-use lib.Dec.{leb, eqb}
+use lib.Dec.{eqb}
 use lib.ListN.{length, take, drop, replicate}
 
 -- the run of bytes `run` laid over the list `l` from the index `at` on
@@ -29,15 +29,7 @@ unfoldable pub largestOf : List ℕ → ℕ
 largestOf [] = 0
 largestOf (b ∷ l) = max b (largestOf l)
 
--- the sum of the bytes
+-- the sum of the bytes, and how many marks are set, where each is 0 or 1
 abbrev pub sumOf : List ℕ → ℕ
 sumOf [] = 0
 sumOf (b ∷ l) = b + sumOf l
-
-abbrev pub pick : Bool → ℕ → ℕ → ℕ
-pick true a b = a
-pick false a b = b
-
--- the sum, where the list is short enough that it always fits; else the largest number of 32 bits
-unfoldable pub summed : List ℕ → ℕ
-summed l = pick (leb (length l) 65536) (sumOf l) 4294967295

@@ -4,15 +4,12 @@
 // after it and how it reads on the whole store; what marks add up to is in specs/Marks.antt. This is how document 01
 // stores a segment ("One object, one cut"). No loop here leaves early: a pass over all bytes is the faster one.
 ghost use mathlib.Core.Path.{_≡_};
-ghost use Prim.Native.Nat.{_+_, _*_, _≤_, min};
+ghost use Prim.Native.Nat.{_+_, _≤_, min};
 ghost use lib.ListN.{length, take, drop};
-ghost use Rattle.octets.specs.Octets.{over, zeros, equal, largestOf, sumOf, summed};
+ghost use Rattle.octets.specs.Octets.{over, zeros, equal, largestOf, sumOf};
 
-// The most bytes that are summed: with this many a sum fits a u32 whatever the bytes are.
-pub const SUMMED: usize = 65_536;
-
-// Bytes of a block: the sum of one fits a u16.
-const BLOCK: usize = 256;
+// Marks of a block: where each is 0 or 1, the sum of one fits a u8.
+const BLOCK: usize = 128;
 
 // `src` over the start of `dst`; the rest of `dst` stays.
 pub fn copy_in(dst: &mut [u8], src: &[u8])
@@ -83,15 +80,15 @@ pub fn largest(marks: &[u8]) -> u8
     top
 }
 
-// The sum of a block of bytes, in a u16: half as wide a sum is more than twice as quick.
-fn sum_block(block: &[u8]) -> u16
-    requires { ⌜ length (now block) ≤ 256 ⌝ }
-    ensures { λ r. ⌜ (r ≡ sumOf (now (block .entry))) × (r ≤ 255 * length (now (block .entry))) ⌝ }
+// The sum of a block of marks, in a u8: the narrowest sum is the quickest.
+fn sum_block(block: &[u8]) -> u8
+    requires { ⌜ (largestOf (now block) ≤ 1) × (length (now block) ≤ 128) ⌝ }
+    ensures { λ r. ⌜ r ≡ sumOf (now (block .entry)) ⌝ }
 {
-    let mut total: u16 = 0;
+    let mut total: u8 = 0;
     let mut i = 0;
     while i < block.len() {
-        total += block[i] as u16;
+        total += block[i];
         i += 1;
     }
     total
@@ -100,7 +97,7 @@ fn sum_block(block: &[u8]) -> u16
 // Where the block that begins at `at` ends.
 fn block_end(at: usize, end: usize) -> usize
     requires { ⌜ at ≤ end ⌝ }
-    ensures { λ r. ⌜ r ≡ min (at + 256) end ⌝ }
+    ensures { λ r. ⌜ r ≡ min (at + 128) end ⌝ }
 {
     if end - at < BLOCK {
         return end;
@@ -108,14 +105,11 @@ fn block_end(at: usize, end: usize) -> usize
     at + BLOCK
 }
 
-// The sum of the bytes. A slice of more than `SUMMED` bytes is not summed and gives the largest u32, so that no slice of
-// any length makes the sum wrap.
+// How many marks are set, where each is 0 or 1.
 pub fn sum(marks: &[u8]) -> u32
-    ensures { λ r. ⌜ r ≡ summed (now (marks .entry)) ⌝ }
+    requires { ⌜ (largestOf (now marks) ≤ 1) × (length (now marks) ≤ 65536) ⌝ }
+    ensures { λ r. ⌜ r ≡ sumOf (now (marks .entry)) ⌝ }
 {
-    if SUMMED < marks.len() {
-        return 4_294_967_295;
-    }
     let mut total: u32 = 0;
     let mut at = 0;
     while at < marks.len() {

@@ -10,7 +10,7 @@ ghost use mathlib.Core.Path.{_≡_};
 ghost use Prim.Native.Nat.{suc, _*_, _≤_, _<_};
 ghost use lib.Dec.{eqb};
 ghost use lib.ListN.{length, drop};
-ghost use Rattle.octets.specs.Octets.{sumOf};
+ghost use Rattle.octets.specs.Octets.{largestOf, sumOf};
 ghost use Rattle.cut.specs.Requirement.{bodyNumbers, segment};
 ghost use Rattle.cut.specs.Sums.{ended, fullBy, possibleIn, acceptsIn, fitsIn};
 ghost use Rattle.part.specs.Memory.{memory, placeOf, lengthOf, movedAs, settled, put};
@@ -106,7 +106,10 @@ fn full(kept: Record, total: u32) -> bool
 
 // How many are in from a number on, where total are in all: the shorter side is summed.
 fn total_from(total: u32, from: usize, marks: &[u8]) -> u32
-    requires { ⌜ (total ≡ sumOf (now marks)) × (from ≤ length (now marks)) × (length (now marks) ≤ bodyNumbers) ⌝ }
+    requires { ⌜
+        (total ≡ sumOf (now marks)) × (from ≤ length (now marks))
+        × (length (now marks) ≤ bodyNumbers) × (largestOf (now marks) ≤ 1)
+        ⌝ }
     ensures { λ r. ⌜ r ≡ sumOf (drop from (now (marks .entry))) ⌝ }
 {
     if from < marks.len() - from {

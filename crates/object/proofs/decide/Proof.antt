@@ -51,12 +51,14 @@ total-in-requires-2 : tie.Need-total-in-requires-2
 total-in-requires-2 c κs = search needs
 
 takes-requires : tie.Need-takes-requires
-takes-requires c κs =
-    record {
-      long = c .before .before .before .before .before .before .before .before .before .before .before .pre .marks;
-      ours = c .before .before .total-in .ensures ∙ tallied-total (c .before .before .before .before .before .before .before .before .before .before .before .args .part) (c .before .before .before .before .before .before .before .before .before .before .before .args .tally) (c .before .before .before .before .before .before .before .before .before .before .before .args .header .now) (c .before .before .before .before .before .before .before .before .before .before .before .args .marks .now) (c .before .before .before .before .before .before .before .before .before .before .before .pre .tallied);
-      theirs = (rw (c .before .other-part .ensures) at (c .total-in2 .ensures)) ∙ tallied-total (otherPart (c .before .before .before .before .before .before .before .before .before .before .before .args .part)) (c .before .before .before .before .before .before .before .before .before .before .before .args .tally) (c .before .before .before .before .before .before .before .before .before .before .before .args .header .now) (c .before .before .before .before .before .before .before .before .before .before .before .args .marks .now) (c .before .before .before .before .before .before .before .before .before .before .before .pre .tallied);
-    }
+takes-requires c κs = (
+  record {
+    long = c .before .before .before .before .before .before .before .before .before .before .before .pre .marks;
+    ours = c .before .before .total-in .ensures ∙ tallied-total (c .before .before .before .before .before .before .before .before .before .before .before .args .part) (c .before .before .before .before .before .before .before .before .before .before .before .args .tally) (c .before .before .before .before .before .before .before .before .before .before .before .args .header .now) (c .before .before .before .before .before .before .before .before .before .before .before .args .marks .now) (c .before .before .before .before .before .before .before .before .before .before .before .pre .tallied);
+    theirs = (rw (c .before .other-part .ensures) at (c .total-in2 .ensures)) ∙ tallied-total (otherPart (c .before .before .before .before .before .before .before .before .before .before .before .args .part)) (c .before .before .before .before .before .before .before .before .before .before .before .args .tally) (c .before .before .before .before .before .before .before .before .before .before .before .args .header .now) (c .before .before .before .before .before .before .before .before .before .before .before .args .marks .now) (c .before .before .before .before .before .before .before .before .before .before .before .pre .tallied);
+  },
+  c .before .before .before .before .before .before .before .before .before .before .before .pre .bits,
+)
 
 returns-3 : tie.Need-returns-3
 unfolding partsOf coreIn

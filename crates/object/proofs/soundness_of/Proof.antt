@@ -6,7 +6,7 @@ use Rattle.answer.specs.declared.Part.the-variants.{Header, Body}
 use Rattle.object.specs.Take.{partsOf, coreIn, stageOf}
 use Rattle.object.specs.Sound.{soundParts, soundSlot}
 use Rattle.object.specs.Asked.{soundness}
-use Rattle.object.proofs.Laws.{counted}
+use Rattle.object.proofs.Laws.{counted, right-bits}
 use borrow.Author.Needs.{needs}
 use Rattle.object.proofs.soundness_of.Statement.{statement}
 use Rattle.object.proofs.soundness_of.Tie as tie
@@ -19,7 +19,7 @@ unfolding soundness soundSlot soundParts partsOf coreIn
 returns c = rw (sym (c .before .marks-right .ensures) ∙ not-true _ (c .if1 .taken))
 
 tally-of-requires : tie.Need-tally-of-requires
-tally-of-requires c κs = search needs
+tally-of-requires c κs = (c .before .before .before .before .pre, right-bits _ _ (c .before .marks-right .ensures) (not-false _ (c .if1 .left)))
 
 core-fits-requires : tie.Need-core-fits-requires
 core-fits-requires c κs = search needs
@@ -37,7 +37,7 @@ marks-of-requires : tie.Need-marks-of-requires
 marks-of-requires c κs = search needs
 
 sound-requires : tie.Need-sound-requires
-sound-requires c κs = rw (c .before .before .before .before .before .tally-of .ensures, c .marks-of .ensures, c .before .bounds-of .ensures) (counted Header (c .before .before .before .before .before .before .before .before .before .before .args .limit) (c .before .before .before .before .before .tally-of .result .core) (c .before .before .before .before .before .before .before .before .before .before .args .marks .now) (c .before .before .before .before .before .before .before .before .before .before .pre))
+sound-requires c κs = rw (c .before .before .before .before .before .tally-of .ensures, c .marks-of .ensures, c .before .bounds-of .ensures) (counted Header (c .before .before .before .before .before .before .before .before .before .before .args .limit) (c .before .before .before .before .before .tally-of .result .core) (c .before .before .before .before .before .before .before .before .before .before .args .marks .now) (c .before .before .before .before .before .before .before .before .before .before .pre) (right-bits _ _ (c .before .before .before .before .before .before .before .marks-right .ensures) (not-false _ (c .before .before .before .before .before .before .if1 .left))))
 
 returns-3 : tie.Need-returns-3
 unfolding soundness soundSlot soundParts partsOf coreIn
@@ -53,7 +53,7 @@ marks-of-requires-2 : tie.Need-marks-of-requires-2
 marks-of-requires-2 c κs = search needs
 
 sound-requires-2 : tie.Need-sound-requires-2
-sound-requires-2 c κs = rw (c .before .before .before .before .before .before .before .before .before .before .tally-of .ensures, c .marks-of2 .ensures, c .before .bounds-of2 .ensures) (counted Body (c .before .before .before .before .before .before .before .before .before .before .before .before .before .before .before .args .limit) (c .before .before .before .before .before .before .before .before .before .before .tally-of .result .core) (c .before .before .before .before .before .before .before .before .before .before .before .before .before .before .before .args .marks .now) (c .before .before .before .before .before .before .before .before .before .before .before .before .before .before .before .pre))
+sound-requires-2 c κs = rw (c .before .before .before .before .before .before .before .before .before .before .tally-of .ensures, c .marks-of2 .ensures, c .before .bounds-of2 .ensures) (counted Body (c .before .before .before .before .before .before .before .before .before .before .before .before .before .before .before .args .limit) (c .before .before .before .before .before .before .before .before .before .before .tally-of .result .core) (c .before .before .before .before .before .before .before .before .before .before .before .before .before .before .before .args .marks .now) (c .before .before .before .before .before .before .before .before .before .before .before .before .before .before .before .pre) (right-bits _ _ (c .before .before .before .before .before .before .before .before .before .before .before .before .marks-right .ensures) (not-false _ (c .before .before .before .before .before .before .before .before .before .before .before .if1 .left))))
 
 returns-4 : tie.Need-returns-4
 unfolding soundness soundSlot soundParts partsOf coreIn

@@ -4,6 +4,7 @@ use mathlib.Core.Path.{sym, _∙_}
 use borrow.Author.Tests.{not-true, not-false}
 use Rattle.cut.specs.Parts.{otherPart}
 use Rattle.object.proofs.Laws.{counted}
+use native.Mathlib.Omega.{arith}
 use borrow.Author.Needs.{needs}
 use Rattle.object.proofs.takes.Statement.{statement}
 use Rattle.object.proofs.takes.Tie as tie
@@ -24,7 +25,7 @@ marks-of-requires : tie.Need-marks-of-requires
 marks-of-requires c κs = search needs
 
 fits-requires : tie.Need-fits-requires
-fits-requires c κs = rw (c .before .before .before .before .before .before .pre .ours, c .marks-of .ensures, c .before .before .bounds-of .ensures) (counted (c .before .before .before .before .before .before .args .part) (c .before .before .before .before .before .before .args .limit) (c .before .before .before .before .before .before .args .core) (c .before .before .before .before .before .before .args .marks .now) (c .before .before .before .before .before .before .pre .long))
+fits-requires c κs = rw (c .before .before .before .before .before .before .pre .0 .ours, c .marks-of .ensures, c .before .before .bounds-of .ensures) (counted (c .before .before .before .before .before .before .args .part) (c .before .before .before .before .before .before .args .limit) (c .before .before .before .before .before .before .args .core) (c .before .before .before .before .before .before .args .marks .now) (c .before .before .before .before .before .before .pre .0 .long) (c .before .before .before .before .before .before .pre .1))
 
 returns-2 : tie.Need-returns-2
 returns-2 c =
@@ -41,10 +42,10 @@ kept-of-requires-2 : tie.Need-kept-of-requires-2
 kept-of-requires-2 c κs = search needs
 
 marks-of-requires-2 : tie.Need-marks-of-requires-2
-marks-of-requires-2 c κs = search needs
+marks-of-requires-2 c κs = omega (arith, c .before .before .before .before .before .before .before .before .before .before .before .pre .0 .long)
 
 possible-requires : tie.Need-possible-requires
-possible-requires c κs = rw (c .before .before .before .before .before .before .before .before .before .before .before .before .pre .theirs, c .marks-of2 .ensures, c .before .before .bounds-of2 .ensures, c .before .before .before .other-part .ensures) (counted (otherPart (c .before .before .before .before .before .before .before .before .before .before .before .before .args .part)) (c .before .before .before .before .before .before .before .before .before .before .before .before .args .limit) (c .before .before .before .before .before .before .before .before .before .before .before .before .args .core) (c .before .before .before .before .before .before .before .before .before .before .before .before .args .marks .now) (c .before .before .before .before .before .before .before .before .before .before .before .before .pre .long))
+possible-requires c κs = rw (c .before .before .before .before .before .before .before .before .before .before .before .before .pre .0 .theirs, c .marks-of2 .ensures, c .before .before .bounds-of2 .ensures, c .before .before .before .other-part .ensures) (counted (otherPart (c .before .before .before .before .before .before .before .before .before .before .before .before .args .part)) (c .before .before .before .before .before .before .before .before .before .before .before .before .args .limit) (c .before .before .before .before .before .before .before .before .before .before .before .before .args .core) (c .before .before .before .before .before .before .before .before .before .before .before .before .args .marks .now) (c .before .before .before .before .before .before .before .before .before .before .before .before .pre .0 .long) (c .before .before .before .before .before .before .before .before .before .before .before .before .pre .1))
 
 returns-3 : tie.Need-returns-3
 returns-3 c =

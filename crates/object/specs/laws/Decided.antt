@@ -109,7 +109,7 @@ module _ (part : Part) (limit : ℕ) (s : Segment) (slot : Slot) (lent : Lent) w
 -- a slot that is offered a segment can be asked what comes of it
 pub offered-readable : (tally : Tally) (part : Part) (n limit : ℕ) (slot : Slot) (lent : Lent) → Offered limit slot lent → tally ≡ tallyOf (lent .header) (lent .marks) → Readable tally part n slot lent
 unfolding partsOf
-offered-readable tally part n limit slot lent offered t = record { marks = offered .marks; tallied = t; held = held part }
+offered-readable tally part n limit slot lent offered t = record { marks = offered .marks; bits = offered .bits; tallied = t; held = held part }
   where
     inside : (p : Part) → 0 < getD (memoryOf p (partsOf slot lent) .marks) n 0 → Held (memoryOf p (partsOf slot lent) .kept) n (memoryOf p (partsOf slot lent) .share)
     inside p h = marked-inside p limit (slot .stage) (partsOf slot lent) (lent-shaped limit slot lent (offered .header) (offered .body) (offered .marks)) (lent-bits slot lent (offered .bits)) (offered .sound) n h .product

@@ -182,9 +182,13 @@ sound-slot limit slot lent e =
     let m = both-true (leb (largestOf (lent .marks)) 1) (leb 1 (sumOf (lent .marks))) (t .0) in
     (leb-true (largestOf (lent .marks)) 1 (m .0), leb-true 1 (sumOf (lent .marks)) (m .1), t .1)
 
+pub marks-bits : (p : Part) (marks : List ℕ) → largestOf marks ≤ 1 → largestOf (marksOf p marks) ≤ 1
+marks-bits Header marks h = omega (arith, largest-part marks 0 headerNumbers)
+marks-bits Body marks h =
+    let n : ℕ = length (drop headerNumbers marks) in
+    let e : take n (drop headerNumbers marks) ≡ drop headerNumbers marks = take-all n (drop headerNumbers marks) (omega arith) in
+    omega (arith, largest-part marks headerNumbers n, ap largestOf e)
+
 pub lent-bits : (slot : Slot) (lent : Lent) → largestOf (lent .marks) ≤ 1 → Bits (partsOf slot lent)
 unfolding partsOf
-lent-bits slot lent h =
-    let n : ℕ = length (drop headerNumbers (lent .marks)) in
-    let e : take n (drop headerNumbers (lent .marks)) ≡ drop headerNumbers (lent .marks) = take-all n (drop headerNumbers (lent .marks)) (omega arith) in
-    (omega (arith, largest-part (lent .marks) 0 headerNumbers), omega (arith, largest-part (lent .marks) headerNumbers n, ap largestOf e))
+lent-bits slot lent h = (marks-bits Header (lent .marks) h, marks-bits Body (lent .marks) h)

@@ -9,7 +9,7 @@ use native.Mathlib.Omega.{arith}
 use borrow.Author.Tests.{eq-eqb, ne-eqb, le-leb}
 use lib.ListN.{length, getD, set, take, drop, length-take, take-append-drop}
 use lib.Seq.{drop-drop, take-add, getD-set-same, getD-set-other}
-use Rattle.octets.specs.Octets.{equal, largestOf, sumOf, summed, zeros}
+use Rattle.octets.specs.Octets.{equal, largestOf, sumOf, zeros}
 use Rattle.octets.specs.laws.Over.{part}
 
 -- ---- bytes compared
@@ -35,14 +35,6 @@ pub equal-exactly : (l m : List ℕ) → (equal l m ≡ true) ↔ (l ≡ m)
 equal-exactly l m = (equal-is l m, λ e. rw (← e) (equal-same l))
 
 -- ---- sums
-
--- a slice that is short enough is summed
-pub summed-short : (l : List ℕ) → length l ≤ 65536 → summed l ≡ sumOf l
-unfolding summed
-summed-short l h = rw (le-leb (length l) 65536 h)
-
-pub summed-part : (l : List ℕ) (a k : ℕ) → k ≤ 65536 → summed (part l a k) ≡ sumOf (part l a k)
-summed-part l a k h = summed-short (part l a k) (rw length-take (omega arith))
 
 sum-append : (l m : List ℕ) → sumOf (l ++ m) ≡ sumOf l + sumOf m
 sum-append [] m = omega arith

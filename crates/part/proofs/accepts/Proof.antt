@@ -25,7 +25,7 @@ returns c =
 total-from-requires : tie.Need-total-from-requires
 total-from-requires c κs =
     let a = c .before .before .before .before .args in
-    (c .before .before .before .before .pre .sum, omega (arith, c .before .before .before .before .pre .numbers, c .before .before .room .ensures, room-within (a .bounds) (a .kept)), omega (arith, c .before .before .before .before .pre .numbers, c .before .before .before .before .pre .few))
+    (c .before .before .before .before .pre .sum, omega (arith, c .before .before .before .before .pre .numbers, c .before .before .room .ensures, room-within (a .bounds) (a .kept)), omega (arith, c .before .before .before .before .pre .numbers, c .before .before .before .before .pre .few), c .before .before .before .before .pre .bits)
 
 returns-2 : tie.Need-returns-2
 returns-2 c =
@@ -35,7 +35,7 @@ returns-2 c =
 total-from-requires-2 : tie.Need-total-from-requires-2
 total-from-requires-2 c κs =
     let a = c .before .before .before .before .args in
-    (c .before .before .before .before .pre .sum, omega (arith, c .before .before .before .before .pre .numbers, c .before .before .room .ensures, room-within (a .bounds) (a .kept)), omega (arith, c .before .before .before .before .pre .numbers, c .before .before .before .before .pre .few))
+    (c .before .before .before .before .pre .sum, omega (arith, c .before .before .before .before .pre .numbers, c .before .before .room .ensures, room-within (a .bounds) (a .kept)), omega (arith, c .before .before .before .before .pre .numbers, c .before .before .before .before .pre .few), c .before .before .before .before .pre .bits)
 
 ended-requires : tie.Need-ended-requires
 ended-requires c κs = search needs

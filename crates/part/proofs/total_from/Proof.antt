@@ -5,8 +5,8 @@ use Prim.Native.Nat.{_-_}
 use native.Mathlib.Omega.{arith}
 use lib.ListN.{length, take, drop, length-take, length-drop}
 use lib.Seq.{take-all}
-use Rattle.octets.specs.Octets.{summed, sumOf}
-use Rattle.octets.specs.laws.Marks.{summed-short, sum-split}
+use Rattle.octets.specs.Octets.{largestOf, sumOf}
+use Rattle.octets.specs.laws.Marks.{sum-split, largest-part}
 use borrow.Author.Needs.{needs}
 use Rattle.part.proofs.total_from.Statement.{statement}
 use Rattle.part.proofs.total_from.Tie as tie
@@ -18,14 +18,15 @@ slice-aggregate-sum : tie.Need-slice-aggregate-sum
 slice-aggregate-sum c = simp length-take (omega arith)
 
 sum-requires : tie.Need-sum-requires
-sum-requires c κs = search needs
+sum-requires c κs =
+    let s = c .before .before .before in
+    let l = s .args .marks .now in
+    (omega (arith, largest-part l 0 (s .args .from), s .pre .3), simp length-take (omega (arith, s .pre .2)))
 
 -- what is before the number
 head : (c : tie.After-sum) → let a = c .before .before .before .before .args in c .sum .result ≡ sumOf (take (a .from) (a .marks .now))
 head c =
-    let s = c .before .before .before .before in
-    let a = s .args in
-    c .sum .ensures ∙ summed-short (take (a .from) (a .marks .now)) (rw length-take (omega (arith, s .pre .2)))
+    c .sum .ensures
 
 sub-result : tie.Need-sub-result
 sub-result c = omega (arith, c .before .before .before .before .pre .0, head c, sum-split (c .before .before .before .before .args .marks .now) (c .before .before .before .before .args .from))
@@ -43,14 +44,18 @@ part-sum-end : tie.Need-part-sum-end
 part-sum-end c = search needs
 
 sum-requires-2 : tie.Need-sum-requires-2
-sum-requires-2 c κs = search needs
+sum-requires-2 c κs =
+    let s = c .before .before .before in
+    let l = s .args .marks .now in
+    let k = length l - s .args .from in
+    (omega (arith, largest-part l (s .args .from) k, s .pre .3), simp (length-take, length-drop) (omega (arith, s .pre .2)))
 
 returns-2 : tie.Need-returns-2
 returns-2 c =
     let marks = c .before .before .before .before .args .marks .now in
     let from = c .before .before .before .before .args .from in
     let whole = take-all (length marks - from) (drop from marks) (rw length-drop (omega arith)) in
-    c .sum2 .ensures ∙ ap summed whole ∙ summed-short (drop from marks) (rw length-drop (omega (arith, c .before .before .before .before .pre .2)))
+    c .sum2 .ensures ∙ ap sumOf whole
 
 pub total-from-spec : {M : Type 1} → statement M
 total-from-spec =

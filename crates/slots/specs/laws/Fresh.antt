@@ -129,7 +129,7 @@ module _ (part : Part) (limit number : ℕ) (s : Segment) (lent : Lent) (none : 
 
   -- nothing is in yet, so the tally is this, and there is no segment to read
   pub fresh-readable : length (lent .marks) ≡ headerNumbers + bodyNumbers → Readable (record { core = Unseen; headers = 0; bodies = 0 }) part (s .number) (freshSlot number) lent
-  fresh-readable h = record { marks = h; tallied = tallied; held = λ m. absurd (omega (arith, sum-none (marksOf part (lent .marks)) .0 (marks-none part) (s .number), m)) }
+  fresh-readable h = record { marks = h; bits = omega (arith, largest-sum (lent .marks), none); tallied = tallied; held = λ m. absurd (omega (arith, sum-none (marksOf part (lent .marks)) .0 (marks-none part) (s .number), m)) }
     where
       core : coreFrom (marksOf Header (lent .marks)) (lent .header) ≡ Unseen
       core = rw (sum-none (marksOf Header (lent .marks)) .0 (marks-none Header) 0) refl
