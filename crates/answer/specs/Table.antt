@@ -1,71 +1,69 @@
--- Document 01, "What comes back": the number and the name of each answer, and the values returned with it.
+-- Document 01, "What comes back": one table, with the number and the name of each answer and the values returned with
+-- it.
+use mathlib.Core.Path.{_≡_}
 use Prim.Native.Nat.{ℕ}
 use Prim.Native.String.{String}
+use Rattle.answer.specs.declared.Refusal.{Refusal}
 use Rattle.answer.specs.declared.Refusal.the-variants.{Length, NoCheck, BadCheck, Kind, NoSegment, Address, Size}
+use Rattle.answer.specs.declared.Reason.{Reason}
+use Rattle.answer.specs.declared.Reason.the-variants.{NotHeld, Unfinished, Header, Duplicate, Core, NotFound, Limits, State}
 use Rattle.answer.specs.declared.Answer.{Answer}
-use Rattle.answer.specs.declared.Answer.the-variants.{Stored, Complete, Repeat, Dropped, Refused, Conflict, Full, NotHeld, Unfinished, Header, Duplicate, Core, NotFound, Limits, State}
+use Rattle.answer.specs.declared.Answer.the-variants.{Stored, Complete, Repeat, Dropped, Refused, Conflict, Full, Denied}
 use Rattle.answer.specs.declared.Returned.{Returned}
 use Rattle.answer.specs.declared.Returned.the-variants.{Segment, Number, Nothing}
+use Rattle.answer.specs.declared.Row.{Row as Kept}
+use Rattle.answer.specs.Letters.{Spells}
+
+pub record Row : Type 0 where
+  pub number : ℕ
+  pub name : String
+  pub returned : Returned
+
+abbrev pub row : ℕ → String → Returned → Row
+row number name returned = record { number = number; name = name; returned = returned }
+
+-- why a group is not read
+abbrev pub refusalRow : Refusal → Row
+refusalRow Length = row 10 "LENGTH" Nothing
+refusalRow NoCheck = row 11 "NOCHECK" Nothing
+refusalRow BadCheck = row 12 "BADCHECK" Nothing
+refusalRow Kind = row 13 "KIND" Nothing
+refusalRow NoSegment = row 14 "NOSEGMENT" Nothing
+refusalRow Address = row 15 "ADDRESS" Nothing
+refusalRow Size = row 16 "SIZE" Nothing
+
+-- why a call gives nothing
+abbrev pub reasonRow : Reason → Row
+reasonRow NotHeld = row 19 "NOTHELD" Nothing
+reasonRow Unfinished = row 20 "UNFINISHED" Nothing
+reasonRow Header = row 21 "HEADER" Nothing
+reasonRow Duplicate = row 22 "DUPLICATE" Nothing
+reasonRow Core = row 23 "CORE" Nothing
+reasonRow NotFound = row 24 "NOTFOUND" Nothing
+reasonRow Limits = row 25 "LIMITS" Nothing
+reasonRow State = row 26 "STATE" Nothing
+
+abbrev pub rowOf : Answer → Row
+rowOf (Stored heard) = row 0 "STORED" (Segment heard)
+rowOf (Complete heard) = row 1 "COMPLETE" (Segment heard)
+rowOf (Repeat heard) = row 2 "REPEAT" (Segment heard)
+rowOf (Dropped number) = row 3 "DROPPED" (Number number)
+rowOf (Refused refusal) = refusalRow refusal
+rowOf (Conflict heard) = row 17 "CONFLICT" (Segment heard)
+rowOf (Full heard) = row 18 "FULL" (Segment heard)
+rowOf (Denied reason) = reasonRow reason
 
 abbrev pub numberOf : Answer → ℕ
-numberOf (Stored heard) = 0
-numberOf (Complete heard) = 1
-numberOf (Repeat heard) = 2
-numberOf (Dropped number) = 3
-numberOf (Refused Length) = 10
-numberOf (Refused NoCheck) = 11
-numberOf (Refused BadCheck) = 12
-numberOf (Refused Kind) = 13
-numberOf (Refused NoSegment) = 14
-numberOf (Refused Address) = 15
-numberOf (Refused Size) = 16
-numberOf (Conflict heard) = 17
-numberOf (Full heard) = 18
-numberOf NotHeld = 19
-numberOf Unfinished = 20
-numberOf Header = 21
-numberOf Duplicate = 22
-numberOf Core = 23
-numberOf NotFound = 24
-numberOf Limits = 25
-numberOf State = 26
+numberOf answer = rowOf answer .number
 
 abbrev pub nameOf : Answer → String
-nameOf (Stored heard) = "STORED"
-nameOf (Complete heard) = "COMPLETE"
-nameOf (Repeat heard) = "REPEAT"
-nameOf (Dropped number) = "DROPPED"
-nameOf (Refused Length) = "LENGTH"
-nameOf (Refused NoCheck) = "NOCHECK"
-nameOf (Refused BadCheck) = "BADCHECK"
-nameOf (Refused Kind) = "KIND"
-nameOf (Refused NoSegment) = "NOSEGMENT"
-nameOf (Refused Address) = "ADDRESS"
-nameOf (Refused Size) = "SIZE"
-nameOf (Conflict heard) = "CONFLICT"
-nameOf (Full heard) = "FULL"
-nameOf NotHeld = "NOTHELD"
-nameOf Unfinished = "UNFINISHED"
-nameOf Header = "HEADER"
-nameOf Duplicate = "DUPLICATE"
-nameOf Core = "CORE"
-nameOf NotFound = "NOTFOUND"
-nameOf Limits = "LIMITS"
-nameOf State = "STATE"
+nameOf answer = rowOf answer .name
 
 abbrev pub returnedWith : Answer → Returned
-returnedWith (Stored heard) = Segment heard
-returnedWith (Complete heard) = Segment heard
-returnedWith (Repeat heard) = Segment heard
-returnedWith (Dropped number) = Number number
-returnedWith (Refused refusal) = Nothing
-returnedWith (Conflict heard) = Segment heard
-returnedWith (Full heard) = Segment heard
-returnedWith NotHeld = Nothing
-returnedWith Unfinished = Nothing
-returnedWith Header = Nothing
-returnedWith Duplicate = Nothing
-returnedWith Core = Nothing
-returnedWith NotFound = Nothing
-returnedWith Limits = Nothing
-returnedWith State = Nothing
+returnedWith answer = rowOf answer .returned
+
+-- a row as the code has it, with the name spelt in ASCII
+pub record Reads (kept : Kept) (row : Row) : Type 0 where
+  pub number : kept .number ≡ row .number
+  pub name : Spells (kept .letters) (kept .length) (row .name)
+  pub returned : kept .returned ≡ row .returned

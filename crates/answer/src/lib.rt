@@ -1,9 +1,8 @@
-// What the collector answers (document 01, "What comes back"): one type with a case for each row
-// of the table, and one definition that gives each case its number, its name and the values that
-// are returned with it. Every contract above speaks of answers through that definition.
+// What the collector answers (document 01, "What comes back"): one type, and one table with a row for
+// each answer: its number, its name and the values that are returned with it. Every contract above
+// speaks of answers through that table. The answers that carry nothing are one case with a reason in it.
 ghost use mathlib.Core.Path.{_≡_};
-ghost use lib.ListN.{length};
-ghost use Rattle.answer.specs.Table.{numberOf, nameOf, returnedWith};
+ghost use Rattle.answer.specs.Table.{numberOf, nameOf, returnedWith, refusalRow, reasonRow, rowOf, Reads};
 ghost use Rattle.answer.specs.Letters.{Spells};
 
 // The two parts of an object.
@@ -30,14 +29,8 @@ pub enum Refusal {
     Size,
 }
 
-pub enum Answer {
-    Stored(Heard),
-    Complete(Heard),
-    Repeat(Heard),
-    Dropped(u16),
-    Refused(Refusal),
-    Conflict(Heard),
-    Full(Heard),
+// Why a call gives nothing: numbers 19 to 26.
+pub enum Reason {
     NotHeld,
     Unfinished,
     Header,
@@ -46,6 +39,17 @@ pub enum Answer {
     NotFound,
     Limits,
     State,
+}
+
+pub enum Answer {
+    Stored(Heard),
+    Complete(Heard),
+    Repeat(Heard),
+    Dropped(u16),
+    Refused(Refusal),
+    Conflict(Heard),
+    Full(Heard),
+    Denied(Reason),
 }
 
 // The values that come with an answer: a segment's, a transport number alone, or none.
@@ -61,22 +65,71 @@ pub struct Name {
     pub length: usize,
 }
 
+// A row of the table.
+struct Row {
+    number: u8,
+    letters: [u8; 10],
+    length: usize,
+    returned: Returned,
+}
+
 // The numbers of the two answers that can be given before there is a collector.
 pub const LIMITS: u8 = 25;
 
 pub const STATE: u8 = 26;
 
-fn refusal_number(refusal: Refusal) -> u8
-    ensures { λ r. ⌜ r ≡ numberOf (Answer.Refused refusal) ⌝ }
+fn entry(number: u8, letters: [u8; 10], length: usize, returned: Returned) -> Row
+    ensures { λ r. ⌜ r ≡ record { number = number; letters = letters; length = length; returned = returned } ⌝ }
+{
+    Row {
+        number,
+        letters,
+        length,
+        returned,
+    }
+}
+
+fn refusal_row(refusal: Refusal) -> Row
+    ensures { λ r. ⌜ Reads r (refusalRow refusal) ⌝ }
 {
     match refusal {
-        Refusal::Length => 10,
-        Refusal::NoCheck => 11,
-        Refusal::BadCheck => 12,
-        Refusal::Kind => 13,
-        Refusal::NoSegment => 14,
-        Refusal::Address => 15,
-        Refusal::Size => 16,
+        Refusal::Length => entry(10, *b"LENGTH    ", 6, Returned::Nothing),
+        Refusal::NoCheck => entry(11, *b"NOCHECK   ", 7, Returned::Nothing),
+        Refusal::BadCheck => entry(12, *b"BADCHECK  ", 8, Returned::Nothing),
+        Refusal::Kind => entry(13, *b"KIND      ", 4, Returned::Nothing),
+        Refusal::NoSegment => entry(14, *b"NOSEGMENT ", 9, Returned::Nothing),
+        Refusal::Address => entry(15, *b"ADDRESS   ", 7, Returned::Nothing),
+        Refusal::Size => entry(16, *b"SIZE      ", 4, Returned::Nothing),
+    }
+}
+
+fn reason_row(reason: Reason) -> Row
+    ensures { λ r. ⌜ Reads r (reasonRow reason) ⌝ }
+{
+    match reason {
+        Reason::NotHeld => entry(19, *b"NOTHELD   ", 7, Returned::Nothing),
+        Reason::Unfinished => entry(20, *b"UNFINISHED", 10, Returned::Nothing),
+        Reason::Header => entry(21, *b"HEADER    ", 6, Returned::Nothing),
+        Reason::Duplicate => entry(22, *b"DUPLICATE ", 9, Returned::Nothing),
+        Reason::Core => entry(23, *b"CORE      ", 4, Returned::Nothing),
+        Reason::NotFound => entry(24, *b"NOTFOUND  ", 8, Returned::Nothing),
+        Reason::Limits => entry(LIMITS, *b"LIMITS    ", 6, Returned::Nothing),
+        Reason::State => entry(STATE, *b"STATE     ", 5, Returned::Nothing),
+    }
+}
+
+fn row_of(answer: Answer) -> Row
+    ensures { λ r. ⌜ Reads r (rowOf answer) ⌝ }
+{
+    match answer {
+        Answer::Stored(heard) => entry(0, *b"STORED    ", 6, Returned::Segment(heard)),
+        Answer::Complete(heard) => entry(1, *b"COMPLETE  ", 8, Returned::Segment(heard)),
+        Answer::Repeat(heard) => entry(2, *b"REPEAT    ", 6, Returned::Segment(heard)),
+        Answer::Dropped(number) => entry(3, *b"DROPPED   ", 7, Returned::Number(number)),
+        Answer::Refused(refusal) => refusal_row(refusal),
+        Answer::Conflict(heard) => entry(17, *b"CONFLICT  ", 8, Returned::Segment(heard)),
+        Answer::Full(heard) => entry(18, *b"FULL      ", 4, Returned::Segment(heard)),
+        Answer::Denied(reason) => reason_row(reason),
     }
 }
 
@@ -84,122 +137,18 @@ fn refusal_number(refusal: Refusal) -> u8
 pub fn number_of(answer: Answer) -> u8
     ensures { λ r. ⌜ r ≡ numberOf answer ⌝ }
 {
-    match answer {
-        Answer::Stored(_) => 0,
-        Answer::Complete(_) => 1,
-        Answer::Repeat(_) => 2,
-        Answer::Dropped(_) => 3,
-        Answer::Refused(refusal) => refusal_number(refusal),
-        Answer::Conflict(_) => 17,
-        Answer::Full(_) => 18,
-        Answer::NotHeld => 19,
-        Answer::Unfinished => 20,
-        Answer::Header => 21,
-        Answer::Duplicate => 22,
-        Answer::Core => 23,
-        Answer::NotFound => 24,
-        Answer::Limits => LIMITS,
-        Answer::State => STATE,
-    }
-}
-
-fn refusal_name(refusal: Refusal) -> Name
-    ensures { λ r. ⌜ Spells (r .letters) (r .length) (nameOf (Answer.Refused refusal)) ⌝ }
-{
-    match refusal {
-        Refusal::Length => Name {
-            letters: *b"LENGTH    ",
-            length: 6,
-        },
-        Refusal::NoCheck => Name {
-            letters: *b"NOCHECK   ",
-            length: 7,
-        },
-        Refusal::BadCheck => Name {
-            letters: *b"BADCHECK  ",
-            length: 8,
-        },
-        Refusal::Kind => Name {
-            letters: *b"KIND      ",
-            length: 4,
-        },
-        Refusal::NoSegment => Name {
-            letters: *b"NOSEGMENT ",
-            length: 9,
-        },
-        Refusal::Address => Name {
-            letters: *b"ADDRESS   ",
-            length: 7,
-        },
-        Refusal::Size => Name {
-            letters: *b"SIZE      ",
-            length: 4,
-        },
-    }
+    row_of(answer).number
 }
 
 // The name of an answer in document 01's table.
 pub fn name_of(answer: Answer) -> Name
     ensures { λ r. ⌜ Spells (r .letters) (r .length) (nameOf answer) ⌝ }
 {
-    match answer {
-        Answer::Stored(_) => Name {
-            letters: *b"STORED    ",
-            length: 6,
-        },
-        Answer::Complete(_) => Name {
-            letters: *b"COMPLETE  ",
-            length: 8,
-        },
-        Answer::Repeat(_) => Name {
-            letters: *b"REPEAT    ",
-            length: 6,
-        },
-        Answer::Dropped(_) => Name {
-            letters: *b"DROPPED   ",
-            length: 7,
-        },
-        Answer::Refused(refusal) => refusal_name(refusal),
-        Answer::Conflict(_) => Name {
-            letters: *b"CONFLICT  ",
-            length: 8,
-        },
-        Answer::Full(_) => Name {
-            letters: *b"FULL      ",
-            length: 4,
-        },
-        Answer::NotHeld => Name {
-            letters: *b"NOTHELD   ",
-            length: 7,
-        },
-        Answer::Unfinished => Name {
-            letters: *b"UNFINISHED",
-            length: 10,
-        },
-        Answer::Header => Name {
-            letters: *b"HEADER    ",
-            length: 6,
-        },
-        Answer::Duplicate => Name {
-            letters: *b"DUPLICATE ",
-            length: 9,
-        },
-        Answer::Core => Name {
-            letters: *b"CORE      ",
-            length: 4,
-        },
-        Answer::NotFound => Name {
-            letters: *b"NOTFOUND  ",
-            length: 8,
-        },
-        Answer::Limits => Name {
-            letters: *b"LIMITS    ",
-            length: 6,
-        },
-        Answer::State => Name {
-            letters: *b"STATE     ",
-            length: 5,
-        },
+    let row = row_of(answer);
+    let letters = row.letters;
+    Name {
+        letters,
+        length: row.length,
     }
 }
 
@@ -207,21 +156,5 @@ pub fn name_of(answer: Answer) -> Name
 pub fn returned_with(answer: Answer) -> Returned
     ensures { λ r. ⌜ r ≡ returnedWith answer ⌝ }
 {
-    match answer {
-        Answer::Stored(heard) => Returned::Segment(heard),
-        Answer::Complete(heard) => Returned::Segment(heard),
-        Answer::Repeat(heard) => Returned::Segment(heard),
-        Answer::Conflict(heard) => Returned::Segment(heard),
-        Answer::Full(heard) => Returned::Segment(heard),
-        Answer::Dropped(number) => Returned::Number(number),
-        Answer::Refused(_) => Returned::Nothing,
-        Answer::NotHeld => Returned::Nothing,
-        Answer::Unfinished => Returned::Nothing,
-        Answer::Header => Returned::Nothing,
-        Answer::Duplicate => Returned::Nothing,
-        Answer::Core => Returned::Nothing,
-        Answer::NotFound => Returned::Nothing,
-        Answer::Limits => Returned::Nothing,
-        Answer::State => Returned::Nothing,
-    }
+    row_of(answer).returned
 }

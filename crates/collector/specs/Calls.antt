@@ -1,4 +1,4 @@
--- What each call of the collector answers, and the collector, the counts and everything lent afterwards.
+-- What each call of the collector answers, and the state that it leaves.
 use mathlib.Core.Bool.{Bool, true, false}
 use mathlib.Core.List.{List, []}
 use Prim.Native.Nat.{ℕ}
@@ -6,21 +6,19 @@ use lib.ListN.{length, replicate}
 use Rattle.octets.specs.Octets.{zeros}
 use Rattle.answer.specs.declared.Answer.{Answer}
 use Rattle.answer.specs.declared.Answer.the-variants as Answer
+use Rattle.answer.specs.declared.Reason.the-variants as Reason
 use Rattle.answer.specs.declared.Heard.{Heard}
 use Rattle.answer.specs.declared.Part.{Part}
 use Rattle.answer.specs.declared.Refusal.{Refusal}
 use Rattle.answer.specs.declared.Refusal.the-variants as Refusal
 use Rattle.counts.specs.declared.Counts.{Counts}
-use Rattle.counts.specs.Counted.{noneYet, counted, within}
-use Rattle.wire.specs.declared.Segment.{Segment as Carried}
+use Rattle.counts.specs.Counted.{noneYet}
+use Rattle.wire.specs.declared.Carried.{Carried}
 use Rattle.wire.specs.declared.Reading.{Reading}
 use Rattle.wire.specs.declared.Reading.the-variants.{Read, Refused}
-use Rattle.wire.specs.Reading.{readingOf}
-use Rattle.wire.specs.laws.Theorems.{bytesIn}
+use Rattle.wire.specs.Reading.{readingOf, bytesIn}
 use Rattle.cut.specs.Lists.{pick}
 use Rattle.cut.specs.Requirement.{Segment}
-use Rattle.cut.specs.Decision.{both}
-use Rattle.object.specs.declared.Slot.{Slot}
 use Rattle.object.specs.declared.Outcome.{Outcome}
 use Rattle.object.specs.declared.Outcome.the-variants.{Stored, Complete, Repeat, Conflict}
 use Rattle.object.specs.declared.Stage.{Stage}
@@ -30,7 +28,7 @@ use Rattle.slots.specs.declared.Found.the-variants.{Nothing, At}
 use Rattle.slots.specs.Stores.{slotsMost, Stores, freeSlot, slotAt}
 use Rattle.slots.specs.Find.{findIn, freeIn}
 use Rattle.slots.specs.Alone.{fitsAlone}
-use Rattle.slots.specs.State.{withinLimits, soundSlots}
+use Rattle.slots.specs.State.{withinLimits}
 use Rattle.slots.specs.Show.{shownOf}
 use Rattle.slots.specs.Take.{TakenAt, takeAt, takeNew, dropAt}
 use Rattle.collector.specs.declared.Collector.{Collector}
@@ -38,33 +36,26 @@ use Rattle.collector.specs.declared.Opening.{Opening}
 use Rattle.collector.specs.declared.Opening.the-variants as Opening
 use Rattle.collector.specs.declared.Located.{Located}
 use Rattle.collector.specs.declared.Located.the-variants as Located
+use Rattle.collector.specs.State.{State, Reply, Start, Opened, state, sound, answering, withSlots}
 
--- a call's answer, and all that it leaves
-pub record Answered : Type 0 where
-  pub answer : Answer
-  pub collector : Collector
-  pub counts : Counts
-  pub stores : Stores
+-- ---- a segment
 
--- the answer is counted, and nothing else changes
-abbrev pub answeredBy : Answer → Collector → Counts → Stores → Answered
-answeredBy answer c counts stores = record { answer = answer; collector = c; counts = counted answer counts; stores = stores }
+-- a segment as it comes in: its transport number and its part, and the segment itself
+pub record Arrival : Type 0 where
+  pub number : ℕ
+  pub part : Part
+  pub segment : Segment
 
-abbrev pub withSlots : List Slot → Collector → Collector
-withSlots slots c = record { limit = c .limit; count = c .count; slots = slots }
+-- as a contract has it
+abbrev pub arrival : Heard → Bool → List ℕ → Arrival
+arrival heard last bytes = record {
+  number = heard .number;
+  part = heard .part;
+  segment = record { number = heard .segment; last = last; bytes = bytes };
+}
 
--- the state is not damaged, to every call: document 01's list, the counts last
-unfoldable pub soundState : Collector → Counts → Stores → Bool
-soundState c counts stores = both (soundSlots (c .limit) (c .count) (c .slots) stores) (within counts)
-
--- ---- a group
-
-abbrev pub heardAs : Carried → Heard
-heardAs carried = record { number = carried .number; part = carried .part; segment = carried .segment }
-
--- the segment that a group carries
-unfoldable pub segmentIn : List ℕ → Carried → Segment
-segmentIn group carried = record { number = carried .segment; last = carried .last; bytes = bytesIn group carried }
+abbrev pub heardAs : Arrival → Heard
+heardAs a = record { number = a .number; part = a .part; segment = a .segment .number }
 
 abbrev pub answerAs : Outcome → Heard → Answer
 answerAs Stored heard = Answer.Stored heard
@@ -72,85 +63,129 @@ answerAs Complete heard = Answer.Complete heard
 answerAs Repeat heard = Answer.Repeat heard
 answerAs Conflict heard = Answer.Conflict heard
 
-abbrev pub takenBy : Heard → Collector → Counts → TakenAt → Answered
-takenBy heard c counts taken = answeredBy (answerAs (taken .outcome) heard) (withSlots (taken .slots) c) counts (taken .stores)
+-- the slot that holds a number, and the lowest one that is free
+abbrev pub find : ℕ → State → Found
+find number s = findIn number (s .collector .count) (s .collector .slots)
+
+abbrev pub free : State → Found
+free s = freeIn (s .collector .count) (s .collector .slots)
+
+-- a slot was offered the segment
+abbrev pub takenBy : Heard → State → TakenAt → Reply
+takenBy heard s taken =
+    answering (answerAs (taken .outcome) heard)
+    (state (withSlots (taken .slots) (s .collector)) (s .counts) (taken .stores))
 
 -- no slot holds the number: the segment takes the lowest free one
-abbrev pub intoFree : Found → Carried → Segment → Collector → Counts → Stores → Answered
-intoFree Nothing carried s c counts stores = answeredBy (Answer.Full (heardAs carried)) c counts stores
-intoFree (At i) carried s c counts stores = takenBy (heardAs carried) c counts (takeNew (carried .number) (carried .part) (c .limit) i s (c .slots) stores)
+abbrev pub intoFree : Found → Arrival → State → Reply
+intoFree Nothing a s = answering (Answer.Full (heardAs a)) s
+intoFree (At i) a s =
+    takenBy (heardAs a) s
+    (takeNew (a .number) (a .part) (s .collector .limit) i (a .segment) (s .collector .slots) (s .stores))
 
--- a first group's CONFLICT looks at it alone, and FULL comes after it
-abbrev pub ifAlone : Bool → Carried → Segment → Collector → Counts → Stores → Answered
-ifAlone true carried s c counts stores = intoFree (freeIn (c .count) (c .slots)) carried s c counts stores
-ifAlone false carried s c counts stores = answeredBy (Answer.Conflict (heardAs carried)) c counts stores
+-- a first segment's CONFLICT looks at it alone, and FULL comes after it
+abbrev pub ifAlone : Bool → Arrival → State → Reply
+ifAlone true a s = intoFree (free s) a s
+ifAlone false a s = answering (Answer.Conflict (heardAs a)) s
 
-abbrev pub intoHeld : Found → Carried → Segment → Collector → Counts → Stores → Answered
-intoHeld (At i) carried s c counts stores = takenBy (heardAs carried) c counts (takeAt (carried .part) (c .limit) i s (c .slots) stores)
-intoHeld Nothing carried s c counts stores = ifAlone (fitsAlone (carried .part) (c .limit) s) carried s c counts stores
+abbrev pub intoHeld : Found → Arrival → State → Reply
+intoHeld (At i) a s =
+    takenBy (heardAs a) s (takeAt (a .part) (s .collector .limit) i (a .segment) (s .collector .slots) (s .stores))
+intoHeld Nothing a s = ifAlone (fitsAlone (a .part) (s .collector .limit) (a .segment)) a s
 
-abbrev pub takeRead : Reading → List ℕ → Collector → Counts → Stores → Answered
-takeRead (Refused refusal) group c counts stores = answeredBy (Answer.Refused refusal) c counts stores
-takeRead (Read carried) group c counts stores = intoHeld (findIn (carried .number) (c .count) (c .slots)) carried (segmentIn group carried) c counts stores
+-- STATE, then CONFLICT, then FULL
+unfoldable pub takeSegment : Arrival → State → Reply
+takeSegment a s = pick (sound s) (intoHeld (find (a .number) s) a s) (answering (Answer.Denied Reason.State) s)
+
+-- ---- a group
+
+-- the segment that a group carries
+abbrev pub segmentIn : List ℕ → Carried → Segment
+segmentIn group carried = record { number = carried .segment; last = carried .last; bytes = bytesIn group carried }
+
+abbrev pub arrivalIn : List ℕ → Carried → Arrival
+arrivalIn group carried = record {
+  number = carried .number;
+  part = carried .part;
+  segment = segmentIn group carried;
+}
+
+abbrev pub heardIn : Carried → Heard
+heardIn carried = record { number = carried .number; part = carried .part; segment = carried .segment }
+
+abbrev pub takeRead : Reading → List ℕ → State → Reply
+takeRead (Refused refusal) group s = answering (Answer.Refused refusal) s
+takeRead (Read carried) group s = takeSegment (arrivalIn group carried) s
 
 -- why a group is not read; a group that is read is never asked this
 abbrev pub refusalOf : Reading → Refusal
 refusalOf (Refused refusal) = refusal
 refusalOf (Read carried) = Refusal.Length
 
--- STATE, then the reading checks, then CONFLICT, then FULL
-unfoldable pub takeGroup : List ℕ → Collector → Counts → Stores → Answered
-takeGroup group c counts stores = pick (soundState c counts stores) (takeRead (readingOf group) group c counts stores) (answeredBy Answer.State c counts stores)
+-- STATE, then the reading checks; then the segment comes in
+unfoldable pub takeGroup : List ℕ → State → Reply
+takeGroup group s =
+    pick (sound s) (takeRead (readingOf group) group s) (answering (Answer.Denied Reason.State) s)
 
 -- ---- a drop
 
-abbrev pub dropFound : Found → ℕ → Collector → Counts → Stores → Answered
-dropFound Nothing number c counts stores = answeredBy Answer.NotHeld c counts stores
-dropFound (At i) number c counts stores =
-    answeredBy (Answer.Dropped number) (withSlots (dropAt i (c .slots) (stores .marks) .slots) c) counts
-    (record { header = stores .header; body = stores .body; marks = dropAt i (c .slots) (stores .marks) .marks })
+abbrev pub dropFound : Found → ℕ → State → Reply
+dropFound Nothing number s = answering (Answer.Denied Reason.NotHeld) s
+dropFound (At i) number s =
+    let left = dropAt i (s .collector .slots) (s .stores .marks) in
+    answering (Answer.Dropped number)
+    (state (withSlots (left .slots) (s .collector)) (s .counts)
+    (record { header = s .stores .header; body = s .stores .body; marks = left .marks }))
 
-unfoldable pub dropNumber : ℕ → Collector → Counts → Stores → Answered
-dropNumber number c counts stores = pick (soundState c counts stores) (dropFound (findIn number (c .count) (c .slots)) number c counts stores) (answeredBy Answer.State c counts stores)
+unfoldable pub dropNumber : ℕ → State → Reply
+dropNumber number s =
+    pick (sound s) (dropFound (find number s) number s) (answering (Answer.Denied Reason.State) s)
 
 -- ---- an opening
-
-pub record Opened : Type 0 where
-  pub opening : Opening
-  pub collector : Collector
-  pub counts : Counts
-  pub marks : List ℕ
 
 abbrev pub allFree : ℕ → ℕ → Collector
 allFree limit count = record { limit = limit; count = count; slots = replicate slotsMost freeSlot }
 
+-- the limits are kept, and what is lent has the lengths that they give
+abbrev pub inLimits : Start → Bool
+inLimits start =
+    withinLimits (start .limit) (start .count) (length (start .stores .header)) (length (start .stores .body))
+    (length (start .stores .marks))
+
 -- Within the bounds and the lent lengths all marks and counts are 0; else LIMITS: nothing changes, and the state handed
 -- back has no slots, which every call answers with STATE.
-unfoldable pub openedBy : ℕ → ℕ → Counts → Stores → Opened
-openedBy limit count counts stores =
-    pick (withinLimits limit count (length (stores .header)) (length (stores .body)) (length (stores .marks)))
-    (record { opening = Opening.Open; collector = allFree limit count; counts = noneYet; marks = zeros (length (stores .marks)) })
-    (record { opening = Opening.Refused Answer.Limits; collector = allFree 0 0; counts = counts; marks = stores .marks })
+unfoldable pub openWith : Start → Opened
+openWith start =
+    let lent = start .stores in
+    pick (inLimits start)
+    (record {
+      opening = Opening.Open;
+      left =
+          state (allFree (start .limit) (start .count)) noneYet
+          (record { header = lent .header; body = lent .body; marks = zeros (length (lent .marks)) });
+    })
+    (record { opening = Opening.Denied Reason.Limits; left = state (allFree 0 0) (start .counts) lent })
 
 -- ---- a finished object
 
 abbrev pub locatedAs : Stage → ℕ → Located
-locatedAs Free i = Located.Refused Answer.NotHeld
-locatedAs Gathering i = Located.Refused Answer.Unfinished
+locatedAs Free i = Located.Denied Reason.NotHeld
+locatedAs Gathering i = Located.Denied Reason.Unfinished
 locatedAs (Finished header body) i = Located.At i
 
 abbrev pub locatedIn : Found → Collector → Located
-locatedIn Nothing c = Located.Refused Answer.NotHeld
+locatedIn Nothing c = Located.Denied Reason.NotHeld
 locatedIn (At i) c = locatedAs (slotAt i (c .slots) .stage) i
 
 -- STATE, NOTHELD, UNFINISHED
-unfoldable pub locate : ℕ → Collector → Counts → Stores → Located
-locate number c counts stores = pick (soundState c counts stores) (locatedIn (findIn number (c .count) (c .slots)) c) (Located.Refused Answer.State)
+unfoldable pub locate : ℕ → State → Located
+locate number s = pick (sound s) (locatedIn (find number s) (s .collector)) (Located.Denied Reason.State)
 
-abbrev pub shownAt : Located → Part → Collector → Stores → List ℕ
-shownAt (Located.Refused why) part c stores = []
-shownAt (Located.At i) part c stores = shownOf part i (c .limit) (slotAt i (c .slots)) (stores .header) (stores .body)
+abbrev pub shownAt : Located → Part → State → List ℕ
+shownAt (Located.Denied why) part s = []
+shownAt (Located.At i) part s =
+    shownOf part i (s .collector .limit) (slotAt i (s .collector .slots)) (s .stores .header) (s .stores .body)
 
 -- its header or body, as the part of the store that has it; nothing where it can't be shown
-unfoldable pub show : ℕ → Part → Collector → Counts → Stores → List ℕ
-show number part c counts stores = shownAt (locate number c counts stores) part c stores
+unfoldable pub show : ℕ → Part → State → List ℕ
+show number part s = shownAt (locate number s) part s

@@ -1,17 +1,17 @@
--- What a group comes to: the answer, and the slot that is put in one place, if one is.
+-- What a segment comes to: the answer, and the slot that is put in one place, if one is.
 use mathlib.Core.List.{List}
 use Prim.Native.Nat.{ℕ}
 use lib.ListN.{set}
 use Rattle.answer.specs.declared.Answer.{Answer}
-use Rattle.counts.specs.declared.Counts.{Counts}
-use Rattle.wire.specs.declared.Segment.{Segment as Carried}
+use Rattle.answer.specs.declared.Heard.{Heard}
 use Rattle.object.specs.declared.Slot.{Slot}
-use Rattle.slots.specs.Stores.{Stores}
-use Rattle.slots.specs.Take.{Placed}
-use Rattle.collector.specs.declared.Collector.{Collector}
+use Rattle.object.specs.Take.{takeInto}
+use Rattle.slots.specs.Stores.{Stores, lentAt}
+use Rattle.slots.specs.Take.{Placed, placedAt}
 use Rattle.collector.specs.declared.Change.{Change}
 use Rattle.collector.specs.declared.Change.the-variants.{Nothing, At}
-use Rattle.collector.specs.Calls.{Answered, answeredBy, withSlots, heardAs, answerAs}
+use Rattle.collector.specs.Calls.{Arrival, heardAs, answerAs}
+use Rattle.collector.specs.State.{State, Reply, state, answering, withSlots}
 
 abbrev pub answerOf : Change → Answer
 answerOf (Nothing answer) = answer
@@ -31,14 +31,19 @@ pub record Came : Type 0 where
   pub change : Change
   pub stores : Stores
 
--- a slot that was offered a segment is put at i
-abbrev pub cameTo : ℕ → Carried → Placed → Came
-cameTo i carried placed = record {
-  change = At i (placed .slot) (answerAs (placed .outcome) (heardAs carried));
+abbrev pub cameTo : ℕ → Heard → Placed → Came
+cameTo i heard placed = record {
+  change = At i (placed .slot) (answerAs (placed .outcome) heard);
   stores = placed .stores;
 }
 
--- the change is made, and its answer counted
-abbrev pub leftBy : Came → Collector → Counts → Answered
-leftBy came c counts =
-    answeredBy (answerOf (came .change)) (withSlots (slotsBy (came .change) (c .slots)) c) counts (came .stores)
+-- a segment is offered to a slot that stands, or is to stand, at i
+abbrev pub offeredAt : ℕ → ℕ → Arrival → Slot → Stores → Came
+offeredAt limit i a slot lent =
+    cameTo i (heardAs a) (placedAt limit i lent (takeInto (a .part) limit (a .segment) slot (lentAt limit i lent)))
+
+-- the change is made, over what is lent as it stands then, and its answer counted
+abbrev pub leftBy : Change → State → Reply
+leftBy change s =
+    answering (answerOf change)
+    (state (withSlots (slotsBy change (s .collector .slots)) (s .collector)) (s .counts) (s .stores))

@@ -5,28 +5,28 @@
 use answer::Answer;
 use answer::Heard;
 use answer::Part;
+use answer::Reason;
 use answer::Refusal;
 use counts::Counts;
 use object::Outcome;
 use object::Slot;
 use object::Stage;
 use slots::Found;
+use wire::Carried;
 use wire::Reading;
-use wire::Segment;
 ghost use mathlib.Core.Path.{_≡_};
 ghost use mathlib.Core.Bool.{true};
 ghost use Prim.Native.Nat.{_<_};
-ghost use Rattle.counts.specs.Counted.{counted};
-ghost use Rattle.object.specs.Take.{takeInto};
 ghost use Rattle.object.specs.Asked.{Offered};
 ghost use Rattle.slots.specs.Find.{findIn};
 ghost use Rattle.slots.specs.Show.{shownOf};
 ghost use Rattle.slots.specs.State.{soundSlots};
-ghost use Rattle.slots.specs.Stores.{slotsMost, slotAt, lentAt};
-ghost use Rattle.slots.specs.Take.{placedAt, Inside};
+ghost use Rattle.slots.specs.Stores.{Stores, slotsMost, slotAt, lentAt};
+ghost use Rattle.slots.specs.Take.{Inside};
 ghost use Rattle.collector.specs.Bounds.{bounds};
-ghost use Rattle.collector.specs.Calls.{Answered, withSlots, soundState, heardAs, answerAs, refusalOf, intoHeld, takeGroup, dropNumber, openedBy, locatedAs, locate, show};
-ghost use Rattle.collector.specs.Changes.{answerOf, slotsBy, placeOf, cameTo, leftBy};
+ghost use Rattle.collector.specs.State.{stores, state, reply, start, opened, sound, answering};
+ghost use Rattle.collector.specs.Calls.{heardIn, arrival, answerAs, intoHeld, takeSegment, refusalOf, takeGroup, dropNumber, openWith, locatedAs, locate, show};
+ghost use Rattle.collector.specs.Changes.{placeOf, leftBy, offeredAt};
 
 // A collector: the limit on a body, how many slots it has, and the slots.
 pub struct Collector {
@@ -56,7 +56,7 @@ pub struct BoundingNumbers {
 // Whether a collector is open, or why it is not.
 pub enum Opening {
     Open,
-    Refused(Answer),
+    Denied(Reason),
 }
 
 // What an opening hands back. A refused one hands back a collector that every call answers with
@@ -64,47 +64,37 @@ pub enum Opening {
 pub struct Opened {
     pub opening: Opening,
     pub collector: Collector,
-}
-
-// An opening by value: the counts that it leaves beside it.
-pub struct CountedOpening {
     pub counts: Counts,
-    pub opened: Opened,
 }
 
 // Where a finished object is, or why it can't be shown.
 pub enum Located {
     At(usize),
-    Refused(Answer),
+    Denied(Reason),
 }
 
 fn located_as(stage: Stage, i: usize) -> Located
     ensures { λ r. ⌜ r ≡ locatedAs stage i ⌝ }
 {
     match stage {
-        Stage::Free => Located::Refused(Answer::NotHeld),
-        Stage::Gathering => Located::Refused(Answer::Unfinished),
+        Stage::Free => Located::Denied(Reason::NotHeld),
+        Stage::Gathering => Located::Denied(Reason::Unfinished),
         Stage::Finished(_, _) => Located::At(i),
     }
 }
 
-// What a call answers, and the collector afterwards.
-pub struct Answered {
+// What a call answers, and the collector and the counts afterwards.
+pub struct Reply {
     pub answer: Answer,
     pub collector: Collector,
+    pub counts: Counts,
 }
 
-// What a group comes to: the answer, and the slot that is put in one place, if one is. It is handed
+// What a segment comes to: the answer, and the slot that is put in one place, if one is. It is handed
 // from function to function in place of the collector, which is more than ten times as large.
 enum Change {
     Nothing(Answer),
     At(usize, Slot, Answer),
-}
-
-// A call by value: the counts that it leaves beside it.
-pub struct CountedAnswer {
-    pub counts: Counts,
-    pub answered: Answered,
 }
 
 fn answer_as(outcome: Outcome, heard: Heard) -> Answer
@@ -118,8 +108,9 @@ fn answer_as(outcome: Outcome, heard: Heard) -> Answer
     }
 }
 
-fn heard_as(carried: Segment) -> Heard
-    ensures { λ r. ⌜ r ≡ heardAs carried ⌝ }
+// The segment that a group carries, by its numbers.
+fn heard_as(carried: Carried) -> Heard
+    ensures { λ r. ⌜ r ≡ heardIn carried ⌝ }
 {
     let part = carried.part;
     Heard {
@@ -134,24 +125,27 @@ fn take_at(
     slot: Slot,
     limit: usize,
     i: usize,
-    carried: Segment,
+    heard: Heard,
+    last: bool,
     bytes: &[u8],
     header: &mut [u8],
     body: &mut [u8],
     marks: &mut [u8],
 ) -> Change
-    requires { ⌜ Inside limit i (record { header = now header; body = now body; marks = now marks }) ⌝ }
-    requires { ⌜ Offered limit slot (lentAt limit i (record { header = now header; body = now body; marks = now marks })) ⌝ }
-    ensures { λ r. ⌜ record { change = r; stores = record { header = now (header .exit); body = now (body .exit); marks = now (marks .exit) } } ≡ cameTo i carried (placedAt limit i (record { header = now (header .entry); body = now (body .entry); marks = now (marks .entry) }) (takeInto (carried .part) limit (record { number = carried .segment; last = carried .last; bytes = now (bytes .entry) }) slot (lentAt limit i (record { header = now (header .entry); body = now (body .entry); marks = now (marks .entry) })))) ⌝ }
+    requires { ⌜ Inside limit i (stores header body marks) ⌝ }
+    requires { ⌜ Offered limit slot (lentAt limit i (stores header body marks)) ⌝ }
+    ensures { λ r. ⌜ record { change = r; stores = stores (header .exit) (body .exit) (marks .exit) }
+        ≡ offeredAt limit i (arrival heard last (now (bytes .entry))) slot
+        (stores (header .entry) (body .entry) (marks .entry)) ⌝ }
 {
-    let part = carried.part;
-    let number = carried.segment as usize;
+    let part = heard.part;
+    let number = heard.segment as usize;
     let took = slots::take_into(
         slot,
         part,
         limit,
         i,
-        carried.last,
+        last,
         number,
         bytes,
         header,
@@ -160,7 +154,7 @@ fn take_at(
     );
     let outcome = took.outcome;
     let after = took.slot;
-    Change::At(i, after, answer_as(outcome, heard_as(carried)))
+    Change::At(i, after, answer_as(outcome, heard))
 }
 
 fn refusal_of(reading: Reading) -> Refusal
@@ -235,8 +229,9 @@ impl Collector {
         header: &[u8],
         body: &[u8],
         marks: &mut [u8],
-    ) -> CountedOpening
-        ensures { λ r. ⌜ record { opening = r .opened .opening; collector = r .opened .collector; counts = r .counts; marks = now (marks .exit) } ≡ openedBy limit count counts (record { header = now (header .entry); body = now (body .entry); marks = now (marks .entry) }) ⌝ }
+    ) -> Opened
+        ensures { λ r. ⌜ opened r (stores (header .entry) (body .entry) (marks .exit))
+            ≡ openWith (start limit count counts (stores (header .entry) (body .entry) (marks .entry))) ⌝ }
     {
         let free = slots::free_slot();
         if !slots::within_limits(limit, count, header.len(), body.len(), marks.len()) {
@@ -245,11 +240,11 @@ impl Collector {
                 count: 0,
                 slots: [free; Collector::SLOTS_MOST],
             };
-            let opened = Opened {
-                opening: Opening::Refused(Answer::Limits),
+            return Opened {
+                opening: Opening::Denied(Reason::Limits),
                 collector: none,
+                counts,
             };
-            return CountedOpening { counts, opened };
         }
         octets::clear(marks);
         let fresh = Collector {
@@ -257,19 +252,16 @@ impl Collector {
             count,
             slots: [free; Collector::SLOTS_MOST],
         };
-        let opened = Opened {
+        Opened {
             opening: Opening::Open,
             collector: fresh,
-        };
-        CountedOpening {
             counts: counts::none_yet(),
-            opened,
         }
     }
 
     // Whether the state is not damaged.
     pub fn is_sound(self, counts: Counts, header: &[u8], body: &[u8], marks: &[u8]) -> bool
-        ensures { λ r. ⌜ r ≡ soundState self counts (record { header = now (header .entry); body = now (body .entry); marks = now (marks .entry) }) ⌝ }
+        ensures { λ r. ⌜ r ≡ sound (state self counts (stores (header .entry) (body .entry) (marks .entry))) ⌝ }
     {
         let slots = self.slots;
         if !slots::sound(self.limit, self.count, slots, header, body, marks) {
@@ -287,17 +279,17 @@ impl Collector {
         body: &[u8],
         marks: &[u8],
     ) -> Located
-        ensures { λ r. ⌜ r ≡ locate number self counts (record { header = now (header .entry); body = now (body .entry); marks = now (marks .entry) }) ⌝ }
+        ensures { λ r. ⌜ r ≡ locate number (state self counts (stores (header .entry) (body .entry) (marks .entry))) ⌝ }
     {
         if !self.is_sound(counts, header, body, marks) {
-            return Located::Refused(Answer::State);
+            return Located::Denied(Reason::State);
         }
         let slots = self.slots;
         let Found::At(i) = slots::find(number, self.count, slots) else {
-            return Located::Refused(Answer::NotHeld);
+            return Located::Denied(Reason::NotHeld);
         };
         if Collector::SLOTS_MOST <= i {
-            return Located::Refused(Answer::NotHeld);
+            return Located::Denied(Reason::NotHeld);
         }
         let slot = self.slots[i];
         let stage = slot.stage;
@@ -306,7 +298,8 @@ impl Collector {
 
     // A part of the finished object in slot i; nothing where there is none.
     pub fn shown_at<'a>(self, part: Part, i: usize, header: &'a [u8], body: &'a [u8]) -> &'a [u8]
-        ensures { λ r. ⌜ now r ≡ shownOf part i (self .limit) (slotAt i (self .slots)) (now (header .entry)) (now (body .entry)) ⌝ }
+        ensures { λ r. ⌜ now r
+            ≡ shownOf part i (self .limit) (slotAt i (self .slots)) (now (header .entry)) (now (body .entry)) ⌝ }
     {
         if Collector::SLOTS_MOST <= i {
             return &header[..0];
@@ -326,7 +319,8 @@ impl Collector {
         body: &'a [u8],
         marks: &[u8],
     ) -> &'a [u8]
-        ensures { λ r. ⌜ now r ≡ show number part self counts (record { header = now (header .entry); body = now (body .entry); marks = now (marks .entry) }) ⌝ }
+        ensures { λ r. ⌜ now r ≡ show number part
+            (state self counts (stores (header .entry) (body .entry) (marks .entry))) ⌝ }
     {
         let Located::At(i) = self.locate(counts, number, header, body, marks) else {
             return &header[..0];
@@ -335,23 +329,20 @@ impl Collector {
     }
 
     // The answer is counted, and nothing else changes.
-    fn answered(self, counts: Counts, answer: Answer) -> CountedAnswer
-        ensures { λ r. ⌜ (r .answered .answer ≡ answer) × (r .answered .collector ≡ self) × (r .counts ≡ counted answer counts) ⌝ }
+    fn answered(self, counts: Counts, answer: Answer) -> Reply
+        ensures { λ r. ⌜ ((lent : Stores) → reply r lent ≡ answering answer (state self counts lent)) ⌝ }
     {
-        let answered = Answered {
+        Reply {
             answer,
             collector: self,
-        };
-        CountedAnswer {
             counts: counts::counted(answer, counts),
-            answered,
         }
     }
 
     // The slot of a change is put in its place, and the answer is counted.
-    fn changed(mut self, counts: Counts, change: Change) -> CountedAnswer
+    fn changed(mut self, counts: Counts, change: Change) -> Reply
         requires { ⌜ placeOf change < slotsMost ⌝ }
-        ensures { λ r. ⌜ (r .answered .answer ≡ answerOf change) × (r .answered .collector ≡ withSlots (slotsBy change (self .slots)) self) × (r .counts ≡ counted (answerOf change) counts) ⌝ }
+        ensures { λ r. ⌜ ((lent : Stores) → reply r lent ≡ leftBy change (state self counts lent)) ⌝ }
     {
         match change {
             Change::Nothing(answer) => self.answered(counts, answer),
@@ -365,46 +356,87 @@ impl Collector {
     // A segment whose number holds no slot.
     fn take_first(
         self,
-        carried: Segment,
+        heard: Heard,
+        last: bool,
         bytes: &[u8],
         header: &mut [u8],
         body: &mut [u8],
         marks: &mut [u8],
     ) -> Change
-        requires { ⌜ soundSlots (self .limit) (self .count) (self .slots) (record { header = now header; body = now body; marks = now marks }) ≡ true ⌝ }
-        ensures { λ r. ⌜ (placeOf r < slotsMost) × ((counts : Counts) → leftBy (record { change = r; stores = record { header = now (header .exit); body = now (body .exit); marks = now (marks .exit) } }) self counts ≡ intoHeld Found.Nothing carried (record { number = carried .segment; last = carried .last; bytes = now (bytes .entry) }) self counts (record { header = now (header .entry); body = now (body .entry); marks = now (marks .entry) })) ⌝ }
+        requires { ⌜ soundSlots (self .limit) (self .count) (self .slots) (stores header body marks) ≡ true ⌝ }
+        ensures { λ r. ⌜ (placeOf r < slotsMost) × ((counts : Counts)
+            → leftBy r (state self counts (stores (header .exit) (body .exit) (marks .exit)))
+            ≡ intoHeld Found.Nothing (arrival heard last (now (bytes .entry)))
+            (state self counts (stores (header .entry) (body .entry) (marks .entry)))) ⌝ }
     {
-        let part = carried.part;
-        let number = carried.segment as usize;
-        if !slots::fits_alone(part, self.limit, carried.last, number, bytes) {
-            return Change::Nothing(Answer::Conflict(heard_as(carried)));
+        let part = heard.part;
+        let number = heard.segment as usize;
+        if !slots::fits_alone(part, self.limit, last, number, bytes) {
+            return Change::Nothing(Answer::Conflict(heard));
         }
         let slots = self.slots;
         let Found::At(i) = slots::free(self.count, slots) else {
-            return Change::Nothing(Answer::Full(heard_as(carried)));
+            return Change::Nothing(Answer::Full(heard));
         };
-        let fresh = slots::fresh_slot(carried.number);
-        take_at(fresh, self.limit, i, carried, bytes, header, body, marks)
+        let fresh = slots::fresh_slot(heard.number);
+        take_at(
+            fresh,
+            self.limit,
+            i,
+            heard,
+            last,
+            bytes,
+            header,
+            body,
+            marks,
+        )
     }
 
-    // A segment that a group carries.
-    fn take_carried(
+    // What a segment comes to, in a sound state.
+    fn take_segment(
         self,
-        carried: Segment,
+        heard: Heard,
+        last: bool,
         bytes: &[u8],
         header: &mut [u8],
         body: &mut [u8],
         marks: &mut [u8],
     ) -> Change
-        requires { ⌜ soundSlots (self .limit) (self .count) (self .slots) (record { header = now header; body = now body; marks = now marks }) ≡ true ⌝ }
-        ensures { λ r. ⌜ (placeOf r < slotsMost) × ((counts : Counts) → leftBy (record { change = r; stores = record { header = now (header .exit); body = now (body .exit); marks = now (marks .exit) } }) self counts ≡ intoHeld (findIn (carried .number) (self .count) (self .slots)) carried (record { number = carried .segment; last = carried .last; bytes = now (bytes .entry) }) self counts (record { header = now (header .entry); body = now (body .entry); marks = now (marks .entry) })) ⌝ }
+        requires { ⌜ soundSlots (self .limit) (self .count) (self .slots) (stores header body marks) ≡ true ⌝ }
+        ensures { λ r. ⌜ (placeOf r < slotsMost) × ((counts : Counts)
+            → leftBy r (state self counts (stores (header .exit) (body .exit) (marks .exit)))
+            ≡ intoHeld (findIn (heard .number) (self .count) (self .slots)) (arrival heard last (now (bytes .entry)))
+            (state self counts (stores (header .entry) (body .entry) (marks .entry)))) ⌝ }
     {
         let slots = self.slots;
-        let Found::At(i) = slots::find(carried.number, self.count, slots) else {
-            return self.take_first(carried, bytes, header, body, marks);
+        let Found::At(i) = slots::find(heard.number, self.count, slots) else {
+            return self.take_first(heard, last, bytes, header, body, marks);
         };
         let old = self.slots[i];
-        take_at(old, self.limit, i, carried, bytes, header, body, marks)
+        take_at(old, self.limit, i, heard, last, bytes, header, body, marks)
+    }
+
+    // Takes a segment, by value, whatever brought it: its transport number, part and segment number,
+    // whether it is the last one, and its bytes.
+    pub fn segment_taken(
+        self,
+        counts: Counts,
+        heard: Heard,
+        last: bool,
+        bytes: &[u8],
+        header: &mut [u8],
+        body: &mut [u8],
+        marks: &mut [u8],
+    ) -> Reply
+        ensures { λ r. ⌜ reply r (stores (header .exit) (body .exit) (marks .exit))
+            ≡ takeSegment (arrival heard last (now (bytes .entry)))
+            (state self counts (stores (header .entry) (body .entry) (marks .entry))) ⌝ }
+    {
+        if !self.is_sound(counts, header, body, marks) {
+            return self.answered(counts, Answer::Denied(Reason::State));
+        }
+        let change = self.take_segment(heard, last, bytes, header, body, marks);
+        self.changed(counts, change)
     }
 
     // What a group comes to.
@@ -416,10 +448,13 @@ impl Collector {
         body: &mut [u8],
         marks: &mut [u8],
     ) -> Change
-        ensures { λ r. ⌜ (placeOf r < slotsMost) × (leftBy (record { change = r; stores = record { header = now (header .exit); body = now (body .exit); marks = now (marks .exit) } }) self counts ≡ takeGroup (now (group .entry)) self counts (record { header = now (header .entry); body = now (body .entry); marks = now (marks .entry) })) ⌝ }
+        ensures { λ r. ⌜ (placeOf r < slotsMost)
+            × (leftBy r (state self counts (stores (header .exit) (body .exit) (marks .exit)))
+            ≡ takeGroup (now (group .entry))
+            (state self counts (stores (header .entry) (body .entry) (marks .entry)))) ⌝ }
     {
         if !self.is_sound(counts, header, body, marks) {
-            return Change::Nothing(Answer::State);
+            return Change::Nothing(Answer::Denied(Reason::State));
         }
         let reading = wire::read(group);
         let Reading::Read(carried) = reading else {
@@ -427,7 +462,14 @@ impl Collector {
         };
         let start = carried.start;
         let end = start + carried.length;
-        self.take_carried(carried, &group[start..end], header, body, marks)
+        self.take_segment(
+            heard_as(carried),
+            carried.last,
+            &group[start..end],
+            header,
+            body,
+            marks,
+        )
     }
 
     // Takes a group, by value.
@@ -438,8 +480,10 @@ impl Collector {
         header: &mut [u8],
         body: &mut [u8],
         marks: &mut [u8],
-    ) -> CountedAnswer
-        ensures { λ r. ⌜ record { answer = r .answered .answer; collector = r .answered .collector; counts = r .counts; stores = record { header = now (header .exit); body = now (body .exit); marks = now (marks .exit) } } ≡ takeGroup (now (group .entry)) self counts (record { header = now (header .entry); body = now (body .entry); marks = now (marks .entry) }) ⌝ }
+    ) -> Reply
+        ensures { λ r. ⌜ reply r (stores (header .exit) (body .exit) (marks .exit))
+            ≡ takeGroup (now (group .entry))
+            (state self counts (stores (header .entry) (body .entry) (marks .entry))) ⌝ }
     {
         let change = self.take_group(counts, group, header, body, marks);
         self.changed(counts, change)
@@ -453,15 +497,16 @@ impl Collector {
         header: &[u8],
         body: &[u8],
         marks: &mut [u8],
-    ) -> CountedAnswer
-        ensures { λ r. ⌜ record { answer = r .answered .answer; collector = r .answered .collector; counts = r .counts; stores = record { header = now (header .entry); body = now (body .entry); marks = now (marks .exit) } } ≡ dropNumber number self counts (record { header = now (header .entry); body = now (body .entry); marks = now (marks .entry) }) ⌝ }
+    ) -> Reply
+        ensures { λ r. ⌜ reply r (stores (header .entry) (body .entry) (marks .exit))
+            ≡ dropNumber number (state self counts (stores (header .entry) (body .entry) (marks .entry))) ⌝ }
     {
         if !self.is_sound(counts, header, body, marks) {
-            return self.answered(counts, Answer::State);
+            return self.answered(counts, Answer::Denied(Reason::State));
         }
         let slots = self.slots;
         let Found::At(i) = slots::find(number, self.count, slots) else {
-            return self.answered(counts, Answer::NotHeld);
+            return self.answered(counts, Answer::Denied(Reason::NotHeld));
         };
         let all = slots::drop_at(i, slots, marks);
         let next = Collector {

@@ -6,7 +6,7 @@ use Rattle.answer.specs.declared.Part.{Part}
 use Rattle.answer.specs.declared.Part.the-variants.{Header, Body}
 use Rattle.answer.specs.declared.Answer.the-variants as Answer
 use Rattle.answer.specs.Table.{numberOf}
-use Rattle.wire.specs.declared.Segment.{Segment}
+use Rattle.wire.specs.declared.Carried.{Carried}
 use Rattle.wire.specs.declared.Reading.{Reading}
 use Rattle.wire.specs.declared.Reading.the-variants.{Read, Refused}
 
@@ -19,7 +19,7 @@ partNumber Header = 0
 partNumber Body = 1
 
 -- field 0 is a refusal's number in document 01; 1 to 6 are what is read
-unfoldable pub segmentField : Segment → ℕ → ℕ
+unfoldable pub segmentField : Carried → ℕ → ℕ
 segmentField segment field =
     cond (eqb field 1) (segment .number)
     (cond (eqb field 2) (partNumber (segment .part))

@@ -3,6 +3,7 @@ use mathlib.Core.Bool.{cond}
 use Prim.Native.Nat.{ℕ, _+_}
 use lib.Dec.{eqb}
 use Rattle.answer.specs.declared.Answer.the-variants as Answer
+use Rattle.answer.specs.declared.Reason.the-variants as Reason
 use Rattle.answer.specs.Table.{numberOf}
 use Rattle.header.specs.declared.Fields.{Fields}
 use Rattle.header.specs.declared.Name.{Name}
@@ -16,9 +17,9 @@ use Rattle.header.specs.declared.Refusal.the-variants as Refusal
 use Rattle.comparison.specs.Fields.{refusalField}
 
 abbrev pub refusalNumber : Refusal → ℕ
-refusalNumber Refusal.Core = numberOf Answer.Core
-refusalNumber Refusal.Header = numberOf Answer.Header
-refusalNumber Refusal.Duplicate = numberOf Answer.Duplicate
+refusalNumber Refusal.Core = numberOf (Answer.Denied Reason.Core)
+refusalNumber Refusal.Header = numberOf (Answer.Denied Reason.Header)
+refusalNumber Refusal.Duplicate = numberOf (Answer.Denied Reason.Duplicate)
 
 -- a priority that is there is one more than its byte
 abbrev pub priorityNumber : Priority → ℕ

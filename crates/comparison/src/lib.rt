@@ -5,8 +5,8 @@ mod headers;
 
 use answer::Answer;
 use answer::Part;
+use wire::Carried;
 use wire::Reading;
-use wire::Segment;
 ghost use mathlib.Core.Path.{_≡_};
 ghost use Rattle.crc.specs.CheckWord.{checkWord};
 ghost use Rattle.wire.specs.Reading.{readingOf};
@@ -34,7 +34,7 @@ fn part_number(part: Part) -> u64
     }
 }
 
-fn segment_field(segment: Segment, field: u8) -> u64
+fn segment_field(segment: Carried, field: u8) -> u64
     ensures { λ r. ⌜ r ≡ segmentField segment field ⌝ }
 {
     let part = segment.part;

@@ -71,14 +71,7 @@ pub fn counted(answer: Answer, counts: Counts) -> Counts
             next.refused = risen(counts.refused);
             next
         }
-        Answer::NotHeld => counts,
-        Answer::Unfinished => counts,
-        Answer::Header => counts,
-        Answer::Duplicate => counts,
-        Answer::Core => counts,
-        Answer::NotFound => counts,
-        Answer::Limits => counts,
-        Answer::State => counts,
+        Answer::Denied(_) => counts,
     }
 }
 

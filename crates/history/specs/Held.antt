@@ -1,12 +1,27 @@
--- What is held for a number in a state: its slot and its stage, whether a slot is there for it, and when two states hold the
--- same for it.
+-- What is held for a number in a state: its slot and its stage, whether a slot is there for it, and when two states
+-- hold the same for it.
 use mathlib.Core.Path.{_≡_}
 use Prim.Native.Nat.{ℕ}
+use Rattle.object.specs.declared.Slot.{Slot}
 use Rattle.object.specs.declared.Stage.{Stage}
 use Rattle.object.specs.declared.Stage.the-variants as Stage
+use Rattle.object.specs.Take.{Lent}
 use Rattle.slots.specs.declared.Found.{Found}
 use Rattle.slots.specs.declared.Found.the-variants.{Nothing, At}
-use Rattle.history.specs.laws.Call.{State, limitOf, slotOf, lentOf, find, free}
+use Rattle.slots.specs.Stores.{lentAt, slotAt}
+use Rattle.collector.specs.State.{State}
+use Rattle.collector.specs.Calls.{find, free}
+
+-- the limit on a body
+abbrev pub limitOf : State → ℕ
+limitOf s = s .collector .limit
+
+-- a slot and its shares
+abbrev pub slotOf : ℕ → State → Slot
+slotOf i s = slotAt i (s .collector .slots)
+
+abbrev pub lentOf : ℕ → State → Lent
+lentOf i s = lentAt (limitOf s) i (s .stores)
 
 -- the stage of the slot that holds a number; free where none does
 abbrev pub stageAt : Found → State → Stage

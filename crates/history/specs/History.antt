@@ -11,24 +11,22 @@ use Rattle.answer.specs.declared.Answer.{Answer}
 use Rattle.answer.specs.declared.Part.{Part}
 use Rattle.answer.specs.declared.Part.the-variants.{Header, Body}
 use Rattle.answer.specs.Table.{numberOf}
-use Rattle.counts.specs.declared.Counts.{Counts}
-use Rattle.wire.specs.declared.Segment.{Segment as Carried}
+use Rattle.wire.specs.declared.Carried.{Carried}
 use Rattle.wire.specs.declared.Reading.{Reading}
 use Rattle.wire.specs.declared.Reading.the-variants.{Read, Refused}
 use Rattle.wire.specs.Reading.{readingOf}
 use Rattle.cut.specs.Lists.{pick, Bytes}
 use Rattle.cut.specs.Requirement.{Segment}
 use Rattle.cut.specs.Parts.{headersWith, bodiesWith}
-use Rattle.slots.specs.Stores.{Stores}
 use Rattle.slots.specs.State.{Limits}
 use Rattle.collector.specs.declared.Located.{Located}
-use Rattle.collector.specs.declared.Opening.{Opening}
-use Rattle.collector.specs.Calls.{segmentIn, openedBy}
+use Rattle.collector.specs.State.{Start, Opened, Reply, State}
+use Rattle.collector.specs.Calls.{segmentIn, takeGroup, dropNumber, openWith, locate}
+use Rattle.collector.specs.Calls as calls
+use Rattle.queries.specs.Questions as queries
 use Rattle.queries.specs.declared.Asked.{Asked}
 use Rattle.queries.specs.declared.Sought.{Sought}
-use Rattle.history.specs.laws.Call.{State, Reply, taking, dropping, opening}
 use Rattle.history.specs.laws.Ready.{OfBytes}
-use Rattle.history.specs.Asking.{locating, showing, telling, naming, finding}
 
 -- a part of a finished object is asked for, what its header says, its name, or whose a name is
 pub data Question : Type 0 where
@@ -55,8 +53,8 @@ Elsewhere number (hand bytes) = (carried : Carried) → readingOf bytes ≡ Read
 Elsewhere number (drop other) = number ≢ other
 Elsewhere number (ask question) = Unit {0}
 
--- what comes back of a question: where the object is, with the part itself; what its header says; that, with the data of its
--- name; or whose the name is
+-- what comes back of a question: where the object is, with the part itself; what its header says; that, with the data
+-- of its name; or whose the name is
 pub data Said : Type 0 where
   shown : (located : Located) (bytes : List ℕ) → Said
   read : (fields : Asked) → Said
@@ -71,31 +69,20 @@ pub data Event : Type 0 where
 
 -- ---- since an opening
 
--- what an opening is handed
-pub record Start : Type 0 where
-  pub limit : ℕ
-  pub count : ℕ
-  pub counts : Counts
-  pub stores : Stores
-
 -- the limit and the number of slots are within their bounds, and what is lent has the lengths that they give
 abbrev pub Within : Start → Type 0
-Within start = Limits (start .limit) (start .count) (length (start .stores .header)) (length (start .stores .body)) (length (start .stores .marks))
+Within start = Limits (start .limit) (start .count) (length (start .stores .header)) (length (start .stores .body))
+    (length (start .stores .marks))
 
 -- and it is bytes, as all memory is
 pub record Allowed (start : Start) : Type 0 where
   pub limits : Within start
   pub bytes : OfBytes (start .stores)
 
--- what an opening is answered and leaves
-pub record Begun : Type 0 where
-  pub opening : Opening
-  pub left : State
-
--- a collector, as a history of calls meets it: what an opening, a group and a drop are answered and leave, what each question
--- is answered, and what a question leaves
+-- a collector, as a history of calls meets it: what an opening, a group and a drop are answered and leave, what each
+-- question is answered, and what a question leaves
 pub record Collecting : Type 0 where
-  pub opens : Start → Begun
+  pub opens : Start → Opened
   pub takes : List ℕ → State → Reply
   pub drops : ℕ → State → Reply
   pub locates : ℕ → State → Located
@@ -152,7 +139,9 @@ with Body part s segments = bodiesWith part s segments
 -- the segment of a group under the number, if its answer passes the test
 abbrev pub afterGroup : (Answer → Bool) → Part → ℕ → Reading → List ℕ → Answer → List Segment → List Segment
 afterGroup test part number (Refused why) bytes answer segments = segments
-afterGroup test part number (Read carried) bytes answer segments = pick (eqb (carried .number) number) (pick (test answer) (with part (carried .part) (segmentIn bytes carried) segments) segments) segments
+afterGroup test part number (Read carried) bytes answer segments =
+    pick (eqb (carried .number) number)
+    (pick (test answer) (with part (carried .part) (segmentIn bytes carried) segments) segments) segments
 
 -- a drop of the number leaves none
 abbrev pub afterDrop : ℕ → ℕ → Answer → List Segment → List Segment
@@ -161,7 +150,8 @@ afterDrop number other answer segments = pick (eqb other number) (pick (isDroppe
 -- the segments of a part that came under a number since it was last dropped, with an answer that passes the test
 unfoldable pub under : (Answer → Bool) → Part → ℕ → List Event → List Segment
 under test part number [] = []
-under test part number (handed bytes answer ∷ events) = afterGroup test part number (readingOf bytes) bytes answer (under test part number events)
+under test part number (handed bytes answer ∷ events) =
+    afterGroup test part number (readingOf bytes) bytes answer (under test part number events)
 under test part number (dropped other answer ∷ events) = afterDrop number other answer (under test part number events)
 under test part number (asked question said ∷ events) = under test part number events
 
@@ -169,13 +159,8 @@ under test part number (asked question said ∷ events) = under test part number
 abbrev pub storedUnder : Part → ℕ → List Event → List Segment
 storedUnder = under isStored
 
--- ---- the collector's own definitions: the laws speak of them, and the promises of our collector, which is made of them
-
-abbrev pub opened : Start → State
-opened start = opening (start .limit) (start .count) (start .counts) (start .stores)
-
-abbrev pub begun : Start → Begun
-begun start = record { opening = openedBy (start .limit) (start .count) (start .counts) (start .stores) .opening; left = opened start }
+-- ---- the collector's own definitions: the laws speak of them, and the promises of our collector, which is made of
+-- them
 
 -- a question is lent nothing that it could change
 abbrev pub asking : Question → State → State
@@ -183,13 +168,13 @@ asking question s = s
 
 abbrev pub defined : Collecting
 defined = record {
-  opens = begun;
-  takes = taking;
-  drops = dropping;
-  locates = locating;
-  shows = showing;
-  tells = telling;
-  names = naming;
-  finds = finding;
+  opens = openWith;
+  takes = takeGroup;
+  drops = dropNumber;
+  locates = locate;
+  shows = calls.show;
+  tells = queries.parameters;
+  names = queries.name;
+  finds = queries.find;
   asks = asking;
 }

@@ -1,4 +1,3 @@
-pub mod Asking
 pub mod Held
 pub mod History
 pub mod Promise

@@ -10,6 +10,7 @@ use lib.ListN.{length}
 use Rattle.octets.specs.Octets.{zeros}
 use Rattle.answer.specs.declared.Answer.{Answer}
 use Rattle.answer.specs.declared.Answer.the-variants as Answer
+use Rattle.answer.specs.declared.Reason.the-variants as Reason
 use Rattle.answer.specs.declared.Heard.{Heard}
 use Rattle.answer.specs.declared.Part.{Part}
 use Rattle.answer.specs.declared.Part.the-variants.{Header, Body}
@@ -17,7 +18,7 @@ use Rattle.answer.specs.declared.Refusal.{Refusal}
 use Rattle.answer.specs.Table.{numberOf}
 use Rattle.counts.specs.declared.Counts.{Counts}
 use Rattle.counts.specs.Counted.{ceiling, noneYet, oneRepeated, oneRefused}
-use Rattle.wire.specs.declared.Segment.{Segment as Carried}
+use Rattle.wire.specs.declared.Carried.{Carried}
 use Rattle.wire.specs.declared.Reading.the-variants.{Read, Refused}
 use Rattle.wire.specs.Reading.{readingOf}
 use Rattle.cut.specs.Lists.{pick, Each, Among, Bytes}
@@ -34,16 +35,16 @@ use Rattle.names.specs.Requirement.{Named}
 use Rattle.names.specs.Finding.{nameData}
 use Rattle.collector.specs.declared.Located.the-variants as Located
 use Rattle.collector.specs.declared.Opening.the-variants as Opening
-use Rattle.collector.specs.Calls.{heardAs, segmentIn, allFree}
+use Rattle.collector.specs.State.{Start, State}
+use Rattle.collector.specs.Calls.{Arrival, find, free, segmentIn, arrivalIn, heardIn, allFree}
 use Rattle.queries.specs.declared.Asked.the-variants as Asked
 use Rattle.queries.specs.declared.Sought.the-variants as Sought
 use Rattle.queries.specs.Questions.{askedAs}
-use Rattle.history.specs.laws.Call.{State, limitOf, slotOf, find, free}
+use Rattle.history.specs.Held.{Same, SlotFor, limitOf, slotOf, stageFor}
 use Rattle.history.specs.laws.Ready.{OfBytes}
 use Rattle.history.specs.laws.State.{InOrder}
 use Rattle.history.specs.laws.Answers.{markedUnder}
-use Rattle.history.specs.Held.{stageFor, SlotFor, Same}
-use Rattle.history.specs.History.{Question, Call, drop, CallBytes, Elsewhere, shown, read, named, found, Event, handed, dropped, asked, Start, Within, Allowed, Collecting, after, reached, told, under, storedUnder}
+use Rattle.history.specs.History.{Question, Call, drop, CallBytes, Elsewhere, shown, read, named, found, Event, handed, dropped, asked, Within, Allowed, Collecting, after, reached, told, under, storedUnder}
 
 -- ---- the words
 
@@ -72,11 +73,14 @@ pub record Passing : Type 0 where
   pub carried : Carried
   pub read : readingOf bytes ≡ Read carried
 
+abbrev pub arrivalOf : Passing → Arrival
+arrivalOf g = arrivalIn (g .bytes) (g .carried)
+
 abbrev pub segmentOf : Passing → Segment
 segmentOf g = segmentIn (g .bytes) (g .carried)
 
 abbrev pub heardOf : Passing → Heard
-heardOf g = heardAs (g .carried)
+heardOf g = heardIn (g .carried)
 
 -- ---- what an answer is told by
 
@@ -114,12 +118,12 @@ Missing v number = (f : FitsStored v number) → ¬ (Finished f)
 
 -- the answer that came back is not STATE
 abbrev pub NotState : Event → Type 0
-NotState (handed bytes answer) = answer ≢ Answer.State
-NotState (dropped number answer) = answer ≢ Answer.State
-NotState (asked question (shown located bytes)) = located ≢ Located.Refused Answer.State
-NotState (asked question (read fields)) = fields ≢ Asked.Refused Answer.State
-NotState (asked question (named fields bytes)) = fields ≢ Asked.Refused Answer.State
-NotState (asked question (found whose)) = whose ≢ Sought.Refused Answer.State
+NotState (handed bytes answer) = answer ≢ Answer.Denied Reason.State
+NotState (dropped number answer) = answer ≢ Answer.Denied Reason.State
+NotState (asked question (shown located bytes)) = located ≢ Located.Denied Reason.State
+NotState (asked question (read fields)) = fields ≢ Asked.Denied Reason.State
+NotState (asked question (named fields bytes)) = fields ≢ Asked.Denied Reason.State
+NotState (asked question (found whose)) = whose ≢ Sought.Denied Reason.State
 
 -- ---- the five counts
 
@@ -211,7 +215,7 @@ module _ (k : Collecting) (v : View) where
   abbrev pub DropBy : Type 0
   DropBy = (number : ℕ)
       → ((k .drops number (v .state) .answer ≡ Answer.Dropped number) ↔ (find number (v .state) ≢ Nothing))
-      × ((k .drops number (v .state) .answer ≡ Answer.NotHeld) ↔ (find number (v .state) ≡ Nothing))
+      × ((k .drops number (v .state) .answer ≡ Answer.Denied Reason.NotHeld) ↔ (find number (v .state) ≡ Nothing))
 
   -- A number holds no slot exactly when nothing is stored under it.
   abbrev pub UnheldBy : Type 0
@@ -221,15 +225,15 @@ module _ (k : Collecting) (v : View) where
   -- An object that is asked for, or its parameters: NOTHELD exactly when its number holds no slot.
   abbrev pub NotHeldBy : Type 0
   NotHeldBy = (number : ℕ)
-      → ((k .locates number (v .state) ≡ Located.Refused Answer.NotHeld) ↔ (find number (v .state) ≡ Nothing))
-      × ((k .tells number (v .state) ≡ Asked.Refused Answer.NotHeld) ↔ (find number (v .state) ≡ Nothing))
+      → ((k .locates number (v .state) ≡ Located.Denied Reason.NotHeld) ↔ (find number (v .state) ≡ Nothing))
+      × ((k .tells number (v .state) ≡ Asked.Denied Reason.NotHeld) ↔ (find number (v .state) ≡ Nothing))
 
   -- UNFINISHED exactly when it holds one and some segment is missing.
   abbrev pub UnfinishedBy : Type 0
   UnfinishedBy = (number : ℕ)
-      → ((k .locates number (v .state) ≡ Located.Refused Answer.Unfinished)
+      → ((k .locates number (v .state) ≡ Located.Denied Reason.Unfinished)
       ↔ ((find number (v .state) ≢ Nothing) × Missing v number))
-      × ((k .tells number (v .state) ≡ Asked.Refused Answer.Unfinished)
+      × ((k .tells number (v .state) ≡ Asked.Denied Reason.Unfinished)
       ↔ ((find number (v .state) ≢ Nothing) × Missing v number))
 
   -- It is located exactly when every segment is in, in the slot that holds its number.
@@ -267,7 +271,7 @@ module _ (k : Collecting) (v : View) where
 
   -- NOTFOUND exactly when no finished object has it.
   abbrev pub NotFoundBy : Type 0
-  NotFoundBy = (sought : List ℕ) → (k .finds sought (v .state) ≡ Sought.Refused Answer.NotFound)
+  NotFoundBy = (sought : List ℕ) → (k .finds sought (v .state) ≡ Sought.Denied Reason.NotFound)
       ↔ ((number : ℕ) (f : FitsStored v number) → Finished f → ¬ (Named sought (f .header)))
 
 -- all of it
@@ -315,7 +319,8 @@ module _ (k : Collecting) where
 
   -- STATE exactly when the state is damaged: document 01's list.
   abbrev pub StateExactly : Type 0
-  StateExactly = (bytes : List ℕ) (s : State) → OfBytes (s .stores) → (k .takes bytes s .answer ≡ Answer.State)
+  StateExactly = (bytes : List ℕ) (s : State) → OfBytes (s .stores)
+      → (k .takes bytes s .answer ≡ Answer.Denied Reason.State)
       ↔ (¬ (InOrder s))
 
   -- Any other state is answered as if its marked segments had been stored.
@@ -325,7 +330,7 @@ module _ (k : Collecting) where
   -- An opening is LIMITS exactly when it is outside the bounds or a lent length is wrong, and else the collector is
   -- open.
   abbrev pub LimitsExactly : Type 0
-  LimitsExactly = (start : Start) → ((k .opens start .opening ≡ Opening.Refused Answer.Limits) ↔ (¬ (Within start)))
+  LimitsExactly = (start : Start) → ((k .opens start .opening ≡ Opening.Denied Reason.Limits) ↔ (¬ (Within start)))
       × ((k .opens start .opening ≡ Opening.Open) ↔ Within start)
 
   -- Then all slots are free, all marks and counts are 0, and no store is touched.
@@ -357,7 +362,8 @@ module _ (k : Collecting) where
 
   -- A drop is answered STATE exactly when the state is damaged.
   abbrev pub StateDropExactly : Type 0
-  StateDropExactly = (number : ℕ) (s : State) → OfBytes (s .stores) → (k .drops number s .answer ≡ Answer.State)
+  StateDropExactly = (number : ℕ) (s : State) → OfBytes (s .stores)
+      → (k .drops number s .answer ≡ Answer.Denied Reason.State)
       ↔ (¬ (InOrder s))
 
   -- A drop touches no store byte, in any state.
@@ -368,9 +374,9 @@ module _ (k : Collecting) where
   -- A question is answered STATE exactly when the state is damaged, and then nothing is shown and no name is given.
   abbrev pub StateAskExactly : Type 0
   StateAskExactly = (s : State) → OfBytes (s .stores)
-      → ((number : ℕ) → (k .locates number s ≡ Located.Refused Answer.State) ↔ (¬ (InOrder s)))
-      × ((number : ℕ) → (k .tells number s ≡ Asked.Refused Answer.State) ↔ (¬ (InOrder s)))
-      × ((sought : List ℕ) → (k .finds sought s ≡ Sought.Refused Answer.State) ↔ (¬ (InOrder s)))
+      → ((number : ℕ) → (k .locates number s ≡ Located.Denied Reason.State) ↔ (¬ (InOrder s)))
+      × ((number : ℕ) → (k .tells number s ≡ Asked.Denied Reason.State) ↔ (¬ (InOrder s)))
+      × ((sought : List ℕ) → (k .finds sought s ≡ Sought.Denied Reason.State) ↔ (¬ (InOrder s)))
       × (¬ (InOrder s) → (number : ℕ) → ((part : Part) → k .shows number part s ≡ []) × (k .names number s ≡ []))
 
   -- A question changes nothing, in any state.

@@ -39,7 +39,8 @@ bodyWord (Finished header body) = body
 -- a slot's number, stage and lengths, and the records of its header and its body
 abbrev pub slotWords : Slot → List ℕ
 slotWords slot =
-    five (slot .number) (stageTag (slot .stage)) (headerWord (slot .stage)) (bodyWord (slot .stage)) (slot .header .size)
+    five (slot .number) (stageTag (slot .stage)) (headerWord (slot .stage)) (bodyWord (slot .stage))
+    (slot .header .size)
     ++ five (slot .header .end) (slot .header .tail) (slot .body .size) (slot .body .end) (slot .body .tail)
 
 unfoldable pub slotsWords : List Slot → List ℕ
@@ -71,7 +72,13 @@ unfoldable pub recordAt : List ℕ → ℕ → Record
 recordAt words at = record { size = word words at; end = word words (at + 1); tail = word words (at + 2) }
 
 unfoldable pub slotIn : List ℕ → ℕ → Slot
-slotIn words at = record { number = numberFrom (word words at); stage = stageAt words (at + 1); header = recordAt words (at + 4); body = recordAt words (at + 7) }
+slotIn words at = record {
+  number = numberFrom (word words at);
+  stage = stageAt words (at + 1);
+  header =
+      recordAt words (at + 4);
+  body = recordAt words (at + 7);
+}
 
 unfoldable pub slotsFrom : List ℕ → ℕ → ℕ → List Slot
 slotsFrom words zero at = []
@@ -81,13 +88,21 @@ unfoldable pub collectorFrom : List ℕ → Collector
 collectorFrom words = record { limit = word words 0; count = word words 1; slots = slotsFrom words slotsMost 2 }
 
 abbrev pub countsFrom : List ℕ → Counts
-countsFrom words = record { taken = word words 0; repeated = word words 1; refused = word words 2; completed = word words 3; dropped = word words 4 }
+countsFrom words = record {
+  taken = word words 0;
+  repeated = word words 1;
+  refused = word words 2;
+  completed =
+      word words 3;
+  dropped = word words 4;
+}
 
 -- ---- whether words hold a state
 
 -- a slot's stage is one of the three, and a number that is held has 16 bits; a free slot's other words play no part
 unfoldable pub slotReadable : List ℕ → ℕ → Bool
-slotReadable words at = pick (eqb (word words (at + 1)) 0) true (pick (leb (word words (at + 1)) 2) (ltb (word words at) 65536) false)
+slotReadable words at = pick (eqb (word words (at + 1)) 0) true
+    (pick (leb (word words (at + 1)) 2) (ltb (word words at) 65536) false)
 
 unfoldable pub readableFrom : List ℕ → ℕ → ℕ → Bool
 readableFrom words zero at = true
@@ -95,4 +110,5 @@ readableFrom words (suc n) at = both (slotReadable words at) (readableFrom words
 
 -- so are the slots up to the number of slots
 unfoldable pub readable : List ℕ → Bool
-readable words = pick (eqb (length words) 162) (pick (leb (word words 1) slotsMost) (readableFrom words (word words 1) 2) false) false
+readable words = pick (eqb (length words) 162)
+    (pick (leb (word words 1) slotsMost) (readableFrom words (word words 1) 2) false) false

@@ -2,13 +2,98 @@
 // one record that the caller lends, updated where it stands. Each function is thin: it reads the counts
 // out, hands them to the call by value, writes back what it leaves and returns the rest. What it answers
 // and all that it leaves is the same definition as that of the call by value
-// (collector/specs/Calls.antt).
-use collector::Answered;
+// (collector/specs/Calls.antt). Beside each stands a function that lends a local record for the call,
+// for callers that have the counts by value.
+use answer::Answer;
 use collector::Collector;
-use collector::Opened;
+use collector::Opening;
 use counts::Counts;
 ghost use mathlib.Core.Path.{_≡_};
-ghost use Rattle.collector.specs.Calls.{takeGroup, dropNumber, openedBy};
+ghost use Rattle.collector.specs.State.{stores, state, start};
+ghost use Rattle.collector.specs.Calls.{takeGroup, dropNumber, openWith};
+ghost use Rattle.lent_calls.specs.Lent.{answered, begun};
+
+// What a call answers, and the collector afterwards.
+pub struct Answered {
+    pub answer: Answer,
+    pub collector: Collector,
+}
+
+// Whether a collector is open, and the collector.
+pub struct Begun {
+    pub opening: Opening,
+    pub collector: Collector,
+}
+
+// A call by value: the counts that it leaves beside it.
+pub struct CountedAnswer {
+    pub counts: Counts,
+    pub answered: Answered,
+}
+
+// An opening by value: the counts that it leaves beside it.
+pub struct CountedOpening {
+    pub counts: Counts,
+    pub begun: Begun,
+}
+
+fn open_counted(
+    limit: usize,
+    count: usize,
+    counts: Counts,
+    header: &[u8],
+    body: &[u8],
+    marks: &mut [u8],
+) -> CountedOpening
+    ensures { λ r. ⌜ begun (r .begun) (r .counts) (stores (header .entry) (body .entry) (marks .exit))
+        ≡ openWith (start limit count counts (stores (header .entry) (body .entry) (marks .entry))) ⌝ }
+{
+    let opened = Collector::opened(limit, count, counts, header, body, marks);
+    let opening = opened.opening;
+    let collector = opened.collector;
+    let counts = opened.counts;
+    let begun = Begun { opening, collector };
+    CountedOpening { counts, begun }
+}
+
+fn take_counted(
+    collector: Collector,
+    counts: Counts,
+    group: &[u8],
+    header: &mut [u8],
+    body: &mut [u8],
+    marks: &mut [u8],
+) -> CountedAnswer
+    ensures { λ r. ⌜ answered (r .answered) (r .counts) (stores (header .exit) (body .exit) (marks .exit))
+        ≡ takeGroup (now (group .entry))
+        (state collector counts (stores (header .entry) (body .entry) (marks .entry))) ⌝ }
+{
+    let reply = collector.taken(counts, group, header, body, marks);
+    let answer = reply.answer;
+    let collector = reply.collector;
+    let counts = reply.counts;
+    let answered = Answered { answer, collector };
+    CountedAnswer { counts, answered }
+}
+
+fn drop_counted(
+    collector: Collector,
+    counts: Counts,
+    number: u16,
+    header: &[u8],
+    body: &[u8],
+    marks: &mut [u8],
+) -> CountedAnswer
+    ensures { λ r. ⌜ answered (r .answered) (r .counts) (stores (header .entry) (body .entry) (marks .exit))
+        ≡ dropNumber number (state collector counts (stores (header .entry) (body .entry) (marks .entry))) ⌝ }
+{
+    let reply = collector.dropped(counts, number, header, body, marks);
+    let answer = reply.answer;
+    let collector = reply.collector;
+    let counts = reply.counts;
+    let answered = Answered { answer, collector };
+    CountedAnswer { counts, answered }
+}
 
 // Opens a collector, and sets the counts to 0 where they stand; LIMITS leaves them as they are.
 pub fn open(
@@ -18,12 +103,13 @@ pub fn open(
     header: &[u8],
     body: &[u8],
     marks: &mut [u8],
-) -> Opened
-    ensures { λ r. ⌜ record { opening = r .opening; collector = r .collector; counts = now (counts .exit); marks = now (marks .exit) } ≡ openedBy limit count (now (counts .entry)) (record { header = now (header .entry); body = now (body .entry); marks = now (marks .entry) }) ⌝ }
+) -> Begun
+    ensures { λ r. ⌜ begun r (now (counts .exit)) (stores (header .entry) (body .entry) (marks .exit))
+        ≡ openWith (start limit count (now (counts .entry)) (stores (header .entry) (body .entry) (marks .entry))) ⌝ }
 {
-    let opened = Collector::opened(limit, count, *counts, header, body, marks);
+    let opened = open_counted(limit, count, *counts, header, body, marks);
     *counts = opened.counts;
-    opened.opened
+    opened.begun
 }
 
 // Takes a group: what comes of it is answered, and counted where the counts stand.
@@ -35,9 +121,11 @@ pub fn take(
     body: &mut [u8],
     marks: &mut [u8],
 ) -> Answered
-    ensures { λ r. ⌜ record { answer = r .answer; collector = r .collector; counts = now (counts .exit); stores = record { header = now (header .exit); body = now (body .exit); marks = now (marks .exit) } } ≡ takeGroup (now (group .entry)) collector (now (counts .entry)) (record { header = now (header .entry); body = now (body .entry); marks = now (marks .entry) }) ⌝ }
+    ensures { λ r. ⌜ answered r (now (counts .exit)) (stores (header .exit) (body .exit) (marks .exit))
+        ≡ takeGroup (now (group .entry))
+        (state collector (now (counts .entry)) (stores (header .entry) (body .entry) (marks .entry))) ⌝ }
 {
-    let taken = collector.taken(*counts, group, header, body, marks);
+    let taken = take_counted(collector, *counts, group, header, body, marks);
     *counts = taken.counts;
     taken.answered
 }
@@ -51,9 +139,72 @@ pub fn drop(
     body: &[u8],
     marks: &mut [u8],
 ) -> Answered
-    ensures { λ r. ⌜ record { answer = r .answer; collector = r .collector; counts = now (counts .exit); stores = record { header = now (header .entry); body = now (body .entry); marks = now (marks .exit) } } ≡ dropNumber number collector (now (counts .entry)) (record { header = now (header .entry); body = now (body .entry); marks = now (marks .entry) }) ⌝ }
+    ensures { λ r. ⌜ answered r (now (counts .exit)) (stores (header .entry) (body .entry) (marks .exit))
+        ≡ dropNumber number
+        (state collector (now (counts .entry)) (stores (header .entry) (body .entry) (marks .entry))) ⌝ }
 {
-    let dropped = collector.dropped(*counts, number, header, body, marks);
+    let dropped = drop_counted(collector, *counts, number, header, body, marks);
     *counts = dropped.counts;
     dropped.answered
+}
+
+// Opens a collector over a record of counts that is lent for the call.
+pub fn opened(
+    limit: usize,
+    count: usize,
+    counts: Counts,
+    header: &[u8],
+    body: &[u8],
+    marks: &mut [u8],
+) -> CountedOpening
+    ensures { λ r. ⌜ begun (r .begun) (r .counts) (stores (header .entry) (body .entry) (marks .exit))
+        ≡ openWith (start limit count counts (stores (header .entry) (body .entry) (marks .entry))) ⌝ }
+{
+    let mut kept = counts;
+    let begun = open(limit, count, &mut kept, header, body, marks);
+    CountedOpening {
+        counts: kept,
+        begun,
+    }
+}
+
+// Takes a group, over a record of counts that is lent for the call.
+pub fn taken(
+    collector: Collector,
+    counts: Counts,
+    group: &[u8],
+    header: &mut [u8],
+    body: &mut [u8],
+    marks: &mut [u8],
+) -> CountedAnswer
+    ensures { λ r. ⌜ answered (r .answered) (r .counts) (stores (header .exit) (body .exit) (marks .exit))
+        ≡ takeGroup (now (group .entry))
+        (state collector counts (stores (header .entry) (body .entry) (marks .entry))) ⌝ }
+{
+    let mut kept = counts;
+    let answered = take(collector, &mut kept, group, header, body, marks);
+    CountedAnswer {
+        counts: kept,
+        answered,
+    }
+}
+
+// Drops a number, over a record of counts that is lent for the call.
+pub fn dropped(
+    collector: Collector,
+    counts: Counts,
+    number: u16,
+    header: &[u8],
+    body: &[u8],
+    marks: &mut [u8],
+) -> CountedAnswer
+    ensures { λ r. ⌜ answered (r .answered) (r .counts) (stores (header .entry) (body .entry) (marks .exit))
+        ≡ dropNumber number (state collector counts (stores (header .entry) (body .entry) (marks .entry))) ⌝ }
+{
+    let mut kept = counts;
+    let answered = drop(collector, &mut kept, number, header, body, marks);
+    CountedAnswer {
+        counts: kept,
+        answered,
+    }
 }

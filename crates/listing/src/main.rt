@@ -4,18 +4,17 @@
 // input leaves is what its lines leave, each done once, in order (`lines-done` in
 // specs/Theorems.antt).
 use answer::Answer;
-use collector::Answered;
 use collector::Collector;
-use collector::Opened;
 use counts::Counts;
+use lent_calls::CountedAnswer;
 use libc::STDIN_FILENO;
 use libc::STDOUT_FILENO;
 use listing_input::Line;
 ghost use mathlib.Core.Path.{_≡_};
 ghost use Prim.Native.Nat.{_≤_};
 ghost use lib.ListN.{length, take};
-ghost use Rattle.collector.specs.Calls.{openedBy, takeGroup, dropNumber};
-ghost use Rattle.listing.specs.Listed.{storesOf, served, nextOf, listedAs, lineListed, inputListed, endListed, Reads};
+ghost use Rattle.collector.specs.State.{stores};
+ghost use Rattle.listing.specs.Listed.{leaving, served, nextOf, listedAs, lineListed, inputListed, endListed, Reads};
 
 // What the collector is opened with.
 const SLOTS: usize = 2;
@@ -32,18 +31,6 @@ const MARKS: usize = SLOTS * Collector::SLOT_MARKS;
 struct Held {
     collector: Collector,
     counts: Counts,
-}
-
-// What an opening left, with the counts that were lent to it.
-struct Begun {
-    counts: Counts,
-    opened: Opened,
-}
-
-// What a call answered, with the counts that were lent to it.
-struct Done {
-    counts: Counts,
-    answered: Answered,
 }
 
 // What is carried from line to line: how many lines came, how many characters of the next one are
@@ -80,61 +67,6 @@ fn front(memory: &[u8], count: usize) -> &[u8]
     &memory[..count]
 }
 
-// Opens a collector, over counts that are lent for the call.
-fn opened(
-    limit: usize,
-    count: usize,
-    counts: Counts,
-    header: &[u8],
-    body: &[u8],
-    marks: &mut [u8],
-) -> Begun
-    ensures { λ r. ⌜ record { opening = r .opened .opening; collector = r .opened .collector; counts = r .counts; marks = now (marks .exit) } ≡ openedBy limit count counts (record { header = now (header .entry); body = now (body .entry); marks = now (marks .entry) }) ⌝ }
-{
-    let mut kept = counts;
-    let opened = lent_calls::open(limit, count, &mut kept, header, body, marks);
-    Begun {
-        counts: kept,
-        opened,
-    }
-}
-
-fn taken(
-    collector: Collector,
-    counts: Counts,
-    group: &[u8],
-    header: &mut [u8],
-    body: &mut [u8],
-    marks: &mut [u8],
-) -> Done
-    ensures { λ r. ⌜ record { answer = r .answered .answer; collector = r .answered .collector; counts = r .counts; stores = record { header = now (header .exit); body = now (body .exit); marks = now (marks .exit) } } ≡ takeGroup (now (group .entry)) collector counts (record { header = now (header .entry); body = now (body .entry); marks = now (marks .entry) }) ⌝ }
-{
-    let mut kept = counts;
-    let answered = lent_calls::take(collector, &mut kept, group, header, body, marks);
-    Done {
-        counts: kept,
-        answered,
-    }
-}
-
-fn dropped(
-    collector: Collector,
-    counts: Counts,
-    number: u16,
-    header: &[u8],
-    body: &[u8],
-    marks: &mut [u8],
-) -> Done
-    ensures { λ r. ⌜ record { answer = r .answered .answer; collector = r .answered .collector; counts = r .counts; stores = record { header = now (header .entry); body = now (body .entry); marks = now (marks .exit) } } ≡ dropNumber number collector counts (record { header = now (header .entry); body = now (body .entry); marks = now (marks .entry) }) ⌝ }
-{
-    let mut kept = counts;
-    let answered = lent_calls::drop(collector, &mut kept, number, header, body, marks);
-    Done {
-        counts: kept,
-        answered,
-    }
-}
-
 // The first bytes of a line that was laid out.
 fn write(out: &[u8; 128], count: usize) {
     io::write_all(STDOUT_FILENO, front(out, count));
@@ -167,7 +99,7 @@ fn say_counts(held: Held) {
 }
 
 // The answer is written, and what is held from then on handed back.
-fn say_done(line: u64, done: Done) -> Held
+fn say_done(line: u64, done: CountedAnswer) -> Held
     ensures { λ r. ⌜ r ≡ record { collector = done .answered .collector; counts = done .counts } ⌝ }
 {
     let counts = done.counts;
@@ -188,17 +120,25 @@ fn list_line(
     number: u64,
     held: Held,
 ) -> Held
-    ensures { λ r. ⌜ record { held = r; group = now (group .exit); stores = storesOf (now (header .exit)) (now (body .exit)) (now (marks .exit)) } ≡ served (now (line .entry)) held (now (group .entry)) (storesOf (now (header .entry)) (now (body .entry)) (now (marks .entry))) ⌝ }
+    ensures { λ r. ⌜ leaving r (now (group .exit)) (stores (header .exit) (body .exit) (marks .exit))
+        ≡ served (now (line .entry)) held (now (group .entry)) (stores (header .entry) (body .entry) (marks .entry)) ⌝ }
 {
     let collector = held.collector;
     let counts = held.counts;
     match listing_input::read(line, group) {
         Line::Group(count) => {
-            let done = taken(collector, counts, front(group, count), header, body, marks);
+            let done = lent_calls::taken(
+                collector,
+                counts,
+                front(group, count),
+                header,
+                body,
+                marks,
+            );
             say_done(number, done)
         }
         Line::Drop(transport) => {
-            let done = dropped(collector, counts, transport, header, body, marks);
+            let done = lent_calls::dropped(collector, counts, transport, header, body, marks);
             say_done(number, done)
         }
         Line::Malformed => {
@@ -217,7 +157,10 @@ fn list_kept(
     marks: &mut [u8; MARKS],
     listing: Listing,
 ) -> Listing
-    ensures { λ r. ⌜ listedAs r (now (line .entry)) (now (group .exit)) (storesOf (now (header .exit)) (now (body .exit)) (now (marks .exit))) ≡ lineListed (listedAs listing (now (line .entry)) (now (group .entry)) (storesOf (now (header .entry)) (now (body .entry)) (now (marks .entry)))) ⌝ }
+    ensures { λ r. ⌜ listedAs r (now (line .entry)) (now (group .exit))
+        (stores (header .exit) (body .exit) (marks .exit))
+        ≡ lineListed (listedAs listing (now (line .entry)) (now (group .entry))
+        (stores (header .entry) (body .entry) (marks .entry))) ⌝ }
 {
     let number = next(listing.lines);
     let kept = listing.kept;
@@ -248,7 +191,11 @@ fn list_chunk(
     marks: &mut [u8; MARKS],
     listing: Listing,
 ) -> Listing
-    ensures { λ r. ⌜ listedAs r (now (line .exit)) (now (group .exit)) (storesOf (now (header .exit)) (now (body .exit)) (now (marks .exit))) ≡ inputListed (now (chunk .entry)) (listedAs listing (now (line .entry)) (now (group .entry)) (storesOf (now (header .entry)) (now (body .entry)) (now (marks .entry)))) ⌝ }
+    ensures { λ r. ⌜ listedAs r (now (line .exit)) (now (group .exit))
+        (stores (header .exit) (body .exit) (marks .exit))
+        ≡ inputListed (now (chunk .entry))
+        (listedAs listing (now (line .entry)) (now (group .entry))
+        (stores (header .entry) (body .entry) (marks .entry))) ⌝ }
 {
     let mut now = listing;
     let mut from = 0;
@@ -274,7 +221,11 @@ fn list_some(
     listing: Listing,
 ) -> Went
     ensures { λ r. ⌜ r .count ≤ length (now (chunk .exit)) ⌝ }
-    ensures { λ r. ⌜ listedAs (r .listing) (now (line .exit)) (now (group .exit)) (storesOf (now (header .exit)) (now (body .exit)) (now (marks .exit))) ≡ inputListed (take (r .count) (now (chunk .exit))) (listedAs listing (now (line .entry)) (now (group .entry)) (storesOf (now (header .entry)) (now (body .entry)) (now (marks .entry)))) ⌝ }
+    ensures { λ r. ⌜ listedAs (r .listing) (now (line .exit)) (now (group .exit))
+        (stores (header .exit) (body .exit) (marks .exit))
+        ≡ inputListed (take (r .count) (now (chunk .exit)))
+        (listedAs listing (now (line .entry)) (now (group .entry))
+        (stores (header .entry) (body .entry) (marks .entry))) ⌝ }
 {
     let got = libc::read(STDIN_FILENO, chunk);
     let count = io::count(got, chunk);
@@ -302,7 +253,9 @@ fn list_all(
     marks: &mut [u8; MARKS],
     listing: Listing,
 ) -> Listing
-    ensures { λ r. ⌜ Reads (listedAs listing (now (line .entry)) (now (group .entry)) (storesOf (now (header .entry)) (now (body .entry)) (now (marks .entry)))) (listedAs r (now (line .exit)) (now (group .exit)) (storesOf (now (header .exit)) (now (body .exit)) (now (marks .exit)))) ⌝ }
+    ensures { λ r. ⌜ Reads (listedAs listing (now (line .entry)) (now (group .entry))
+        (stores (header .entry) (body .entry) (marks .entry)))
+        (listedAs r (now (line .exit)) (now (group .exit)) (stores (header .exit) (body .exit) (marks .exit))) ⌝ }
 {
     let mut chunk = io::large_buffer();
     let mut now = listing;
@@ -327,7 +280,10 @@ fn list_end(
     marks: &mut [u8; MARKS],
     listing: Listing,
 ) -> Listing
-    ensures { λ r. ⌜ listedAs r (now (line .entry)) (now (group .exit)) (storesOf (now (header .exit)) (now (body .exit)) (now (marks .exit))) ≡ endListed (listedAs listing (now (line .entry)) (now (group .entry)) (storesOf (now (header .entry)) (now (body .entry)) (now (marks .entry)))) ⌝ }
+    ensures { λ r. ⌜ listedAs r (now (line .entry)) (now (group .exit))
+        (stores (header .exit) (body .exit) (marks .exit))
+        ≡ endListed (listedAs listing (now (line .entry)) (now (group .entry))
+        (stores (header .entry) (body .entry) (marks .entry))) ⌝ }
 {
     if 0 < listing.kept {
         return list_kept(line, group, header, body, marks, listing);
@@ -341,9 +297,9 @@ fn main() {
     let mut header = [0u8; HEADER_STORE];
     let mut body = [0u8; BODY_STORE];
     let mut marks = [0u8; MARKS];
-    let begun = opened(LIMIT, SLOTS, counts::none_yet(), &header, &body, &mut marks);
+    let begun = lent_calls::opened(LIMIT, SLOTS, counts::none_yet(), &header, &body, &mut marks);
     let counts = begun.counts;
-    let opened = begun.opened;
+    let opened = begun.begun;
     let collector = opened.collector;
     let start = Listing {
         lines: 0,

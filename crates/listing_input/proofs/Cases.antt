@@ -27,7 +27,8 @@ module _ (letter : ℕ) (digits : List ℕ) where
   unfolding askedBy
   asks-other-count e not-four = rw (e, ne-eqb (length digits) 4 not-four)
 
-  pub asks-other-letter : (letter ≡ 0x47 → ⊥) → (letter ≡ 0x42 → ⊥) → (letter ≡ 0x44 → ⊥) → askedBy letter digits ≡ neither
+  pub asks-other-letter : (letter ≡ 0x47 → ⊥) → (letter ≡ 0x42 → ⊥) → (letter ≡ 0x44 → ⊥)
+      → askedBy letter digits ≡ neither
   unfolding askedBy
   asks-other-letter g b d = rw (ne-eqb letter 0x47 g, ne-eqb letter 0x42 b, ne-eqb letter 0x44 d)
 
@@ -37,12 +38,14 @@ module _ (line : List ℕ) where
   no-tab h t = rw (le-leb (length line) 16432 h, ne-eqb (getD line 1 0) 0x09 t)
 
   pub too-short : length line < 2 → askedOf line ≡ neither
-  too-short h = no-tab (omega arith) (λ t. let none : getD line 1 0 ≡ 0 = List·getD-eq-default line 0 (omega arith) in omega arith)
+  too-short h = no-tab (omega arith)
+      (λ t. let none : getD line 1 0 ≡ 0 = List·getD-eq-default line 0 (omega arith) in omega arith)
 
   pub no-hex : length line ≤ 16432 → getD line 1 0 ≡ 0x09 → isHex (drop 2 line) ≡ false → askedOf line ≡ neither
   unfolding askedOf
   no-hex h t x = rw (le-leb (length line) 16432 h, t, x)
 
-  pub well-formed : length line ≤ 16432 → getD line 1 0 ≡ 0x09 → isHex (drop 2 line) ≡ true → askedOf line ≡ askedBy (getD line 0 0) (drop 2 line)
+  pub well-formed : length line ≤ 16432 → getD line 1 0 ≡ 0x09 → isHex (drop 2 line) ≡ true
+      → askedOf line ≡ askedBy (getD line 0 0) (drop 2 line)
   unfolding askedOf
   well-formed h t x = rw (le-leb (length line) 16432 h, t, x)

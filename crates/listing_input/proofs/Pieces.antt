@@ -22,7 +22,8 @@ module _ (chunk : List ℕ) (at : ℕ) where
   unfolding before
   ends-here h e = rw (drop-cons chunk at 0 h, e)
 
-  pub goes-on : at < length chunk → (getD chunk at 0 ≡ newline → ⊥) → before (drop at chunk) ≡ getD chunk at 0 ∷ before (drop (at + 1) chunk)
+  pub goes-on : at < length chunk → (getD chunk at 0 ≡ newline → ⊥)
+      → before (drop at chunk) ≡ getD chunk at 0 ∷ before (drop (at + 1) chunk)
   unfolding before
   goes-on h e = rw (add-one, drop-cons chunk at 0 h, ne-eqb (getD chunk at 0) newline e)
 
@@ -41,7 +42,8 @@ front-at [] = refl
 front-at (character ∷ input) = front (eqb character newline) (front-at input)
   where
     front : (ends : Bool) → take (length (before input)) input ≡ before input
-        → take (length (cond ends [] (character ∷ before input))) (character ∷ input) ≡ cond ends [] (character ∷ before input)
+        → take (length (cond ends [] (character ∷ before input))) (character ∷ input)
+        ≡ cond ends [] (character ∷ before input)
     front true e = refl
     front false e = ap (λ (rest : List ℕ). character ∷ rest) e
 
@@ -53,7 +55,8 @@ module _ (chunk : List ℕ) (from : ℕ) where
   pub ends-within : from ≤ length chunk → lineEnd chunk from ≤ length chunk
   unfolding lineEnd
   ends-within h =
-      let short : length (before (drop from chunk)) ≤ length (drop from chunk) = rw (← front-at (drop from chunk)) (rw length-take (omega arith)) in
+      let short : length (before (drop from chunk)) ≤ length (drop from chunk) =
+      rw (← front-at (drop from chunk)) (rw length-take (omega arith)) in
       omega (arith, length-drop from chunk)
 
   pub piece-is : take (lineEnd chunk from - from) (drop from chunk) ≡ before (drop from chunk)

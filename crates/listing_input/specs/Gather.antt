@@ -1,5 +1,5 @@
--- How the input is gathered into lines, a chunk of it at a time. Of a line its first 16,433 characters are kept, one more
--- than a line may have, which is enough to know a line that is too long.
+-- How the input is gathered into lines, a chunk of it at a time. Of a line its first 16,433 characters are kept, one
+-- more than a line may have, which is enough to know a line that is too long.
 use mathlib.Core.Bool.{cond}
 use mathlib.Core.List.{List, [], _∷_}
 use Prim.Native.Nat.{ℕ, _+_, _-_}

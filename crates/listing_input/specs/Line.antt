@@ -1,4 +1,5 @@
--- Document 01, "The listing program": what one line of the input asks for. A line is its characters without the newline.
+-- Document 01, "The listing program": what one line of the input asks for. A line is its characters without the
+-- newline.
 use mathlib.Core.Bool.{cond, _&&_}
 use mathlib.Core.List.{List, [], _∷_, _++_}
 use Prim.Native.Nat.{ℕ, _+_, _*_, _/_, _%_}
@@ -33,7 +34,8 @@ askedBy letter digits =
 -- a line of at most 16,432 characters: a letter, a tab, hex
 unfoldable pub askedOf : List ℕ → Asked
 askedOf line =
-    cond (leb (length line) 16432 && eqb (getD line 1 0) 0x09 && isHex (drop 2 line)) (askedBy (getD line 0 0) (drop 2 line)) neither
+    cond (leb (length line) 16432 && eqb (getD line 1 0) 0x09 && isHex (drop 2 line))
+    (askedBy (getD line 0 0) (drop 2 line)) neither
 
 -- the answer of the reader: how many bytes the group has, or the number, or that the line is malformed
 abbrev pub told : Asked → Line

@@ -161,7 +161,8 @@ fn line_end(chunk: &[u8], from: usize) -> usize
 // A piece of a line behind what is kept of it, as far as there is room; and how much is then kept.
 fn keep(line: &mut [u8], kept: usize, piece: &[u8]) -> usize
     ensures { λ r. ⌜ r ≡ kept + length (roomFor (length (now (line .entry))) kept (now (piece .entry))) ⌝ }
-    ensures { λ r. ⌜ now (line .exit) ≡ over (now (line .entry)) kept (roomFor (length (now (line .entry))) kept (now (piece .entry))) ⌝ }
+    ensures { λ r. ⌜ now (line .exit)
+        ≡ over (now (line .entry)) kept (roomFor (length (now (line .entry))) kept (now (piece .entry))) ⌝ }
 {
     if line.len() <= kept {
         return kept;

@@ -25,7 +25,8 @@ next-small (suc places) number h g =
 
 -- one digit more stands before those that are written
 pub digit-written : (places number : ℕ) (digits : List ℕ) → 0 < number → number < 10 ^ places → places ≤ length digits
-    → digitsOf places number ++ drop places digits ≡ digitsOf (places - 1) (number / 10) ++ drop (places - 1) (set digits (places - 1) (0x30 + number % 10))
+    → digitsOf places number ++ drop places digits
+    ≡ digitsOf (places - 1) (number / 10) ++ drop (places - 1) (set digits (places - 1) (0x30 + number % 10))
 unfolding digitsOf
 digit-written zero number digits h g k = absurd (omega arith)
 digit-written (suc places) number digits h g k =
@@ -34,7 +35,8 @@ digit-written (suc places) number digits h g k =
     let here : drop places (set digits places last) ≡ last ∷ drop (suc places) digits =
     drop-cons (set digits places last) places 0 (omega (arith, length-set digits places last))
     ∙ rw (getD-set-same digits places last 0 k, drop-set-lt (suc places) digits places last (omega arith)) in
-    rw (one, ne-eqb number 0 (omega arith), here) (append-assoc (digitsOf places (number / 10)) (last ∷ []) (drop (suc places) digits))
+    rw (one, ne-eqb number 0 (omega arith), here)
+    (append-assoc (digitsOf places (number / 10)) (last ∷ []) (drop (suc places) digits))
 
 pub none-left : (places : ℕ) → digitsOf places 0 ≡ []
 unfolding digitsOf
@@ -46,7 +48,8 @@ unfolding digitsOf
 digits-short zero number = omega arith
 digits-short (suc places) number = short (eqb number 0) (digits-short places (number / 10))
   where
-    short : (none : Bool) → length (digitsOf places (number / 10)) ≤ places → length (cond none [] (digitsOf places (number / 10) ++ ((0x30 + number % 10) ∷ []))) ≤ suc places
+    short : (none : Bool) → length (digitsOf places (number / 10)) ≤ places
+        → length (cond none [] (digitsOf places (number / 10) ++ ((0x30 + number % 10) ∷ []))) ≤ suc places
     short true h = omega arith
     short false h = rw length-append (omega arith)
 

@@ -8,44 +8,30 @@ use native.Mathlib.Omega.{arith}
 use lib.ListN.{length, take, drop, length-append, length-drop}
 use lib.Seq.{take-all, take-at}
 use Rattle.answer.specs.declared.Answer.{Answer}
-use Rattle.answer.specs.declared.Answer.the-variants as Answer
-use Rattle.answer.specs.declared.Refusal.the-variants as Refusal
 use Rattle.answer.specs.Letters.{letters, Spells}
 use Rattle.answer.specs.Table.{nameOf}
+use Rattle.answer.specs.laws.Table.{name-short}
 use Rattle.listing_output.specs.Number.{decimal}
 use Rattle.listing_output.specs.laws.Put.{Put}
 use Rattle.listing_output.proofs.Digits.{decimal-short}
 
--- no name has more than ten letters
-pub name-short : (answer : Answer) → length (letters (nameOf answer)) ≤ 10
-name-short (Answer.Stored heard) = omega arith
-name-short (Answer.Complete heard) = omega arith
-name-short (Answer.Repeat heard) = omega arith
-name-short (Answer.Dropped number) = omega arith
-name-short (Answer.Refused Refusal.Length) = omega arith
-name-short (Answer.Refused Refusal.NoCheck) = omega arith
-name-short (Answer.Refused Refusal.BadCheck) = omega arith
-name-short (Answer.Refused Refusal.Kind) = omega arith
-name-short (Answer.Refused Refusal.NoSegment) = omega arith
-name-short (Answer.Refused Refusal.Address) = omega arith
-name-short (Answer.Refused Refusal.Size) = omega arith
-name-short (Answer.Conflict heard) = omega arith
-name-short (Answer.Full heard) = omega arith
-name-short Answer.NotHeld = omega arith
-name-short Answer.Unfinished = omega arith
-name-short Answer.Header = omega arith
-name-short Answer.Duplicate = omega arith
-name-short Answer.Core = omega arith
-name-short Answer.NotFound = omega arith
-name-short Answer.Limits = omega arith
-name-short Answer.State = omega arith
-
 module _ {before after : List ℕ} {at next : ℕ} where
   pub decimal-ends : (number end : ℕ) → Put before at (decimal number ++ (end ∷ [])) next after → next ≤ at + 21
-  decimal-ends number end put = omega (arith, put .ends, length-append (decimal number) (end ∷ []), decimal-short number)
+  decimal-ends number end put = omega (
+    arith,
+    put .ends,
+    length-append (decimal number) (end ∷ []),
+    decimal-short number,
+  )
 
-  pub name-ends : (answer : Answer) (end : ℕ) → Put before at (letters (nameOf answer) ++ (end ∷ [])) next after → next ≤ at + 11
-  name-ends answer end put = omega (arith, put .ends, length-append (letters (nameOf answer)) (end ∷ []), name-short answer)
+  pub name-ends : (answer : Answer) (end : ℕ) → Put before at (letters (nameOf answer) ++ (end ∷ [])) next after
+      → next ≤ at + 11
+  name-ends answer end put = omega (
+    arith,
+    put .ends,
+    length-append (letters (nameOf answer)) (end ∷ []),
+    name-short answer,
+  )
 
 -- a part that runs to the end
 pub to-the-end : (l : List ℕ) (at end : ℕ) → length l ≡ end → take (end - at) (drop at l) ≡ drop at l

@@ -19,4 +19,5 @@ decimal number = digitsOf 19 (number / 10) ++ ((0x30 + number % 10) ∷ [])
 
 -- four hex digits
 unfoldable pub fourDigits : ℕ → List ℕ
-fourDigits number = digit (number / 0x1000) ∷ digit (number / 0x100 % 0x10) ∷ digit (number / 0x10 % 0x10) ∷ digit (number % 0x10) ∷ []
+fourDigits number = digit (number / 0x1000) ∷ digit (number / 0x100 % 0x10) ∷ digit (number / 0x10 % 0x10) ∷ digit
+    (number % 0x10) ∷ []

@@ -164,7 +164,8 @@ pub fn write_counts(
     out: &mut [u8; 128],
 ) -> usize
     ensures { λ r. ⌜ r ≡ length (countsText taken repeated refused completed dropped) ⌝ }
-    ensures { λ r. ⌜ now (out .exit) ≡ over (now (out .entry)) 0 (countsText taken repeated refused completed dropped) ⌝ }
+    ensures { λ r. ⌜ now (out .exit)
+        ≡ over (now (out .entry)) 0 (countsText taken repeated refused completed dropped) ⌝ }
     ensures { λ r. ⌜ r ≤ 128 ⌝ }
 {
     let first = put(out, 0, b"T", b' ');

@@ -1,8 +1,8 @@
 // Questions about finished objects: what a header says, its name as a part of the header store, and
 // whose a name is. A question changes nothing; it checks the state before anything else, the counts
 // too.
-use answer::Answer;
 use answer::Part;
+use answer::Reason;
 use collector::Collector;
 use collector::Located;
 use counts::Counts;
@@ -11,27 +11,28 @@ use header::Reading;
 use header::Refusal;
 use names::Holder;
 ghost use mathlib.Core.Path.{_≡_};
-ghost use Rattle.queries.specs.Questions.{refusedAs, askedAs, soughtAs, parameters, name, find};
+ghost use Rattle.collector.specs.State.{stores, state};
+ghost use Rattle.queries.specs.Questions.{reasonOf, askedAs, soughtAs, parameters, name, find};
 
 // What a finished object's header says, or why it is not told.
 pub enum Asked {
     Fields(Fields),
-    Refused(Answer),
+    Denied(Reason),
 }
 
 // The finished object that has a name, or why none is told.
 pub enum Sought {
     Number(u16),
-    Refused(Answer),
+    Denied(Reason),
 }
 
-fn refused_as(refusal: Refusal) -> Answer
-    ensures { λ r. ⌜ r ≡ refusedAs refusal ⌝ }
+fn reason_of(refusal: Refusal) -> Reason
+    ensures { λ r. ⌜ r ≡ reasonOf refusal ⌝ }
 {
     match refusal {
-        Refusal::Core => Answer::Core,
-        Refusal::Header => Answer::Header,
-        Refusal::Duplicate => Answer::Duplicate,
+        Refusal::Core => Reason::Core,
+        Refusal::Header => Reason::Header,
+        Refusal::Duplicate => Reason::Duplicate,
     }
 }
 
@@ -40,7 +41,7 @@ fn asked_as(reading: Reading) -> Asked
 {
     match reading {
         Reading::Read(fields) => Asked::Fields(fields),
-        Reading::Refused(refusal) => Asked::Refused(refused_as(refusal)),
+        Reading::Refused(refusal) => Asked::Denied(reason_of(refusal)),
     }
 }
 
@@ -49,7 +50,7 @@ fn sought_as(holder: Holder) -> Sought
 {
     match holder {
         Holder::Number(number) => Sought::Number(number),
-        Holder::Nobody => Sought::Refused(Answer::NotFound),
+        Holder::Nobody => Sought::Denied(Reason::NotFound),
     }
 }
 
@@ -63,10 +64,11 @@ pub fn parameters<'a>(
     body: &'a [u8],
     marks: &[u8],
 ) -> Asked
-    ensures { λ r. ⌜ r ≡ parameters number collector counts (record { header = now (header .entry); body = now (body .entry); marks = now (marks .entry) }) ⌝ }
+    ensures { λ r. ⌜ r ≡ parameters number
+        (state collector counts (stores (header .entry) (body .entry) (marks .entry))) ⌝ }
 {
     match collector.locate(counts, number, header, body, marks) {
-        Located::Refused(why) => Asked::Refused(why),
+        Located::Denied(why) => Asked::Denied(why),
         Located::At(i) => asked_as(header::read(collector.shown_at(Part::Header, i, header, body))),
     }
 }
@@ -81,7 +83,8 @@ pub fn name<'a>(
     body: &'a [u8],
     marks: &[u8],
 ) -> &'a [u8]
-    ensures { λ r. ⌜ now r ≡ name number collector counts (record { header = now (header .entry); body = now (body .entry); marks = now (marks .entry) }) ⌝ }
+    ensures { λ r. ⌜ now r ≡ name number
+        (state collector counts (stores (header .entry) (body .entry) (marks .entry))) ⌝ }
 {
     names::name_data(collector.show(counts, number, Part::Header, header, body, marks))
 }
@@ -95,10 +98,11 @@ pub fn find(
     body: &[u8],
     marks: &[u8],
 ) -> Sought
-    ensures { λ r. ⌜ r ≡ find (now (asked .entry)) collector counts (record { header = now (header .entry); body = now (body .entry); marks = now (marks .entry) }) ⌝ }
+    ensures { λ r. ⌜ r ≡ find (now (asked .entry))
+        (state collector counts (stores (header .entry) (body .entry) (marks .entry))) ⌝ }
 {
     if !collector.is_sound(counts, header, body, marks) {
-        return Sought::Refused(Answer::State);
+        return Sought::Denied(Reason::State);
     }
     let slots = collector.slots;
     sought_as(names::find(asked, collector.count, slots, header))

@@ -1,4 +1,5 @@
--- The ways out of a session in the shape that code has: the tests before it are passed, and its own is not. Assumes nothing.
+-- The ways out of a session in the shape that code has: the tests before it are passed, and its own is not. Assumes
+-- nothing.
 use mathlib.Core.Path.{_≡_, sym}
 use mathlib.Core.Logic.{_≢_}
 use mathlib.Core.Bool.{true, false}
@@ -25,31 +26,86 @@ module _ (group : List ℕ) (part : Part) where
   module _ (s : segmentFlag group ≢ 0) (u : userAccessFlag group ≢ 0) where
     pub access-past : checkStart group < userAccess group + 1 → Refused Refusal.Length ≡ sessionOf group part
     unfolding sessionOf
-    access-past h = rw (ne-eqb (segmentFlag group) 0 s, ne-eqb (userAccessFlag group) 0 u, lt-ltb (checkStart group) (userAccess group + 1) h)
+    access-past h = rw (
+      ne-eqb (segmentFlag group) 0 s,
+      ne-eqb (userAccessFlag group) 0 u,
+      lt-ltb (checkStart group) (userAccess group + 1) h,
+    )
 
     module _ (l : userAccess group + 1 ≤ checkStart group) where
       pub no-transport : transportFlag group ≡ 0 → Refused Refusal.Address ≡ sessionOf group part
       unfolding sessionOf
-      no-transport e = rw (ne-eqb (segmentFlag group) 0 s, ne-eqb (userAccessFlag group) 0 u, le-ltb (checkStart group) (userAccess group + 1) l, eq-eqb (transportFlag group) 0 e)
+      no-transport e = rw (
+        ne-eqb (segmentFlag group) 0 s,
+        ne-eqb (userAccessFlag group) 0 u,
+        le-ltb (checkStart group) (userAccess group + 1) l,
+        eq-eqb (transportFlag group) 0 e,
+      )
 
       module _ (t : transportFlag group ≢ 0) where
         pub address-short : lengthIndicator group < 2 → Refused Refusal.Address ≡ sessionOf group part
         unfolding sessionOf
-        address-short h = rw (ne-eqb (segmentFlag group) 0 s, ne-eqb (userAccessFlag group) 0 u, le-ltb (checkStart group) (userAccess group + 1) l, ne-eqb (transportFlag group) 0 t, lt-ltb (lengthIndicator group) 2 h)
+        address-short h = rw (
+          ne-eqb (segmentFlag group) 0 s,
+          ne-eqb (userAccessFlag group) 0 u,
+          le-ltb (checkStart group) (userAccess group + 1) l,
+          ne-eqb (transportFlag group) 0 t,
+          lt-ltb (lengthIndicator group) 2 h,
+        )
 
         module _ (i : 2 ≤ lengthIndicator group) where
           pub segment-past : checkStart group < segmentStart group → Refused Refusal.Length ≡ sessionOf group part
           unfolding sessionOf
-          segment-past h = rw (ne-eqb (segmentFlag group) 0 s, ne-eqb (userAccessFlag group) 0 u, le-ltb (checkStart group) (userAccess group + 1) l, ne-eqb (transportFlag group) 0 t, le-ltb (lengthIndicator group) 2 i, lt-ltb (checkStart group) (segmentStart group) h)
+          segment-past h = rw (
+            ne-eqb (segmentFlag group) 0 s,
+            ne-eqb (userAccessFlag group) 0 u,
+            le-ltb (checkStart group) (userAccess group + 1) l,
+            ne-eqb (transportFlag group) 0 t,
+            le-ltb (lengthIndicator group) 2 i,
+            lt-ltb (checkStart group) (segmentStart group) h,
+          )
 
           -- the two words that say the size and whether it is the last one
-          module _ (b : segmentStart group ≤ checkStart group) (sized said : ℕ) (z : sized ≡ wordAt group (segmentationHeader group)) (d : said ≡ wordAt group (segmentField group)) where
-            pub size-refused : sizeWrong (sized % 0x2000) (checkStart group - segmentStart group) (eqb (said / 0x8000) 1) ≡ true → Refused Refusal.Size ≡ sessionOf group part
+          module _ (b : segmentStart group ≤ checkStart group) (sized said : ℕ)
+              (z : sized ≡ wordAt group (segmentationHeader group)) (d : said ≡ wordAt group (segmentField group)) where
+            pub size-refused : sizeWrong (sized % 0x2000) (checkStart group - segmentStart group)
+                (eqb (said / 0x8000) 1) ≡ true → Refused Refusal.Size ≡ sessionOf group part
             unfolding sessionOf
-            size-refused e = rw (ne-eqb (segmentFlag group) 0 s, ne-eqb (userAccessFlag group) 0 u, le-ltb (checkStart group) (userAccess group + 1) l, ne-eqb (transportFlag group) 0 t, le-ltb (lengthIndicator group) 2 i, le-ltb (checkStart group) (segmentStart group) b, sym z, sym d, e)
+            size-refused e = rw (
+              ne-eqb (segmentFlag group) 0 s,
+              ne-eqb (userAccessFlag group) 0 u,
+              le-ltb (checkStart group) (userAccess group + 1) l,
+              ne-eqb (transportFlag group) 0 t,
+              le-ltb (lengthIndicator group) 2 i,
+              le-ltb (checkStart group) (segmentStart group) b,
+              sym z,
+              sym d,
+              e,
+            )
 
-            pub segment-read : (number again : ℕ) → sizeWrong (sized % 0x2000) (checkStart group - segmentStart group) (eqb (said / 0x8000) 1) ≡ false
+            pub segment-read : (number again : ℕ)
+                → sizeWrong (sized % 0x2000) (checkStart group - segmentStart group) (eqb (said / 0x8000) 1) ≡ false
                 → number ≡ transportNumber group → again ≡ wordAt group (segmentField group)
-                → Read (record { number = number; part = part; segment = again % 0x8000; last = eqb (said / 0x8000) 1; start = segmentStart group; length = sized % 0x2000 }) ≡ sessionOf group part
+                → Read (record {
+                  number = number;
+                  part = part;
+                  segment = again % 0x8000;
+                  last = eqb (said / 0x8000) 1;
+                  start = segmentStart group;
+                  length = sized % 0x2000;
+                }) ≡ sessionOf group part
             unfolding sessionOf segmentOf
-            segment-read number again e n a = rw (ne-eqb (segmentFlag group) 0 s, ne-eqb (userAccessFlag group) 0 u, le-ltb (checkStart group) (userAccess group + 1) l, ne-eqb (transportFlag group) 0 t, le-ltb (lengthIndicator group) 2 i, le-ltb (checkStart group) (segmentStart group) b, n, a, sym z, sym d, e)
+            segment-read number again e n a =
+                rw (
+                  ne-eqb (segmentFlag group) 0 s,
+                  ne-eqb (userAccessFlag group) 0 u,
+                  le-ltb (checkStart group) (userAccess group + 1) l,
+                  ne-eqb (transportFlag group) 0 t,
+                  le-ltb (lengthIndicator group) 2 i,
+                  le-ltb (checkStart group) (segmentStart group) b,
+                  n,
+                  a,
+                  sym z,
+                  sym d,
+                  e,
+                )

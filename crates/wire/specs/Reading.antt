@@ -2,7 +2,7 @@
 use mathlib.Core.List.{List}
 use mathlib.Core.Bool.{Bool, true, false, not, cond, _||_, _&&_}
 use Prim.Native.Nat.{ℕ, _+_, _-_}
-use lib.ListN.{length}
+use lib.ListN.{length, take, drop}
 use lib.Dec.{eqb, ltb}
 use Rattle.crc.specs.CheckWord.{checkWord}
 use Rattle.answer.specs.declared.Part.{Part}
@@ -11,7 +11,7 @@ use Rattle.answer.specs.declared.Refusal.{Refusal}
 use Rattle.answer.specs.declared.Refusal.the-variants as Refusal
 use Rattle.wire.specs.declared.Kind.{Kind}
 use Rattle.wire.specs.declared.Kind.the-variants.{Carries, Other}
-use Rattle.wire.specs.declared.Segment.{Segment}
+use Rattle.wire.specs.declared.Carried.{Carried}
 use Rattle.wire.specs.declared.Reading.{Reading}
 use Rattle.wire.specs.declared.Reading.the-variants.{Read, Refused}
 use Rattle.wire.specs.Wire.{groupLeast, groupMost, segmentLeast, segmentMost, fullLeast, crcFlag, segmentFlag, userAccessFlag, typeNumber, lastFlag, segmentNumber, userAccess, transportFlag, lengthIndicator, transportNumber, segmentSize, segmentStart, checkStart, checkField, checkCovers}
@@ -36,7 +36,7 @@ sizeWrong size left last =
     ltb size segmentLeast || not (eqb size left) || ltb segmentMost size || (not last && ltb size fullLeast)
 
 -- what a group carries, once it has passed the checks
-unfoldable pub segmentOf : List ℕ → Part → Segment
+unfoldable pub segmentOf : List ℕ → Part → Carried
 segmentOf group part = record {
   number = transportNumber group;
   part = part;
@@ -46,10 +46,14 @@ segmentOf group part = record {
   length = segmentSize group;
 }
 
+-- the bytes that a segment has in its group
+abbrev pub bytesIn : List ℕ → Carried → List ℕ
+bytesIn group carried = take (carried .length) (drop (carried .start) group)
+
 -- what follows for the part that a group carries; a group of another kind is refused
-abbrev pub carried : Kind → (Part → Reading) → Reading
-carried (Carries part) next = next part
-carried Other next = Refused Refusal.Kind
+abbrev pub carriedBy : Kind → (Part → Reading) → Reading
+carriedBy (Carries part) next = next part
+carriedBy Other next = Refused Refusal.Kind
 
 -- LENGTH (under 2 or over 8,215); NOCHECK; LENGTH (under 4); BADCHECK; KIND; NOSEGMENT; LENGTH (up to the user access
 -- byte); ADDRESS; LENGTH (up to the segmentation header); SIZE
@@ -59,7 +63,7 @@ readingOf group =
     Refusal.NoCheck if eqb (crcFlag group) 0 otherwise
     Refusal.Length if ltb (length group) 4 otherwise
     Refusal.BadCheck if not (checkHolds group) otherwise
-    carried (kindOf (typeNumber group)) λ part.
+    carriedBy (kindOf (typeNumber group)) λ part.
     Refusal.NoSegment if eqb (segmentFlag group) 0 || eqb (userAccessFlag group) 0 otherwise
     Refusal.Length if ltb (checkStart group) (userAccess group + 1) otherwise
     Refusal.Address if eqb (transportFlag group) 0 || ltb (lengthIndicator group) 2 otherwise

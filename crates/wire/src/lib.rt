@@ -32,9 +32,9 @@ pub enum Kind {
     Other,
 }
 
-// A segment as it came: its transport number, its part, its segment number, whether it is the last
+// A segment as a group carries it: its transport number, its part, its segment number, whether it is the last
 // one, and where in the group its bytes start and how many they are.
-pub struct Segment {
+pub struct Carried {
     pub number: u16,
     pub part: Part,
     pub segment: u16,
@@ -44,7 +44,7 @@ pub struct Segment {
 }
 
 pub enum Reading {
-    Read(Segment),
+    Read(Carried),
     Refused(Refusal),
 }
 
@@ -129,7 +129,7 @@ fn session(group: &[u8], part: Part) -> Reading
     if size_wrong(size, end - start, last) {
         return Reading::Refused(Refusal::Size);
     }
-    Reading::Read(Segment {
+    Reading::Read(Carried {
         number: word_at(group, access + 1),
         part,
         segment: word_at(group, field) % 32768,

@@ -1,5 +1,5 @@
--- What each exported call returns, and all that it leaves: the collector's own definitions, over the words that hold the
--- state and the counts.
+-- What each exported call returns, and all that it leaves: the collector's own definitions, over the words that hold
+-- the state and the counts.
 use mathlib.Core.Bool.{Bool, true, false}
 use mathlib.Core.List.{List, [], _∷_}
 use Prim.Native.Nat.{ℕ, _+_, _*_}
@@ -7,7 +7,8 @@ use lib.Dec.{eqb}
 use lib.ListN.{length}
 use Rattle.answer.specs.Table.{numberOf, returnedWith}
 use Rattle.answer.specs.declared.Answer.{Answer}
-use Rattle.answer.specs.declared.Answer.the-variants.{Stored, Complete, Repeat, Dropped, Refused, Conflict, Full, NotHeld, Unfinished, Header, Duplicate, Core, NotFound, Limits, State}
+use Rattle.answer.specs.declared.Answer.the-variants.{Stored, Complete, Repeat, Dropped, Refused, Conflict, Full, Denied}
+use Rattle.answer.specs.declared.Reason.the-variants as Reason
 use Rattle.answer.specs.declared.Heard.{Heard}
 use Rattle.answer.specs.declared.Part.{Part}
 use Rattle.answer.specs.declared.Part.the-variants as Part
@@ -22,7 +23,8 @@ use Rattle.collector.specs.declared.Located.{Located}
 use Rattle.collector.specs.declared.Located.the-variants as Located
 use Rattle.collector.specs.declared.Opening.{Opening}
 use Rattle.collector.specs.declared.Opening.the-variants as Opening
-use Rattle.collector.specs.Calls.{Answered, Opened, takeGroup, dropNumber, openedBy, locate}
+use Rattle.collector.specs.State.{State, Reply, Opened, state, start}
+use Rattle.collector.specs.Calls.{takeGroup, dropNumber, openWith, locate}
 use Rattle.queries.specs.declared.Asked.{Asked}
 use Rattle.queries.specs.declared.Asked.the-variants as Asked
 use Rattle.queries.specs.declared.Sought.{Sought}
@@ -61,6 +63,13 @@ pub record Called : Type 0 where
   pub counts : List ℕ
   pub stores : Stores
 
+abbrev pub called : ℕ → List ℕ → List ℕ → Stores → Called
+called result words counts stores = record { result = result; state = words; counts = counts; stores = stores }
+
+-- the state that words hold
+abbrev pub held : List ℕ → List ℕ → Stores → State
+held words counts stores = state (collectorFrom words) (countsFrom counts) stores
+
 -- an object's record is another one now
 abbrev pub changes : Answer → Bool
 changes (Stored heard) = true
@@ -70,63 +79,54 @@ changes (Repeat heard) = false
 changes (Refused refusal) = false
 changes (Conflict heard) = false
 changes (Full heard) = false
-changes NotHeld = false
-changes Unfinished = false
-changes Header = false
-changes Duplicate = false
-changes Core = false
-changes NotFound = false
-changes Limits = false
-changes State = false
+changes (Denied reason) = false
 
 -- the words lent hold a state and five counts
 abbrev pub lentRight : List ℕ → List ℕ → Bool
-lentRight state counts = both (eqb (length counts) 5) (readable state)
+lentRight words counts = both (eqb (length counts) 5) (readable words)
 
 -- a call that is answered: the state's words stay where it did not change
-unfoldable pub left : Answered → List ℕ → Called
-left a state = record {
-  result = answerWord (a .answer);
-  state = pick (changes (a .answer)) (wordsOf (a .collector)) state;
-  counts = countWords (a .counts);
-  stores = a .stores;
-}
+unfoldable pub left : Reply → List ℕ → Called
+left r words =
+    called (answerWord (r .answer)) (pick (changes (r .answer)) (wordsOf (r .left .collector)) words)
+    (countWords (r .left .counts)) (r .left .stores)
 
 -- words that hold no state: STATE, and nothing changes
 abbrev pub noState : List ℕ → List ℕ → Stores → Called
-noState state counts stores = record { result = numberOf State; state = state; counts = counts; stores = stores }
+noState words counts stores = called (numberOf (Denied Reason.State)) words counts stores
 
 unfoldable pub takeCall : List ℕ → List ℕ → List ℕ → Stores → Called
-takeCall group state counts stores = pick (lentRight state counts) (left (takeGroup group (collectorFrom state) (countsFrom counts) stores) state) (noState state counts stores)
+takeCall group words counts stores =
+    pick (lentRight words counts) (left (takeGroup group (held words counts stores)) words)
+    (noState words counts stores)
 
 unfoldable pub dropCall : ℕ → List ℕ → List ℕ → Stores → Called
-dropCall number state counts stores = pick (lentRight state counts) (left (dropNumber number (collectorFrom state) (countsFrom counts) stores) state) (noState state counts stores)
+dropCall number words counts stores =
+    pick (lentRight words counts) (left (dropNumber number (held words counts stores)) words)
+    (noState words counts stores)
 
 -- ---- an opening
 
 -- 0 where the collector is open
 abbrev pub openingWord : Opening → ℕ
 openingWord Opening.Open = 0
-openingWord (Opening.Refused why) = numberOf why
+openingWord (Opening.Denied why) = numberOf (Denied why)
 
 abbrev pub isOpen : Opening → Bool
 isOpen Opening.Open = true
-isOpen (Opening.Refused why) = false
+isOpen (Opening.Denied why) = false
 
-unfoldable pub leftOpen : Opened → List ℕ → Stores → Called
-leftOpen o state stores = record {
-  result = openingWord (o .opening);
-  state = pick (isOpen (o .opening)) (wordsOf (o .collector)) state;
-  counts = countWords (o .counts);
-  stores = record { header = stores .header; body = stores .body; marks = o .marks };
-}
+unfoldable pub leftOpen : Opened → List ℕ → Called
+leftOpen o words =
+    called (openingWord (o .opening)) (pick (isOpen (o .opening)) (wordsOf (o .left .collector)) words)
+    (countWords (o .left .counts)) (o .left .stores)
 
 -- LIMITS too where the words lent are too few or too many
 unfoldable pub openCall : ℕ → ℕ → List ℕ → List ℕ → Stores → Called
-openCall limit slots state counts stores =
-    pick (both (eqb (length state) 162) (eqb (length counts) 5))
-    (leftOpen (openedBy limit slots (countsFrom counts) stores) state stores)
-    (record { result = numberOf Limits; state = state; counts = counts; stores = stores })
+openCall limit slots words counts stores =
+    pick (both (eqb (length words) 162) (eqb (length counts) 5))
+    (leftOpen (openWith (start limit slots (countsFrom counts) stores)) words)
+    (called (numberOf (Denied Reason.Limits)) words counts stores)
 
 -- ---- where a finished object is
 
@@ -140,18 +140,18 @@ abbrev pub placeWords : ℕ → Stage → List ℕ
 placeWords i stage = i ∷ headerWord stage ∷ bodyWord stage ∷ []
 
 abbrev pub refusedWord : Located → ℕ
-refusedWord (Located.Refused why) = numberOf why
+refusedWord (Located.Denied why) = numberOf (Denied why)
 refusedWord (Located.At i) = 0
 
 abbrev pub placeTold : Located → Collector → List ℕ → Told
-placeTold (Located.Refused why) c place = record { result = numberOf why; told = place }
+placeTold (Located.Denied why) c place = record { result = numberOf (Denied why); told = place }
 placeTold (Located.At i) c place = record { result = 0; told = placeWords i (slotAt i (c .slots) .stage) }
 
 unfoldable pub finishedCall : ℕ → List ℕ → List ℕ → Stores → List ℕ → Told
-finishedCall number state counts stores place =
-    pick (both (eqb (length place) 3) (lentRight state counts))
-    (placeTold (locate number (collectorFrom state) (countsFrom counts) stores) (collectorFrom state) place)
-    (record { result = numberOf State; told = place })
+finishedCall number words counts stores place =
+    pick (both (eqb (length place) 3) (lentRight words counts))
+    (placeTold (locate number (held words counts stores)) (collectorFrom words) place)
+    (record { result = numberOf (Denied Reason.State); told = place })
 
 -- ---- what its header says
 
@@ -160,7 +160,8 @@ abbrev pub priorityWord : Priority → ℕ
 priorityWord Priority.Absent = 256
 priorityWord (Priority.Byte byte) = byte
 
--- where ContentName's data starts in the header, and how long it is: 0 where there is none, as a name has a byte at least
+-- where ContentName's data starts in the header, and how long it is: 0 where there is none, as a name has a byte at
+-- least
 abbrev pub nameStart : Name → ℕ
 nameStart Name.Absent = 0
 nameStart (Name.Data start length) = start
@@ -170,28 +171,30 @@ nameLength Name.Absent = 0
 nameLength (Name.Data start length) = length
 
 abbrev pub fieldWords : Fields → List ℕ
-fieldWords f = f .«body_size» ∷ f .«header_size» ∷ f .«content_type» ∷ f .«content_sub_type» ∷ priorityWord (f .priority) ∷ nameStart (f .name) ∷ nameLength (f .name) ∷ []
+fieldWords f = f .«body_size» ∷ f .«header_size» ∷ f .«content_type» ∷ f .«content_sub_type» ∷ priorityWord
+    (f .priority) ∷ nameStart (f .name) ∷ nameLength (f .name) ∷ []
 
 abbrev pub unreadWord : Asked → ℕ
-unreadWord (Asked.Refused why) = numberOf why
+unreadWord (Asked.Denied why) = numberOf (Denied why)
 unreadWord (Asked.Fields fields) = 0
 
 abbrev pub fieldsTold : Asked → List ℕ → Told
-fieldsTold (Asked.Refused why) told = record { result = numberOf why; told = told }
+fieldsTold (Asked.Denied why) told = record { result = numberOf (Denied why); told = told }
 fieldsTold (Asked.Fields fields) told = record { result = 0; told = fieldWords fields }
 
 unfoldable pub readCall : ℕ → List ℕ → List ℕ → Stores → List ℕ → Told
-readCall number state counts stores told =
-    pick (both (eqb (length told) 7) (lentRight state counts))
-    (fieldsTold (parameters number (collectorFrom state) (countsFrom counts) stores) told)
-    (record { result = numberOf State; told = told })
+readCall number words counts stores told =
+    pick (both (eqb (length told) 7) (lentRight words counts))
+    (fieldsTold (parameters number (held words counts stores)) told)
+    (record { result = numberOf (Denied Reason.State); told = told })
 
 -- ---- whose a name is
 
 -- its transport number, where an answer has it
 abbrev pub soughtWord : Sought → ℕ
 soughtWord (Sought.Number number) = number * 65536
-soughtWord (Sought.Refused why) = numberOf why
+soughtWord (Sought.Denied why) = numberOf (Denied why)
 
 unfoldable pub findCall : List ℕ → List ℕ → List ℕ → Stores → ℕ
-findCall name state counts stores = pick (lentRight state counts) (soughtWord (find name (collectorFrom state) (countsFrom counts) stores)) (numberOf State)
+findCall name words counts stores =
+    pick (lentRight words counts) (soughtWord (find name (held words counts stores))) (numberOf (Denied Reason.State))

@@ -1,5 +1,5 @@
--- A head's own calls: any calls of the exported functions after an opening, each handed the words and the lent memory just as
--- the one before left them. The latest call comes first, as in a history of the collector.
+-- A head's own calls: any calls of the exported functions after an opening, each handed the words and the lent memory
+-- just as the one before left them. The latest call comes first, as in a history of the collector.
 use mathlib.Core.Path.{_≡_}
 use mathlib.Core.List.{List, [], _∷_}
 use Prim.Native.Nat.{ℕ}
@@ -7,8 +7,8 @@ use lib.ListN.{length}
 use Rattle.answer.specs.declared.Part.the-variants.{Header}
 use Rattle.cut.specs.Lists.{Bytes}
 use Rattle.slots.specs.Stores.{Stores}
-use Rattle.history.specs.laws.Call.{State}
-use Rattle.history.specs.History.{Question, Call, hand, ask, Start, reached}
+use Rattle.collector.specs.State.{State, Start}
+use Rattle.history.specs.History.{Question, Call, hand, ask, reached}
 use Rattle.history.specs.Ours.{ours}
 use Rattle.layout.specs.Layout.{countsFrom}
 use Rattle.yovtirak.specs.Exports.{Called, answerWord, openCall, takeCall, dropCall, Told, placeTold, finishedCall, fieldsTold, readCall, soughtWord, findCall}

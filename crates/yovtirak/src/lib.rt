@@ -7,9 +7,9 @@ use answer::Heard;
 use answer::Part;
 use answer::Returned;
 use collector::Collector;
-use collector::CountedAnswer;
 use collector::Located;
 use collector::Opening;
+use collector::Reply;
 use header::Fields;
 use header::Name;
 use header::Priority;
@@ -23,7 +23,8 @@ ghost use lib.ListN.{length};
 ghost use Rattle.cut.specs.Lists.{pick};
 ghost use Rattle.slots.specs.Stores.{slotAt};
 ghost use Rattle.layout.specs.Layout.{wordsOf, countWords};
-ghost use Rattle.yovtirak.specs.Exports.{openingWord, isOpen, openCall, partWord, heardWord, returnedWord, answerWord, changes, takeCall, dropCall, refusedWord, placeWords, finishedCall, priorityWord, nameStart, nameLength, fieldWords, unreadWord, readCall, soughtWord, findCall};
+ghost use Rattle.collector.specs.State.{stores};
+ghost use Rattle.yovtirak.specs.Exports.{called, openingWord, isOpen, openCall, partWord, heardWord, returnedWord, answerWord, changes, takeCall, dropCall, refusedWord, placeWords, finishedCall, priorityWord, nameStart, nameLength, fieldWords, unreadWord, readCall, soughtWord, findCall};
 
 // The answers that are given of wrong words, before there is a collector.
 const LIMITS: u64 = answer::LIMITS as u64;
@@ -79,14 +80,7 @@ fn changes(answer: Answer) -> bool
         Answer::Refused(_) => false,
         Answer::Conflict(_) => false,
         Answer::Full(_) => false,
-        Answer::NotHeld => false,
-        Answer::Unfinished => false,
-        Answer::Header => false,
-        Answer::Duplicate => false,
-        Answer::Core => false,
-        Answer::NotFound => false,
-        Answer::Limits => false,
-        Answer::State => false,
+        Answer::Denied(_) => false,
     }
 }
 
@@ -102,13 +96,14 @@ fn keep(state: &mut [u64], answer: Answer, next: Collector)
 }
 
 // What a call leaves in words, and its answer's word.
-fn leave(state: &mut [u64], counts: &mut [u32], after: CountedAnswer) -> u64
+fn leave(state: &mut [u64], counts: &mut [u32], after: Reply) -> u64
     requires { ⌜ (length (now state) ≡ 162) × (length (now counts) ≡ 5) ⌝ }
-    ensures { λ r. ⌜ (r ≡ answerWord (after .answered .answer)) × (now (state .exit) ≡ pick (changes (after .answered .answer)) (wordsOf (after .answered .collector)) (now (state .entry))) × (now (counts .exit) ≡ countWords (after .counts)) ⌝ }
+    ensures { λ r. ⌜ (r ≡ answerWord (after .answer))
+        × (now (state .exit) ≡ pick (changes (after .answer)) (wordsOf (after .collector)) (now (state .entry)))
+        × (now (counts .exit) ≡ countWords (after .counts)) ⌝ }
 {
-    let answered = after.answered;
-    let answer = answered.answer;
-    let next = answered.collector;
+    let answer = after.answer;
+    let next = after.collector;
     layout::put_counts(counts, after.counts);
     keep(state, answer, next);
     answer_word(answer)
@@ -119,7 +114,7 @@ fn refused_word(located: Located) -> u64
     ensures { λ r. ⌜ r ≡ refusedWord located ⌝ }
 {
     match located {
-        Located::Refused(answer) => answer::number_of(answer) as u64,
+        Located::Denied(why) => answer::number_of(Answer::Denied(why)) as u64,
         Located::At(_) => 0,
     }
 }
@@ -129,7 +124,7 @@ fn opening_word(opening: Opening) -> u64
 {
     match opening {
         Opening::Open => 0,
-        Opening::Refused(answer) => answer::number_of(answer) as u64,
+        Opening::Denied(why) => answer::number_of(Answer::Denied(why)) as u64,
     }
 }
 
@@ -138,7 +133,7 @@ fn is_open(opening: Opening) -> bool
 {
     match opening {
         Opening::Open => true,
-        Opening::Refused(_) => false,
+        Opening::Denied(_) => false,
     }
 }
 
@@ -164,7 +159,10 @@ pub extern "C" fn yovtirak_open(
     body: &[u8],
     marks: &mut [u8],
 ) -> u64
-    ensures { λ r. ⌜ record { result = r; state = now (state .exit); counts = now (counts .exit); stores = record { header = now (header .entry); body = now (body .entry); marks = now (marks .exit) } } ≡ openCall limit slots (now (state .entry)) (now (counts .entry)) (record { header = now (header .entry); body = now (body .entry); marks = now (marks .entry) }) ⌝ }
+    ensures { λ r. ⌜ called r (now (state .exit)) (now (counts .exit))
+        (stores (header .entry) (body .entry) (marks .exit))
+        ≡ openCall limit slots (now (state .entry)) (now (counts .entry))
+        (stores (header .entry) (body .entry) (marks .entry)) ⌝ }
 {
     if state.len() != layout::STATE {
         return LIMITS;
@@ -174,9 +172,8 @@ pub extern "C" fn yovtirak_open(
     }
     let before = layout::counts_from(counts);
     let opened = Collector::opened(limit, slots, before, header, body, marks);
-    let handed = opened.opened;
-    let opening = handed.opening;
-    let fresh = handed.collector;
+    let opening = opened.opening;
+    let fresh = opened.collector;
     layout::put_counts(counts, opened.counts);
     keep_opened(state, opening, fresh);
     opening_word(opening)
@@ -192,7 +189,10 @@ pub extern "C" fn yovtirak_take(
     body: &mut [u8],
     marks: &mut [u8],
 ) -> u64
-    ensures { λ r. ⌜ record { result = r; state = now (state .exit); counts = now (counts .exit); stores = record { header = now (header .exit); body = now (body .exit); marks = now (marks .exit) } } ≡ takeCall (now (group .entry)) (now (state .entry)) (now (counts .entry)) (record { header = now (header .entry); body = now (body .entry); marks = now (marks .entry) }) ⌝ }
+    ensures { λ r. ⌜ called r (now (state .exit)) (now (counts .exit))
+        (stores (header .exit) (body .exit) (marks .exit))
+        ≡ takeCall (now (group .entry)) (now (state .entry)) (now (counts .entry))
+        (stores (header .entry) (body .entry) (marks .entry)) ⌝ }
 {
     if counts.len() != layout::COUNTS {
         return STATE;
@@ -216,7 +216,10 @@ pub extern "C" fn yovtirak_drop(
     body: &[u8],
     marks: &mut [u8],
 ) -> u64
-    ensures { λ r. ⌜ record { result = r; state = now (state .exit); counts = now (counts .exit); stores = record { header = now (header .entry); body = now (body .entry); marks = now (marks .exit) } } ≡ dropCall number (now (state .entry)) (now (counts .entry)) (record { header = now (header .entry); body = now (body .entry); marks = now (marks .entry) }) ⌝ }
+    ensures { λ r. ⌜ called r (now (state .exit)) (now (counts .exit))
+        (stores (header .entry) (body .entry) (marks .exit))
+        ≡ dropCall number (now (state .entry)) (now (counts .entry))
+        (stores (header .entry) (body .entry) (marks .entry)) ⌝ }
 {
     if counts.len() != layout::COUNTS {
         return STATE;
@@ -261,7 +264,9 @@ pub extern "C" fn yovtirak_finished(
     marks: &[u8],
     place: &mut [u64],
 ) -> u64
-    ensures { λ r. ⌜ record { result = r; told = now (place .exit) } ≡ finishedCall number (now (state .entry)) (now (counts .entry)) (record { header = now (header .entry); body = now (body .entry); marks = now (marks .entry) }) (now (place .entry)) ⌝ }
+    ensures { λ r. ⌜ record { result = r; told = now (place .exit) }
+        ≡ finishedCall number (now (state .entry)) (now (counts .entry))
+        (stores (header .entry) (body .entry) (marks .entry)) (now (place .entry)) ⌝ }
 {
     if place.len() != 3 {
         return STATE;
@@ -329,7 +334,7 @@ fn unread_word(asked: Asked) -> u64
     ensures { λ r. ⌜ r ≡ unreadWord asked ⌝ }
 {
     match asked {
-        Asked::Refused(answer) => answer::number_of(answer) as u64,
+        Asked::Denied(why) => answer::number_of(Answer::Denied(why)) as u64,
         Asked::Fields(_) => 0,
     }
 }
@@ -345,7 +350,9 @@ pub extern "C" fn yovtirak_read<'a>(
     marks: &[u8],
     told: &mut [u64],
 ) -> u64
-    ensures { λ r. ⌜ record { result = r; told = now (told .exit) } ≡ readCall number (now (state .entry)) (now (counts .entry)) (record { header = now (header .entry); body = now (body .entry); marks = now (marks .entry) }) (now (told .entry)) ⌝ }
+    ensures { λ r. ⌜ record { result = r; told = now (told .exit) }
+        ≡ readCall number (now (state .entry)) (now (counts .entry))
+        (stores (header .entry) (body .entry) (marks .entry)) (now (told .entry)) ⌝ }
 {
     if told.len() != 7 {
         return STATE;
@@ -371,7 +378,7 @@ fn sought_word(sought: Sought) -> u64
 {
     match sought {
         Sought::Number(number) => number as u64 * 65536,
-        Sought::Refused(answer) => answer::number_of(answer) as u64,
+        Sought::Denied(why) => answer::number_of(Answer::Denied(why)) as u64,
     }
 }
 
@@ -385,7 +392,8 @@ pub extern "C" fn yovtirak_find(
     body: &[u8],
     marks: &[u8],
 ) -> u64
-    ensures { λ r. ⌜ r ≡ findCall (now (name .entry)) (now (state .entry)) (now (counts .entry)) (record { header = now (header .entry); body = now (body .entry); marks = now (marks .entry) }) ⌝ }
+    ensures { λ r. ⌜ r ≡ findCall (now (name .entry)) (now (state .entry)) (now (counts .entry))
+        (stores (header .entry) (body .entry) (marks .entry)) ⌝ }
 {
     if counts.len() != layout::COUNTS {
         return STATE;

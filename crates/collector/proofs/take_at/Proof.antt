@@ -12,9 +12,6 @@ cast-number c = search needs
 take-into-requires : tie.Need-take-into-requires
 take-into-requires c κs = search needs
 
-heard-as-requires : tie.Need-heard-as-requires
-heard-as-requires c κs = search needs
-
 answer-as-requires : tie.Need-answer-as-requires
 answer-as-requires c κs = search needs
 
@@ -29,9 +26,10 @@ same-length-3 c = search needs
 
 returns : tie.Need-returns
 returns c =
-    let k = c .before .before .before .before .before .before .before .before .before in
-    let a = k .before .before .before .before .before .before .before .before .before .args in
-    rw (c .answer-as .ensures, c .before .heard-as .ensures) (ap (cameTo (a .i) (a .carried)) (k .take-into .ensures))
+    let at-take-into = c .before .before .before .before .before .before .before .before in
+    let start = at-take-into .before .before .before .before .before .before .before .before .before in
+    let a = start .args in
+    rw (c .answer-as .ensures) (ap (cameTo (a .i) (a .heard)) (at-take-into .take-into .ensures))
 
 pub take-at-spec : {M : Type 1} → statement M
 take-at-spec =
@@ -39,7 +37,6 @@ take-at-spec =
     (tie.spec
     cast-number
     take-into-requires
-    heard-as-requires
     answer-as-requires
     same-length
     same-length-2

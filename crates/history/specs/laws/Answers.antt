@@ -9,7 +9,7 @@ use Rattle.answer.specs.declared.Answer.the-variants as Answer
 use Rattle.answer.specs.declared.Heard.{Heard}
 use Rattle.answer.specs.declared.Part.{Part}
 use Rattle.answer.specs.declared.Part.the-variants.{Header, Body}
-use Rattle.wire.specs.declared.Segment.{Segment as Carried}
+use Rattle.wire.specs.declared.Carried.{Carried}
 use Rattle.cut.specs.Lists.{Among, Bytes}
 use Rattle.cut.specs.Requirement.{limitMost, Segment, Fits, Finished}
 use Rattle.cut.specs.Parts.{headersWith, bodiesWith, those}
@@ -25,9 +25,10 @@ use Rattle.object.specs.laws.Step.{conflict-exactly, repeat-exactly, complete-e
 use Rattle.slots.specs.declared.Found.{Found}
 use Rattle.slots.specs.declared.Found.the-variants.{Nothing, At}
 use Rattle.slots.specs.Stores.{freshSlot}
-use Rattle.collector.specs.Calls.{heardAs, answerAs}
-use Rattle.history.specs.laws.Call.{State, Reply, limitOf, slotOf, lentOf, find, free, Came, alone, full, first, more}
-use Rattle.history.specs.Held.{SlotFor}
+use Rattle.collector.specs.State.{Reply, State}
+use Rattle.collector.specs.Calls.{Arrival, answerAs, find, free, heardAs}
+use Rattle.history.specs.Held.{SlotFor, lentOf, limitOf, slotOf}
+use Rattle.history.specs.laws.Call.{Came, alone, full, first, more}
 use Rattle.history.specs.laws.Ready.{limit-low, used-lent, found-used, found-sound, free-used, free-marks}
 use Rattle.history.specs.laws.Taken.{fresh-gathers, alone-fits}
 use Rattle.history.specs.laws.Sound.{Intact}
@@ -40,9 +41,13 @@ Meets Conflict part limit s hs bs = ¬ (Fits limit (headersWith part s hs) (bodi
 -- the same segment is stored
 Meets Repeat part limit s hs bs = Among s (those part hs bs)
 -- with it every segment is in, and before it not
-Meets Complete part limit s hs bs = ((f : Fits limit (headersWith part s hs) (bodiesWith part s bs)) × Finished f) × ((f : Fits limit hs bs) → ¬ (Finished f))
+Meets Complete part limit s hs bs =
+    ((f : Fits limit (headersWith part s hs) (bodiesWith part s bs)) × Finished f)
+    × ((f : Fits limit hs bs) → ¬ (Finished f))
 -- it is new and fits, and with it some segment is still missing
-Meets Stored part limit s hs bs = ((f : Fits limit (headersWith part s hs) (bodiesWith part s bs)) × (¬ (Finished f))) × (¬ (Among s (those part hs bs)))
+Meets Stored part limit s hs bs =
+    ((f : Fits limit (headersWith part s hs) (bodiesWith part s bs)) × (¬ (Finished f)))
+    × (¬ (Among s (those part hs bs)))
 
 -- what is stored needs a slot
 abbrev pub Room : Outcome → ℕ → State → Type 0
@@ -53,7 +58,9 @@ Room Stored number s = SlotFor number s
 
 -- ---- a segment that is offered to a slot
 
-exactly : (o : Outcome) (part : Part) (limit : ℕ) (segment : Segment) (slot : Slot) (lent : Lent) (hs bs : List Segment) → limit ≤ limitMost → Bytes (segment .bytes) → Gathers limit (partsOf slot lent) hs bs → (takeInto part limit segment slot lent .outcome ≡ o) ↔ Meets o part limit segment hs bs
+exactly : (o : Outcome) (part : Part) (limit : ℕ) (segment : Segment) (slot : Slot) (lent : Lent) (hs bs : List Segment)
+    → limit ≤ limitMost → Bytes (segment .bytes) → Gathers limit (partsOf slot lent) hs bs
+    → (takeInto part limit segment slot lent .outcome ≡ o) ↔ Meets o part limit segment hs bs
 exactly Stored part limit segment slot lent hs bs z y g = stored-exactly part limit segment slot lent hs bs z y g
 exactly Complete part limit segment slot lent hs bs z y g = complete-exactly part limit segment slot lent hs bs z y g
 exactly Repeat part limit segment slot lent hs bs z y g = repeat-exactly part limit segment slot lent hs bs z y g
@@ -94,66 +101,129 @@ roomy Complete number s r = r
 roomy Repeat number s r = tt
 roomy Conflict number s r = tt
 
-offered-exactly : (o p : Outcome) (heard : Heard) (number : ℕ) (s : State) (M : Type 0) → (p ≡ o) ↔ M → SlotFor number s → (answerAs p heard ≡ answerAs o heard) ↔ (M × Room o number s)
-offered-exactly o p heard number s M x r = ((λ e. (x .0 (named-once p o heard e), roomy o number s r)), (λ m. ap (λ (q : Outcome). answerAs q heard) (x .1 (m .0))))
+offered-exactly : (o p : Outcome) (heard : Heard) (number : ℕ) (s : State) (M : Type 0) → (p ≡ o) ↔ M → SlotFor number s
+    → (answerAs p heard ≡ answerAs o heard) ↔ (M × Room o number s)
+offered-exactly o p heard number s M x r = (
+  (λ e. (x .0 (named-once p o heard e), roomy o number s r)),
+  (λ m. ap (λ (q : Outcome). answerAs q heard) (x .1 (m .0))),
+)
 
 among-none : (part : Part) (segment : Segment) → Among segment (those part [] []) → ⊥
 among-none Header segment i = i
 among-none Body segment i = i
 
 -- nothing is stored, and the segment conflicts alone
-alone-exactly : (o : Outcome) (carried : Carried) (segment : Segment) (s : State) (limit : ℕ) → ¬ (Fits limit (headersWith (carried .part) segment []) (bodiesWith (carried .part) segment []))
-    → (Answer.Conflict (heardAs carried) ≡ answerAs o (heardAs carried)) ↔ (Meets o (carried .part) limit segment [] [] × Room o (carried .number) s)
-alone-exactly Stored carried segment s limit n = ((λ e. let z : _≡_ {A = ℕ} 0 1 = cc in absurd (omega arith)), (λ m. absurd (n (m .0 .0 .0))))
-alone-exactly Complete carried segment s limit n = ((λ e. let z : _≡_ {A = ℕ} 0 1 = cc in absurd (omega arith)), (λ m. absurd (n (m .0 .0 .0))))
-alone-exactly Repeat carried segment s limit n = ((λ e. let z : _≡_ {A = ℕ} 0 1 = cc in absurd (omega arith)), (λ m. absurd (among-none (carried .part) segment (m .0))))
-alone-exactly Conflict carried segment s limit n = ((λ e. (n, tt)), (λ m. refl))
+alone-exactly : (o : Outcome) (arrived : Arrival) (s : State) (limit : ℕ)
+    → ¬ (Fits limit (headersWith (arrived .part) (arrived .segment) [])
+    (bodiesWith (arrived .part) (arrived .segment) []))
+    → (Answer.Conflict (heardAs arrived) ≡ answerAs o (heardAs arrived))
+    ↔ (Meets o (arrived .part) limit (arrived .segment) [] [] × Room o (arrived .number) s)
+alone-exactly Stored arrived s limit n =
+    ((λ e. let z : _≡_ {A = ℕ} 0 1 = cc in absurd (omega arith)), (λ m. absurd (n (m .0 .0 .0))))
+alone-exactly Complete arrived s limit n =
+    ((λ e. let z : _≡_ {A = ℕ} 0 1 = cc in absurd (omega arith)), (λ m. absurd (n (m .0 .0 .0))))
+alone-exactly Repeat arrived s limit n = (
+  (λ e. let z : _≡_ {A = ℕ} 0 1 = cc in absurd (omega arith)),
+  (λ m. absurd (among-none (arrived .part) (arrived .segment) (m .0))),
+)
+alone-exactly Conflict arrived s limit n = ((λ e. (n, tt)), (λ m. refl))
 
 -- nothing is stored, the segment fits, and no slot is there
-full-never : (o : Outcome) (carried : Carried) (segment : Segment) (s : State) (limit : ℕ) → Fits limit (headersWith (carried .part) segment []) (bodiesWith (carried .part) segment []) → find (carried .number) s ≡ Nothing → free s ≡ Nothing
-    → (Answer.Full (heardAs carried) ≡ answerAs o (heardAs carried)) ↔ (Meets o (carried .part) limit segment [] [] × Room o (carried .number) s)
-full-never Stored carried segment s limit f n g = ((λ e. absurd (never-full Stored (heardAs carried) e)), (λ m. absurd (m .1 (n, g))))
-full-never Complete carried segment s limit f n g = ((λ e. absurd (never-full Complete (heardAs carried) e)), (λ m. absurd (m .1 (n, g))))
-full-never Repeat carried segment s limit f n g = ((λ e. absurd (never-full Repeat (heardAs carried) e)), (λ m. absurd (among-none (carried .part) segment (m .0))))
-full-never Conflict carried segment s limit f n g = ((λ e. absurd (never-full Conflict (heardAs carried) e)), (λ m. absurd (m .0 f)))
+full-never : (o : Outcome) (arrived : Arrival) (s : State) (limit : ℕ)
+    → Fits limit (headersWith (arrived .part) (arrived .segment) []) (bodiesWith (arrived .part) (arrived .segment) [])
+    → find (arrived .number) s ≡ Nothing → free s ≡ Nothing
+    → (Answer.Full (heardAs arrived) ≡ answerAs o (heardAs arrived))
+    ↔ (Meets o (arrived .part) limit (arrived .segment) [] [] × Room o (arrived .number) s)
+full-never Stored arrived s limit f n g =
+    ((λ e. absurd (never-full Stored (heardAs arrived) e)), (λ m. absurd (m .1 (n, g))))
+full-never Complete arrived s limit f n g =
+    ((λ e. absurd (never-full Complete (heardAs arrived) e)), (λ m. absurd (m .1 (n, g))))
+full-never Repeat arrived s limit f n g = (
+  (λ e. absurd (never-full Repeat (heardAs arrived) e)),
+  (λ m. absurd (among-none (arrived .part) (arrived .segment) (m .0))),
+)
+full-never Conflict arrived s limit f n g =
+    ((λ e. absurd (never-full Conflict (heardAs arrived) e)), (λ m. absurd (m .0 f)))
 
 -- ---- the answer to a group that was read
 
-module _ (carried : Carried) (segment : Segment) (s : State) (hs bs : List Segment) (y : Bytes (segment .bytes)) (whole : Intact s) (w : StandsFor (carried .number) s hs bs) where
+module _ (arrived : Arrival) (s : State) (hs bs : List Segment) (y : Bytes (arrived .segment .bytes)) (whole : Intact s)
+    (w : StandsFor (arrived .number) s hs bs) where
   -- STORED, COMPLETE, REPEAT and CONFLICT, each exactly when demand 3 says
-  pub came-exactly : (t : Reply) → Came carried segment s t → (o : Outcome) → (t .answer ≡ answerAs o (heardAs carried)) ↔ (Meets o (carried .part) (limitOf s) segment hs bs × Room o (carried .number) s)
+  pub came-exactly : (t : Reply) → Came arrived s t → (o : Outcome) → (t .answer ≡ answerAs o (heardAs arrived))
+      ↔ (Meets o (arrived .part) (limitOf s) (arrived .segment) hs bs × Room o (arrived .number) s)
   came-exactly t (alone n a e) o =
       let none = w .rest n in
-      rw (e, none .0, none .1) (alone-exactly o carried segment s (limitOf s) (λ f. false-true a (alone-fits (carried .part) (limitOf s) segment (limit-low s (whole .undamaged)) y .1 f)))
+      rw (e, none .0, none .1) (alone-exactly o arrived s (limitOf s)
+      (λ f. false-true a (alone-fits (arrived .part) (limitOf s) (arrived .segment)
+      (limit-low s (whole .undamaged)) y .1 f)))
   came-exactly t (full n a f e) o =
       let none = w .rest n in
-      rw (e, none .0, none .1) (full-never o carried segment s (limitOf s) (alone-fits (carried .part) (limitOf s) segment (limit-low s (whole .undamaged)) y .0 a) n f)
+      rw (e, none .0, none .1) (full-never o arrived s (limitOf s)
+      (alone-fits (arrived .part) (limitOf s) (arrived .segment) (limit-low s (whole .undamaged)) y .0 a) n f)
   came-exactly t (first i n a f e) o =
       let none = w .rest n in
       let z = limit-low s (whole .undamaged) in
       let lends = used-lent s (whole .undamaged) i (free-used s (whole .undamaged) i f) (whole .bytes) in
-      let g = fresh-gathers (carried .part) (limitOf s) (carried .number) segment (lentOf i s) z y lends (free-marks s (whole .undamaged) i f) in
-      rw (e, none .0, none .1) (offered-exactly o (takeInto (carried .part) (limitOf s) segment (freshSlot (carried .number)) (lentOf i s) .outcome) (heardAs carried) (carried .number) s (Meets o (carried .part) (limitOf s) segment [] []) (exactly o (carried .part) (limitOf s) segment (freshSlot (carried .number)) (lentOf i s) [] [] z y g) (λ x. unlike i f (x .1)))
+      let g = fresh-gathers (arrived .part) (limitOf s) (arrived .number) (arrived .segment) (lentOf i s) z y lends
+      (free-marks s (whole .undamaged) i f) in
+      rw (e, none .0, none .1) (offered-exactly o
+      (takeInto (arrived .part) (limitOf s) (arrived .segment) (freshSlot (arrived .number)) (lentOf i s) .outcome)
+      (heardAs arrived) (arrived .number) s (Meets o (arrived .part) (limitOf s) (arrived .segment) [] [])
+      (exactly o (arrived .part) (limitOf s) (arrived .segment) (freshSlot (arrived .number)) (lentOf i s) [] [] z y g)
+      (λ x. unlike i f (x .1)))
   came-exactly t (more i n e) o =
-      rw e (offered-exactly o (takeInto (carried .part) (limitOf s) segment (slotOf i s) (lentOf i s) .outcome) (heardAs carried) (carried .number) s (Meets o (carried .part) (limitOf s) segment hs bs) (exactly o (carried .part) (limitOf s) segment (slotOf i s) (lentOf i s) hs bs (limit-low s (whole .undamaged)) y (w .held i n .gathers)) (λ x. unlike i n (x .0)))
+      rw e (offered-exactly o (takeInto (arrived .part) (limitOf s) (arrived .segment) (slotOf i s)
+      (lentOf i s) .outcome) (heardAs arrived) (arrived .number) s
+      (Meets o (arrived .part) (limitOf s) (arrived .segment) hs bs)
+      (exactly o (arrived .part) (limitOf s) (arrived .segment) (slotOf i s) (lentOf i s) hs bs
+      (limit-low s (whole .undamaged)) y (w .held i n .gathers)) (λ x. unlike i n (x .0)))
 
   -- FULL: it fits, its number holds no slot, and none is free
-  pub came-full : (t : Reply) → Came carried segment s t → (t .answer ≡ Answer.Full (heardAs carried)) ↔ (Fits (limitOf s) (headersWith (carried .part) segment hs) (bodiesWith (carried .part) segment bs) × (find (carried .number) s ≡ Nothing) × (free s ≡ Nothing))
+  pub came-full : (t : Reply) → Came arrived s t → (t .answer ≡ Answer.Full (heardAs arrived))
+      ↔ (Fits (limitOf s) (headersWith (arrived .part) (arrived .segment) hs)
+      (bodiesWith (arrived .part) (arrived .segment) bs) × (find (arrived .number) s ≡ Nothing) × (free s ≡ Nothing))
   came-full t (alone n a e) =
       let none = w .rest n in
-      rw (e, none .0, none .1) ((λ d. let z : _≡_ {A = ℕ} 0 1 = cc in absurd (omega arith)), (λ m. absurd (false-true a (alone-fits (carried .part) (limitOf s) segment (limit-low s (whole .undamaged)) y .1 (m .0)))))
+      rw (e, none .0, none .1) (
+        (λ d. let z : _≡_ {A = ℕ} 0 1 = cc in absurd (omega arith)),
+        (λ m. absurd (false-true a (alone-fits (arrived .part) (limitOf s) (arrived .segment)
+            (limit-low s (whole .undamaged)) y .1 (m .0)))),
+      )
   came-full t (full n a f e) =
       let none = w .rest n in
-      rw (e, none .0, none .1) ((λ d. (alone-fits (carried .part) (limitOf s) segment (limit-low s (whole .undamaged)) y .0 a, n, f)), (λ m. refl))
-  came-full t (first i n a f e) = rw e ((λ d. absurd (never-full (takeInto (carried .part) (limitOf s) segment (freshSlot (carried .number)) (lentOf i s) .outcome) (heardAs carried) (sym d))), (λ m. absurd (unlike i f (m .2))))
-  came-full t (more i n e) = rw e ((λ d. absurd (never-full (takeInto (carried .part) (limitOf s) segment (slotOf i s) (lentOf i s) .outcome) (heardAs carried) (sym d))), (λ m. absurd (unlike i n (m .1))))
+      rw (e, none .0, none .1) (
+        (λ d.
+            (alone-fits (arrived .part) (limitOf s) (arrived .segment) (limit-low s (whole .undamaged)) y .0 a, n, f)),
+        (λ m. refl),
+      )
+  came-full t (first i n a f e) =
+      rw e (
+        (λ d. absurd (never-full (takeInto (arrived .part) (limitOf s) (arrived .segment)
+            (freshSlot (arrived .number)) (lentOf i s) .outcome) (heardAs arrived) (sym d))),
+        (λ m. absurd (unlike i f (m .2))),
+      )
+  came-full t (more i n e) = rw e (
+    (λ d. absurd (never-full (takeInto (arrived .part) (limitOf s) (arrived .segment) (slotOf i s)
+        (lentOf i s) .outcome) (heardAs arrived) (sym d))),
+    (λ m. absurd (unlike i n (m .1))),
+  )
 
 -- one of the five comes back
-pub came-named : (carried : Carried) (segment : Segment) (s : State) (t : Reply) → Came carried segment s t → (t .answer ≡ Answer.Full (heardAs carried)) ⊎ ((o : Outcome) × (t .answer ≡ answerAs o (heardAs carried)))
-came-named carried segment s t (alone n a e) = inr (Conflict, ap (λ (x : Reply). x .answer) e)
-came-named carried segment s t (full n a f e) = inl (ap (λ (x : Reply). x .answer) e)
-came-named carried segment s t (first i n a f e) = inr (takeInto (carried .part) (limitOf s) segment (freshSlot (carried .number)) (lentOf i s) .outcome, ap (λ (x : Reply). x .answer) e)
-came-named carried segment s t (more i n e) = inr (takeInto (carried .part) (limitOf s) segment (slotOf i s) (lentOf i s) .outcome, ap (λ (x : Reply). x .answer) e)
+pub came-named : (arrived : Arrival) (s : State) (t : Reply) → Came arrived s t
+    → (t .answer ≡ Answer.Full (heardAs arrived)) ⊎ ((o : Outcome) × (t .answer ≡ answerAs o (heardAs arrived)))
+came-named arrived s t (alone n a e) = inr (Conflict, ap (λ (x : Reply). x .answer) e)
+came-named arrived s t (full n a f e) = inl (ap (λ (x : Reply). x .answer) e)
+came-named arrived s t (first i n a f e) =
+    inr (
+      takeInto (arrived .part) (limitOf s) (arrived .segment) (freshSlot (arrived .number)) (lentOf i s) .outcome,
+      ap (λ (x : Reply). x .answer) e,
+    )
+came-named arrived s t (more i n e) =
+    inr (
+      takeInto (arrived .part) (limitOf s) (arrived .segment) (slotOf i s) (lentOf i s) .outcome,
+      ap (λ (x : Reply). x .answer) e,
+    )
 
 -- ---- any state that is not damaged, however it came about
 
@@ -165,8 +235,11 @@ markedIn part (At i) s = markedSegments part (slotOf i s) (lentOf i s)
 abbrev pub markedUnder : Part → ℕ → State → List Segment
 markedUnder part number s = markedIn part (find number s) s
 
-pub marked-stands : (number : ℕ) (s : State) → Intact s → StandsFor number s (markedUnder Header number s) (markedUnder Body number s)
+pub marked-stands : (number : ℕ) (s : State) → Intact s
+    → StandsFor number s (markedUnder Header number s) (markedUnder Body number s)
 marked-stands number s whole = record {
-  held = λ i e. rw e (sound-holds (limitOf s) (slotOf i s) (lentOf i s) (limit-low s (whole .undamaged)) (used-lent s (whole .undamaged) i (found-used s (whole .undamaged) number i e) (whole .bytes)) (found-sound s (whole .undamaged) number i e));
+  held = λ i e. rw e (sound-holds (limitOf s) (slotOf i s) (lentOf i s) (limit-low s (whole .undamaged))
+      (used-lent s (whole .undamaged) i (found-used s (whole .undamaged) number i e) (whole .bytes))
+      (found-sound s (whole .undamaged) number i e));
   rest = λ e. rw e (refl, refl);
 }

@@ -1,5 +1,4 @@
--- A state, a call and what it leaves: the words in which all theorems here speak of the collector. What a call answers and
--- leaves is taken from the collector's own definitions, in this file alone.
+-- What a call can come to, case by case: the words in which all theorems here speak of the collector's own definitions.
 use mathlib.Core.Path.{_≡_, refl}
 use mathlib.Core.Bool.{Bool, true, false}
 use mathlib.Core.List.{List, append-assoc}
@@ -11,148 +10,119 @@ use Rattle.octets.specs.laws.Over.{part-length}
 use Rattle.octets.specs.laws.Shares.{share}
 use Rattle.answer.specs.declared.Answer.{Answer}
 use Rattle.answer.specs.declared.Answer.the-variants as Answer
+use Rattle.answer.specs.declared.Reason.the-variants as Reason
 use Rattle.answer.specs.declared.Refusal.{Refusal}
-use Rattle.counts.specs.declared.Counts.{Counts}
 use Rattle.counts.specs.Counted.{noneYet, counted}
-use Rattle.wire.specs.declared.Segment.{Segment as Carried}
+use Rattle.wire.specs.declared.Carried.{Carried}
 use Rattle.wire.specs.declared.Reading.the-variants.{Read, Refused}
 use Rattle.wire.specs.Reading.{readingOf}
-use Rattle.cut.specs.Requirement.{headerMost, Segment}
+use Rattle.cut.specs.Requirement.{headerMost}
 use Rattle.object.specs.declared.Slot.{Slot}
 use Rattle.object.specs.Take.{Lent, Taken, takeInto}
 use Rattle.slots.specs.declared.Found.{Found}
 use Rattle.slots.specs.declared.Found.the-variants.{Nothing, At}
-use Rattle.slots.specs.Stores.{slotMarks, Stores, lentAt, withLent, freeSlot, freshSlot, slotAt}
-use Rattle.slots.specs.Find.{findIn, freeIn}
+use Rattle.slots.specs.Stores.{slotMarks, Stores, lentAt, withLent, freeSlot, freshSlot}
 use Rattle.slots.specs.Alone.{fitsAlone}
-use Rattle.slots.specs.State.{withinLimits}
 use Rattle.slots.specs.Take.{Inside, takeAt, takeNew, dropAt}
-use Rattle.collector.specs.declared.Collector.{Collector}
 use Rattle.history.specs.laws.Slots.{Used}
-use Rattle.collector.specs.Calls.{Answered, withSlots, soundState, heardAs, segmentIn, answerAs, intoHeld, ifAlone, intoFree, takeGroup, dropNumber, allFree, openedBy}
-
--- what the caller has in hand between two calls
-pub record State : Type 0 where
-  pub collector : Collector
-  pub counts : Counts
-  pub stores : Stores
-
--- what a call answers and leaves
-pub record Reply : Type 0 where
-  pub answer : Answer
-  pub left : State
-
-abbrev pub replied : Answered → Reply
-replied t = record { answer = t .answer; left = record { collector = t .collector; counts = t .counts; stores = t .stores } }
-
--- a group is taken, a number is dropped
-unfoldable pub taking : List ℕ → State → Reply
-taking group s = replied (takeGroup group (s .collector) (s .counts) (s .stores))
-
-unfoldable pub dropping : ℕ → State → Reply
-dropping number s = replied (dropNumber number (s .collector) (s .counts) (s .stores))
+use Rattle.collector.specs.State.{State, Reply, Start, state, sound, answering, withSlots}
+use Rattle.collector.specs.Calls.{Arrival, heardAs, answerAs, find, free, intoFree, ifAlone, intoHeld, takeSegment, arrivalIn, takeGroup, dropNumber, allFree, inLimits, openWith}
+use Rattle.history.specs.Held.{limitOf, slotOf, lentOf}
 
 -- what a group is answered, and what it leaves
 abbrev pub groupAnswer : List ℕ → State → Answer
-groupAnswer group s = taking group s .answer
+groupAnswer group s = takeGroup group s .answer
 
 abbrev pub groupLeaves : List ℕ → State → State
-groupLeaves group s = taking group s .left
+groupLeaves group s = takeGroup group s .left
 
 -- and a drop
 abbrev pub dropAnswer : ℕ → State → Answer
-dropAnswer number s = dropping number s .answer
+dropAnswer number s = dropNumber number s .answer
 
 abbrev pub dropLeaves : ℕ → State → State
-dropLeaves number s = dropping number s .left
-
--- the state is not damaged
-abbrev pub sound : State → Bool
-sound s = soundState (s .collector) (s .counts) (s .stores)
-
--- the limit on a body
-abbrev pub limitOf : State → ℕ
-limitOf s = s .collector .limit
+dropLeaves number s = dropNumber number s .left
 
 -- slot i is one of those in use
 abbrev pub InUse : ℕ → State → Type 0
 InUse i s = Used (s .collector .count) i (s .collector .slots)
 
--- a slot and its shares
-abbrev pub slotOf : ℕ → State → Slot
-slotOf i s = slotAt i (s .collector .slots)
-
-abbrev pub lentOf : ℕ → State → Lent
-lentOf i s = lentAt (limitOf s) i (s .stores)
-
--- the slot that holds a number, and the lowest one that is free
-abbrev pub find : ℕ → State → Found
-find number s = findIn number (s .collector .count) (s .collector .slots)
-
-abbrev pub free : State → Found
-free s = freeIn (s .collector .count) (s .collector .slots)
-
 -- ---- what a call can come to
-
--- the answer is counted, and nothing else changes
-abbrev pub answering : Answer → State → Reply
-answering answer s = record { answer = answer; left = record { collector = s .collector; counts = counted answer (s .counts); stores = s .stores } }
 
 -- the answer is counted, and slot i and its shares are replaced
 abbrev pub replacing : Answer → ℕ → Slot → Lent → State → Reply
 replacing answer i slot lent s = record {
   answer = answer;
-  left = record {
-    collector = withSlots (set (s .collector .slots) i slot) (s .collector);
-    counts = counted answer (s .counts);
-    stores = withLent (limitOf s) i lent (s .stores);
-  };
+  left =
+      state (withSlots (set (s .collector .slots) i slot) (s .collector)) (counted answer (s .counts))
+      (withLent (limitOf s) i lent (s .stores));
 }
 
 -- a segment is offered to slot i
-abbrev pub offering : Carried → Segment → ℕ → State → Taken → Reply
-offering carried segment i s taken = replacing (answerAs (taken .outcome) (heardAs carried)) i (taken .slot) (taken .lent) s
+abbrev pub offering : Arrival → ℕ → State → Taken → Reply
+offering arrived i s taken = replacing (answerAs (taken .outcome) (heardAs arrived)) i (taken .slot) (taken .lent) s
 
 -- what the segment of a group that was read comes to
-pub data Came (carried : Carried) (segment : Segment) (s : State) (t : Reply) : Type 0 where
+pub data Came (arrived : Arrival) (s : State) (t : Reply) : Type 0 where
   -- no slot holds its number, and it conflicts alone
-  alone : find (carried .number) s ≡ Nothing → fitsAlone (carried .part) (limitOf s) segment ≡ false → t ≡ answering (Answer.Conflict (heardAs carried)) s → Came carried segment s t
+  alone : find (arrived .number) s ≡ Nothing → fitsAlone (arrived .part) (limitOf s) (arrived .segment) ≡ false
+      → t ≡ answering (Answer.Conflict (heardAs arrived)) s → Came arrived s t
   -- no slot holds its number, it fits, and none is free
-  full : find (carried .number) s ≡ Nothing → fitsAlone (carried .part) (limitOf s) segment ≡ true → free s ≡ Nothing → t ≡ answering (Answer.Full (heardAs carried)) s → Came carried segment s t
+  full : find (arrived .number) s ≡ Nothing → fitsAlone (arrived .part) (limitOf s) (arrived .segment) ≡ true
+      → free s ≡ Nothing → t ≡ answering (Answer.Full (heardAs arrived)) s → Came arrived s t
   -- it takes the lowest free slot
-  first : (i : ℕ) → find (carried .number) s ≡ Nothing → fitsAlone (carried .part) (limitOf s) segment ≡ true → free s ≡ At i
-      → t ≡ offering carried segment i s (takeInto (carried .part) (limitOf s) segment (freshSlot (carried .number)) (lentOf i s)) → Came carried segment s t
+  first : (i : ℕ) → find (arrived .number) s ≡ Nothing → fitsAlone (arrived .part) (limitOf s) (arrived .segment) ≡ true
+      → free s ≡ At i
+      → t ≡ offering arrived i s (takeInto (arrived .part) (limitOf s) (arrived .segment) (freshSlot (arrived .number))
+      (lentOf i s)) → Came arrived s t
   -- it is offered to the slot that holds its number
-  more : (i : ℕ) → find (carried .number) s ≡ At i
-      → t ≡ offering carried segment i s (takeInto (carried .part) (limitOf s) segment (slotOf i s) (lentOf i s)) → Came carried segment s t
+  more : (i : ℕ) → find (arrived .number) s ≡ At i
+      → t ≡ offering arrived i s (takeInto (arrived .part) (limitOf s) (arrived .segment) (slotOf i s) (lentOf i s))
+      → Came arrived s t
 
-came-free : (carried : Carried) (segment : Segment) (s : State) → find (carried .number) s ≡ Nothing → fitsAlone (carried .part) (limitOf s) segment ≡ true → (found : Found) → free s ≡ found → Came carried segment s (replied (intoFree found carried segment (s .collector) (s .counts) (s .stores)))
+came-free : (arrived : Arrival) (s : State) → find (arrived .number) s ≡ Nothing
+    → fitsAlone (arrived .part) (limitOf s) (arrived .segment) ≡ true → (found : Found) → free s ≡ found
+    → Came arrived s (intoFree found arrived s)
 unfolding takeNew
-came-free carried segment s n a Nothing e = full n a e refl
-came-free carried segment s n a (At i) e = first i n a e refl
+came-free arrived s n a Nothing e = full n a e refl
+came-free arrived s n a (At i) e = first i n a e refl
 
-came-alone : (carried : Carried) (segment : Segment) (s : State) → find (carried .number) s ≡ Nothing → (fits : Bool) → fitsAlone (carried .part) (limitOf s) segment ≡ fits → Came carried segment s (replied (ifAlone fits carried segment (s .collector) (s .counts) (s .stores)))
-came-alone carried segment s n false e = alone n e refl
-came-alone carried segment s n true e = came-free carried segment s n e (free s) refl
+came-alone : (arrived : Arrival) (s : State) → find (arrived .number) s ≡ Nothing → (fits : Bool)
+    → fitsAlone (arrived .part) (limitOf s) (arrived .segment) ≡ fits → Came arrived s (ifAlone fits arrived s)
+came-alone arrived s n false e = alone n e refl
+came-alone arrived s n true e = came-free arrived s n e (free s) refl
 
-came-held : (carried : Carried) (segment : Segment) (s : State) (found : Found) → find (carried .number) s ≡ found → Came carried segment s (replied (intoHeld found carried segment (s .collector) (s .counts) (s .stores)))
+came-held : (arrived : Arrival) (s : State) (found : Found) → find (arrived .number) s ≡ found
+    → Came arrived s (intoHeld found arrived s)
 unfolding takeAt
-came-held carried segment s Nothing e = came-alone carried segment s e (fitsAlone (carried .part) (limitOf s) segment) refl
-came-held carried segment s (At i) e = more i e refl
+came-held arrived s Nothing e = came-alone arrived s e (fitsAlone (arrived .part) (limitOf s) (arrived .segment)) refl
+came-held arrived s (At i) e = more i e refl
 
+-- a segment comes in
+module _ (arrived : Arrival) (s : State) where
+  pub segment-damaged : sound s ≡ false → takeSegment arrived s ≡ answering (Answer.Denied Reason.State) s
+  unfolding takeSegment
+  segment-damaged d = rw d refl
+
+  pub segment-came : sound s ≡ true → Came arrived s (takeSegment arrived s)
+  unfolding takeSegment
+  segment-came good = rw good (came-held arrived s (find (arrived .number) s) refl)
+
+-- and by a group
 module _ (group : List ℕ) (s : State) where
-  pub group-damaged : sound s ≡ false → taking group s ≡ answering Answer.State s
-  unfolding taking takeGroup
+  pub group-damaged : sound s ≡ false → takeGroup group s ≡ answering (Answer.Denied Reason.State) s
+  unfolding takeGroup
   group-damaged d = rw d refl
 
   module _ (good : sound s ≡ true) where
-    pub unread : (why : Refusal) → readingOf group ≡ Refused why → taking group s ≡ answering (Answer.Refused why) s
-    unfolding taking takeGroup
+    pub unread : (why : Refusal) → readingOf group ≡ Refused why → takeGroup group s ≡ answering (Answer.Refused why) s
+    unfolding takeGroup
     unread why e = rw (good, e) refl
 
-    pub came : (carried : Carried) → readingOf group ≡ Read carried → Came carried (segmentIn group carried) s (taking group s)
-    unfolding taking takeGroup
-    came carried e = rw (good, e) (came-held carried (segmentIn group carried) s (find (carried .number) s) refl)
+    pub came : (carried : Carried) → readingOf group ≡ Read carried
+        → Came (arrivalIn group carried) s (takeGroup group s)
+    unfolding takeGroup
+    came carried e = rw (good, e) (segment-came (arrivalIn group carried) s good)
 
 -- ---- a drop
 
@@ -164,50 +134,63 @@ cleared lent = record { header = lent .header; body = lent .body; marks = zeros 
 over-same : (w i : ℕ) (l : List ℕ) → i * w + w ≤ length l → over l (i * w) (share w i l) ≡ l
 unfolding over
 over-same w i l h =
-    rw (part-length l (i * w) w h, append-assoc, ← drop-drop w (i * w) l, take-append-drop w (drop (i * w) l)) (take-append-drop (i * w) l)
+    rw (part-length l (i * w) w h, append-assoc, ← drop-drop w (i * w) l, take-append-drop w (drop (i * w) l))
+    (take-append-drop (i * w) l)
 
-pub lent-same : (limit i : ℕ) (stores : Stores) → Inside limit i stores → withLent limit i (lentAt limit i stores) stores ≡ stores
+pub lent-same : (limit i : ℕ) (stores : Stores) → Inside limit i stores
+    → withLent limit i (lentAt limit i stores) stores ≡ stores
 unfolding withLent lentAt
-lent-same limit i stores inside = rw (over-same headerMost i (stores .header) (inside .header), over-same limit i (stores .body) (inside .body), over-same slotMarks i (stores .marks) (inside .marks)) refl
+lent-same limit i stores inside =
+    rw (
+      over-same headerMost i (stores .header) (inside .header),
+      over-same limit i (stores .body) (inside .body),
+      over-same slotMarks i (stores .marks) (inside .marks),
+    ) refl
 
-lent-cleared : (limit i : ℕ) (stores : Stores) → Inside limit i stores → withLent limit i (cleared (lentAt limit i stores)) stores ≡ record { header = stores .header; body = stores .body; marks = over (stores .marks) (i * slotMarks) (zeros slotMarks) }
+lent-cleared : (limit i : ℕ) (stores : Stores) → Inside limit i stores
+    → withLent limit i (cleared (lentAt limit i stores)) stores
+    ≡ record {
+      header = stores .header;
+      body = stores .body;
+      marks =
+          over (stores .marks) (i * slotMarks) (zeros slotMarks);
+    }
 unfolding withLent lentAt
-lent-cleared limit i stores inside = rw (over-same headerMost i (stores .header) (inside .header), over-same limit i (stores .body) (inside .body)) refl
+lent-cleared limit i stores inside =
+    rw (over-same headerMost i (stores .header) (inside .header), over-same limit i (stores .body) (inside .body)) refl
 
 module _ (number : ℕ) (s : State) where
-  pub drop-damaged : sound s ≡ false → dropping number s ≡ answering Answer.State s
-  unfolding dropping dropNumber
+  pub drop-damaged : sound s ≡ false → dropNumber number s ≡ answering (Answer.Denied Reason.State) s
+  unfolding dropNumber
   drop-damaged d = rw d refl
 
   module _ (good : sound s ≡ true) where
-    pub none-dropped : find number s ≡ Nothing → dropping number s ≡ answering Answer.NotHeld s
-    unfolding dropping dropNumber
+    pub none-dropped : find number s ≡ Nothing → dropNumber number s ≡ answering (Answer.Denied Reason.NotHeld) s
+    unfolding dropNumber
     none-dropped e = rw (good, e) refl
 
-    pub found-dropped : (i : ℕ) → Inside (limitOf s) i (s .stores) → find number s ≡ At i → dropping number s ≡ replacing (Answer.Dropped number) i freeSlot (cleared (lentOf i s)) s
-    unfolding dropping dropNumber dropAt
+    pub found-dropped : (i : ℕ) → Inside (limitOf s) i (s .stores) → find number s ≡ At i
+        → dropNumber number s ≡ replacing (Answer.Dropped number) i freeSlot (cleared (lentOf i s)) s
+    unfolding dropNumber dropAt
     found-dropped i inside e = rw (good, e, lent-cleared (limitOf s) i (s .stores) inside) refl
 
 -- ---- an opening
 
--- what an opening leaves: it touches no store
-unfoldable pub opening : ℕ → ℕ → Counts → Stores → State
-opening limit count counts stores = record {
-  collector = openedBy limit count counts stores .collector;
-  counts = openedBy limit count counts stores .counts;
-  stores = record { header = stores .header; body = stores .body; marks = openedBy limit count counts stores .marks };
-}
+-- within the limits
+pub opened-all : (start : Start) → inLimits start ≡ true
+    → openWith start .left
+    ≡ state (allFree (start .limit) (start .count)) noneYet
+    (record {
+      header = start .stores .header;
+      body = start .stores .body;
+      marks =
+          zeros (length (start .stores .marks));
+    })
+unfolding openWith
+opened-all start e = rw e refl
 
--- the limits are kept, and what is lent has the lengths that they give
-abbrev pub inLimits : ℕ → ℕ → Stores → Bool
-inLimits limit count stores = withinLimits limit count (length (stores .header)) (length (stores .body)) (length (stores .marks))
-
-pub opened-all : (limit count : ℕ) (counts : Counts) (stores : Stores) → inLimits limit count stores ≡ true
-    → opening limit count counts stores ≡ record { collector = allFree limit count; counts = noneYet; stores = record { header = stores .header; body = stores .body; marks = zeros (length (stores .marks)) } }
-unfolding opening openedBy
-opened-all limit count counts stores e = rw e refl
-
-pub opened-none : (limit count : ℕ) (counts : Counts) (stores : Stores) → inLimits limit count stores ≡ false
-    → opening limit count counts stores ≡ record { collector = allFree 0 0; counts = counts; stores = stores }
-unfolding opening openedBy
-opened-none limit count counts stores e = rw e refl
+-- and outside
+pub opened-none : (start : Start) → inLimits start ≡ false
+    → openWith start .left ≡ state (allFree 0 0) (start .counts) (start .stores)
+unfolding openWith
+opened-none start e = rw e refl

@@ -10,10 +10,11 @@ use lib.Dec.{eqb, leb, ltb}
 use lib.ListN.{length, getD, replicate, length-replicate}
 use Rattle.octets.specs.Octets.{over, zeros, largestOf}
 use Rattle.answer.specs.declared.Answer.the-variants as Answer
+use Rattle.answer.specs.declared.Reason.the-variants as Reason
 use Rattle.answer.specs.declared.Refusal.the-variants as Refusal
 use Rattle.answer.specs.Table.{numberOf}
 use Rattle.counts.specs.Counted.{ceiling, noneYet, oneTaken, oneRefused}
-use Rattle.wire.specs.declared.Segment.{Segment as Carried}
+use Rattle.wire.specs.declared.Carried.{Carried}
 use Rattle.wire.specs.declared.Reading.{Reading}
 use Rattle.wire.specs.declared.Reading.the-variants.{Read, Refused}
 use Rattle.wire.specs.Reading.{readingOf}
@@ -25,14 +26,15 @@ use Rattle.slots.specs.declared.Found.the-variants.{Nothing, At}
 use Rattle.slots.specs.Stores.{slotsMost, Stores}
 use Rattle.slots.specs.State.{soundSlots}
 use Rattle.collector.specs.declared.Opening.the-variants as Opening
-use Rattle.collector.specs.Calls.{answeredBy, takeRead, dropFound, segmentIn, allFree}
+use Rattle.collector.specs.State.{Start, Opened, Reply, State, answering, sound}
+use Rattle.collector.specs.Calls.{allFree, dropFound, dropNumber, find, free, inLimits, openWith, segmentIn, arrivalIn, intoHeld, takeGroup}
+use Rattle.queries.specs.Questions as queries
 use Rattle.queries.specs.declared.Sought.{Sought}
 use Rattle.queries.specs.declared.Sought.the-variants as Sought
-use Rattle.history.specs.laws.Call.{State, Reply, replied, taking, dropping, sound, limitOf, find, free, answering, inLimits}
-use Rattle.history.specs.Asking.{finding}
+use Rattle.history.specs.Held.{limitOf}
 use Rattle.history.specs.laws.Ready.{OfBytes}
 use Rattle.history.specs.laws.State.{in-order-exactly}
-use Rattle.history.specs.History.{Begun, Collecting, Start, Within, begun, defined}
+use Rattle.history.specs.History.{Collecting, Within, defined}
 use Rattle.history.specs.laws.Demands.{marked-answered}
 use Rattle.history.specs.Promise.{reachedBy, heardOf, byMarks, AnsweredBy, UnansweredLeaves, RepeatLeaves, StateExactly, MarkedExactly, LimitsExactly, OpenedLeaves, UnopenedLeaves, UndroppedLeaves, StateDropExactly, DropKeepsStores}
 use Rattle.history.specs.laws.Samples.{computing, small, bodyLast}
@@ -42,7 +44,7 @@ use Rattle.history.specs.laws.Worthless.{choosing, kindFirst}
 -- ---- an opening is LIMITS
 
 -- open, whatever was asked for
-abbrev openFor : Start → Begun
+abbrev openFor : Start → Opened
 openFor start = record {
   opening = Opening.Open;
   left = record {
@@ -53,16 +55,20 @@ openFor start = record {
 }
 
 -- refused, with a collector of limit 0 and no slots
-abbrev refusedFor : Start → Begun
+abbrev refusedFor : Start → Opened
 refusedFor start = record {
-  opening = Opening.Refused Answer.Limits;
+  opening = Opening.Denied Reason.Limits;
   left = record { collector = allFree 0 0; counts = start .counts; stores = start .stores };
 }
 
+-- another limit, and other stores lent
+abbrev startWith : ℕ → Stores → Start → Start
+startWith limit stores start = record { limit = limit; count = start .count; counts = start .counts; stores = stores }
+
 -- every limit is good, if a body store of that size is lent
-abbrev pub anyLimit : Start → Begun
+abbrev pub anyLimit : Start → Opened
 anyLimit start =
-    pick (inLimits limitLeast (start .count) (withBody (zeros (start .count * limitLeast)) (start .stores)))
+    pick (inLimits (startWith limitLeast (withBody (zeros (start .count * limitLeast)) (start .stores)) start))
     (pick (eqb (length (start .stores .body)) (start .count * start .limit)) (openFor start) (refusedFor start))
     (refusedFor start)
 
@@ -85,8 +91,8 @@ any-limit-breaks p =
     absurd (omega arith)
 
 -- LIMITS for 16 slots, the most there may be
-abbrev pub fewerThanSixteen : Start → Begun
-fewerThanSixteen start = pick (ltb (start .count) slotsMost) (begun start) (refusedFor start)
+abbrev pub fewerThanSixteen : Start → Opened
+fewerThanSixteen start = pick (ltb (start .count) slotsMost) (openWith start) (refusedFor start)
 
 abbrev sixteen : Start
 sixteen = record {
@@ -111,9 +117,9 @@ pub fewer-than-sixteen-breaks : ¬ (LimitsExactly (openingBy fewerThanSixteen))
 fewer-than-sixteen-breaks p = p sixteen .0 .0 refl within-sixteen
 
 -- open where more is lent for headers than is needed
-abbrev pub moreLent : Start → Begun
+abbrev pub moreLent : Start → Opened
 moreLent start =
-    pick (inLimits (start .limit) (start .count) (withHeader (zeros (start .count * headerMost)) (start .stores)))
+    pick (inLimits (startWith (start .limit) (withHeader (zeros (start .count * headerMost)) (start .stores)) start))
     (pick (leb (start .count * headerMost) (length (start .stores .header))) (openFor start) (refusedFor start))
     (refusedFor start)
 
@@ -135,10 +141,11 @@ more-lent-breaks p =
 -- ---- what an opening leaves
 
 -- an opening clears the header store
-abbrev pub clearsStore : Start → Begun
+abbrev pub clearsStore : Start → Opened
 clearsStore start = record {
-  opening = begun start .opening;
-  left = withStores (withHeader (zeros (length (start .stores .header))) (begun start .left .stores)) (begun start .left);
+  opening = openWith start .opening;
+  left = withStores (withHeader (zeros (length (start .stores .header))) (openWith start .left .stores))
+      (openWith start .left);
 }
 
 -- it touches no store
@@ -149,8 +156,12 @@ clears-store-breaks p =
     absurd (omega arith)
 
 -- an opening leaves the marks as they were
-abbrev pub leavesMarks : Start → Begun
-leavesMarks start = record { opening = begun start .opening; left = withStores (start .stores) (begun start .left) }
+abbrev pub leavesMarks : Start → Opened
+leavesMarks start = record {
+  opening = openWith start .opening;
+  left =
+      withStores (start .stores) (openWith start .left);
+}
 
 -- it sets them to 0
 pub leaves-marks-breaks : ¬ (OpenedLeaves (openingBy leavesMarks))
@@ -160,10 +171,10 @@ leaves-marks-breaks p =
     absurd (omega arith)
 
 -- the marks are cleared before the limits are asked for
-abbrev pub clearsFirst : Start → Begun
+abbrev pub clearsFirst : Start → Opened
 clearsFirst start = record {
-  opening = begun start .opening;
-  left = withStores (withMarks (zeros (length (start .stores .marks))) (start .stores)) (begun start .left);
+  opening = openWith start .opening;
+  left = withStores (withMarks (zeros (length (start .stores .marks))) (start .stores)) (openWith start .left);
 }
 
 -- an opening that is refused leaves all that is lent
@@ -174,12 +185,12 @@ clears-first-breaks p =
     absurd (omega arith)
 
 -- LIMITS, and a collector whose limit has been raised to the least
-abbrev pub raisesLimit : Start → Begun
+abbrev pub raisesLimit : Start → Opened
 raisesLimit start =
     pick (leb limitLeast (start .limit))
-    (begun start)
+    (openWith start)
     (record {
-      opening = Opening.Refused Answer.Limits;
+      opening = Opening.Denied Reason.Limits;
       left = record { collector = allFree limitLeast (start .count); counts = start .counts; stores = start .stores };
     })
 
@@ -208,8 +219,8 @@ clearedIn (At i) stores = withHeader (over (stores .header) (i * headerMost) (ze
 
 abbrev pub clearsHeader : ℕ → State → Reply
 clearsHeader number s = record {
-  answer = dropping number s .answer;
-  left = withStores (clearedIn (find number s) (dropping number s .left .stores)) (dropping number s .left);
+  answer = dropNumber number s .answer;
+  left = withStores (clearedIn (find number s) (dropNumber number s .left .stores)) (dropNumber number s .left);
 }
 
 pub clears-header-breaks : ¬ (DropKeepsStores (droppingBy clearsHeader))
@@ -224,8 +235,8 @@ emptied stores = pick (eqb (largestOf (stores .marks)) 0) (withBody (zeros (leng
 
 abbrev pub clearsEmpty : ℕ → State → Reply
 clearsEmpty number s = record {
-  answer = dropping number s .answer;
-  left = withStores (emptied (dropping number s .left .stores)) (dropping number s .left);
+  answer = dropNumber number s .answer;
+  left = withStores (emptied (dropNumber number s .left .stores)) (dropNumber number s .left);
 }
 
 pub clears-empty-breaks : ¬ (DropKeepsStores (droppingBy clearsEmpty))
@@ -237,9 +248,9 @@ clears-empty-breaks p =
 -- a number that is not held is counted as refused
 abbrev pub countsUndropped : ℕ → State → Reply
 countsUndropped number s =
-    pick (eqb (numberOf (dropping number s .answer)) 19)
-    (record { answer = Answer.NotHeld; left = withCounts (oneRefused (s .counts)) s })
-    (dropping number s)
+    pick (eqb (numberOf (dropNumber number s .answer)) 19)
+    (record { answer = Answer.Denied Reason.NotHeld; left = withCounts (oneRefused (s .counts)) s })
+    (dropNumber number s)
 
 pub counts-undropped-breaks : ¬ (UndroppedLeaves (droppingBy countsUndropped))
 unfolding computing small
@@ -253,9 +264,9 @@ counts-undropped-breaks p =
 -- it is counted as taken too
 abbrev pub repeatTaken : List ℕ → State → Reply
 repeatTaken bytes s =
-    pick (eqb (numberOf (taking bytes s .answer)) 2)
-    (record { answer = taking bytes s .answer; left = withCounts (oneTaken (taking bytes s .left .counts)) s })
-    (taking bytes s)
+    pick (eqb (numberOf (takeGroup bytes s .answer)) 2)
+    (record { answer = takeGroup bytes s .answer; left = withCounts (oneTaken (takeGroup bytes s .left .counts)) s })
+    (takeGroup bytes s)
 
 pub repeat-taken-breaks : ¬ (RepeatLeaves (takingBy repeatTaken))
 unfolding computing small groupFive
@@ -279,25 +290,30 @@ writtenAs (Refused why) bytes s = s
 
 abbrev pub repeatWritten : List ℕ → State → Reply
 repeatWritten bytes s =
-    pick (eqb (numberOf (taking bytes s .answer)) 2)
-    (record { answer = taking bytes s .answer; left = writtenAs (readingOf bytes) bytes (taking bytes s .left) })
-    (taking bytes s)
+    pick (eqb (numberOf (takeGroup bytes s .answer)) 2)
+    (record { answer = takeGroup bytes s .answer; left = writtenAs (readingOf bytes) bytes (takeGroup bytes s .left) })
+    (takeGroup bytes s)
 
 pub repeat-written-breaks : ¬ (RepeatLeaves (takingBy repeatWritten))
 unfolding computing small groupLast
 repeat-written-breaks p =
     let s : State = reachedBy defined many in
-    let e : _≡_ {A = ℕ} 0x74 0x65 = ap (λ (t : State). getD (t .stores .body) 4 0) (p bodyLast s (heardOf groupLast) refl) in
+    let e : _≡_ {A = ℕ} 0x74 0x65 =
+    ap (λ (t : State). getD (t .stores .body) 4 0) (p bodyLast s (heardOf groupLast) refl) in
     absurd (omega arith)
 
 -- ---- in a damaged state
 
 -- a group does not look at the counts
+abbrev readUncounted : Reading → List ℕ → State → Reply
+readUncounted (Refused why) bytes s = answering (Answer.Refused why) s
+readUncounted (Read carried) bytes s = intoHeld (find (carried .number) s) (arrivalIn bytes carried) s
+
 abbrev pub takesUncounted : List ℕ → State → Reply
 takesUncounted bytes s =
-    replied (pick (soundSlots (limitOf s) (s .collector .count) (s .collector .slots) (s .stores))
-    (takeRead (readingOf bytes) bytes (s .collector) (s .counts) (s .stores))
-    (answeredBy Answer.State (s .collector) (s .counts) (s .stores)))
+    pick (soundSlots (limitOf s) (s .collector .count) (s .collector .slots) (s .stores))
+    (readUncounted (readingOf bytes) bytes s)
+    (answering (Answer.Denied Reason.State) s)
 
 pub takes-uncounted-breaks : ¬ (StateExactly (takingBy takesUncounted))
 unfolding computing small
@@ -308,7 +324,7 @@ takes-uncounted-breaks p =
 -- STATE where more objects were completed than segments taken
 abbrev pub takesDoubting : List ℕ → State → Reply
 takesDoubting bytes s =
-    pick (ltb (s .counts .taken) (s .counts .completed)) (answering Answer.State s) (taking bytes s)
+    pick (ltb (s .counts .taken) (s .counts .completed)) (answering (Answer.Denied Reason.State) s) (takeGroup bytes s)
 
 pub takes-doubting-breaks : ¬ (StateExactly (takingBy takesDoubting))
 unfolding computing small
@@ -316,7 +332,7 @@ takes-doubting-breaks p = p five doubted (recounted-bytes one) .0 refl (recounte
 
 -- a drop is carried out in any state
 abbrev pub dropsDamaged : ℕ → State → Reply
-dropsDamaged number s = replied (dropFound (find number s) number (s .collector) (s .counts) (s .stores))
+dropsDamaged number s = dropFound (find number s) number s
 
 pub drops-damaged-breaks : ¬ (StateDropExactly (droppingBy dropsDamaged))
 unfolding computing small
@@ -327,7 +343,7 @@ drops-damaged-breaks p =
 -- STATE where more objects were dropped than segments taken
 abbrev pub dropsDoubting : ℕ → State → Reply
 dropsDoubting number s =
-    pick (ltb (s .counts .taken) (s .counts .dropped)) (answering Answer.State s) (dropping number s)
+    pick (ltb (s .counts .taken) (s .counts .dropped)) (answering (Answer.Denied Reason.State) s) (dropNumber number s)
 
 pub drops-doubting-breaks : ¬ (StateDropExactly (droppingBy dropsDoubting))
 unfolding computing small
@@ -336,7 +352,8 @@ drops-doubting-breaks p = p 5 doubted (recounted-bytes one) .0 refl (recounted o
 -- STATE is counted as refused
 abbrev pub countsState : List ℕ → State → Reply
 countsState bytes s =
-    pick (sound s) (taking bytes s) (record { answer = Answer.State; left = withCounts (oneRefused (s .counts)) s })
+    pick (sound s) (takeGroup bytes s)
+    (record { answer = Answer.Denied Reason.State; left = withCounts (oneRefused (s .counts)) s })
 
 pub counts-state-breaks : ¬ (UnansweredLeaves (takingBy countsState))
 unfolding computing small
@@ -353,7 +370,7 @@ anew s = record {
 }
 
 abbrev pub startsAnew : List ℕ → State → Reply
-startsAnew bytes s = pick (sound s) (taking bytes s) (record { answer = Answer.State; left = anew s })
+startsAnew bytes s = pick (sound s) (takeGroup bytes s) (record { answer = Answer.Denied Reason.State; left = anew s })
 
 pub starts-anew-breaks : ¬ (UnansweredLeaves (takingBy startsAnew))
 unfolding computing small
@@ -363,7 +380,8 @@ starts-anew-breaks p =
 
 -- so to a drop
 abbrev pub dropsAnew : ℕ → State → Reply
-dropsAnew number s = pick (sound s) (dropping number s) (record { answer = Answer.State; left = anew s })
+dropsAnew number s = pick (sound s) (dropNumber number s)
+    (record { answer = Answer.Denied Reason.State; left = anew s })
 
 pub drops-anew-breaks : ¬ (UndroppedLeaves (droppingBy dropsAnew))
 unfolding computing small
@@ -389,7 +407,8 @@ firstSlotFree bytes s =
 pub first-slot-free-breaks : ¬ (MarkedExactly (takingBy firstSlotFree))
 unfolding computing small groupSix
 first-slot-free-breaks p =
-    let e : _≡_ {A = ℕ} 17 18 = ap numberOf (by-marks (takingBy firstSlotFree) p .full groupSix .1 (fits, refl, refl)) in
+    let e : _≡_ {A = ℕ} 17 18 = ap numberOf
+    (by-marks (takingBy firstSlotFree) p .full groupSix .1 (fits, refl, refl)) in
     absurd (omega arith)
 
 -- a group that is not read
@@ -402,7 +421,7 @@ kind-first-unmarked p =
 -- where nothing was taken yet no number is held
 abbrev pub noneTaken : ℕ → State → Reply
 noneTaken number s =
-    pick (both (sound s) (eqb (s .counts .taken) 0)) (answering Answer.NotHeld s) (dropping number s)
+    pick (both (sound s) (eqb (s .counts .taken) 0)) (answering (Answer.Denied Reason.NotHeld) s) (dropNumber number s)
 
 -- a drop of it is DROPPED
 pub none-taken-breaks : ¬ (MarkedExactly (droppingBy noneTaken))
@@ -417,7 +436,7 @@ none-taken-breaks p =
 -- where nothing was completed yet no object has a name
 abbrev pub noneCompleted : List ℕ → State → Sought
 noneCompleted sought s =
-    pick (both (sound s) (eqb (s .counts .completed) 0)) (Sought.Refused Answer.NotFound) (finding sought s)
+    pick (both (sound s) (eqb (s .counts .completed) 0)) (Sought.Denied Reason.NotFound) (queries.find sought s)
 
 abbrev namedUncounted : State
 namedUncounted = withCounts noneYet (reachedBy defined named)

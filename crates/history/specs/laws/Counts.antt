@@ -26,8 +26,11 @@ and-true false b e = absurd (false-true refl e)
 pub within-low : (c : Counts) → within c ≡ true → Low c
 unfolding within
 within-low c e =
-    let t = and-true (leb (c .taken) ceiling) (leb (c .repeated) ceiling && (leb (c .refused) ceiling && (leb (c .completed) ceiling && leb (c .dropped) ceiling))) e in
-    let r = and-true (leb (c .repeated) ceiling) (leb (c .refused) ceiling && (leb (c .completed) ceiling && leb (c .dropped) ceiling)) (t .1) in
+    let t = and-true (leb (c .taken) ceiling)
+    (leb (c .repeated) ceiling && (leb
+    (c .refused) ceiling && (leb (c .completed) ceiling && leb (c .dropped) ceiling))) e in
+    let r = and-true (leb (c .repeated) ceiling)
+    (leb (c .refused) ceiling && (leb (c .completed) ceiling && leb (c .dropped) ceiling)) (t .1) in
     let f = and-true (leb (c .refused) ceiling) (leb (c .completed) ceiling && leb (c .dropped) ceiling) (r .1) in
     let d = and-true (leb (c .completed) ceiling) (leb (c .dropped) ceiling) (f .1) in
     record {
@@ -40,7 +43,13 @@ within-low c e =
 
 pub low-within : (c : Counts) → Low c → within c ≡ true
 unfolding within
-low-within c w = rw (le-leb (c .taken) ceiling (w .taken), le-leb (c .repeated) ceiling (w .repeated), le-leb (c .refused) ceiling (w .refused), le-leb (c .completed) ceiling (w .completed), le-leb (c .dropped) ceiling (w .dropped)) refl
+low-within c w = rw (
+  le-leb (c .taken) ceiling (w .taken),
+  le-leb (c .repeated) ceiling (w .repeated),
+  le-leb (c .refused) ceiling (w .refused),
+  le-leb (c .completed) ceiling (w .completed),
+  le-leb (c .dropped) ceiling (w .dropped),
+) refl
 
 risen-low : (n : ℕ) → n ≤ ceiling → risen n ≤ ceiling
 unfolding risen
@@ -51,18 +60,67 @@ risen-low n h = go (ltb n ceiling) refl
     go false e = h
 
 pub counted-low : (a : Answer) (c : Counts) → Low c → Low (counted a c)
-counted-low (Answer.Stored heard) c w = record { taken = risen-low (c .taken) (w .taken); repeated = w .repeated; refused = w .refused; completed = w .completed; dropped = w .dropped }
-counted-low (Answer.Complete heard) c w = record { taken = risen-low (c .taken) (w .taken); repeated = w .repeated; refused = w .refused; completed = risen-low (c .completed) (w .completed); dropped = w .dropped }
-counted-low (Answer.Repeat heard) c w = record { taken = w .taken; repeated = risen-low (c .repeated) (w .repeated); refused = w .refused; completed = w .completed; dropped = w .dropped }
-counted-low (Answer.Dropped number) c w = record { taken = w .taken; repeated = w .repeated; refused = w .refused; completed = w .completed; dropped = risen-low (c .dropped) (w .dropped) }
-counted-low (Answer.Refused why) c w = record { taken = w .taken; repeated = w .repeated; refused = risen-low (c .refused) (w .refused); completed = w .completed; dropped = w .dropped }
-counted-low (Answer.Conflict heard) c w = record { taken = w .taken; repeated = w .repeated; refused = risen-low (c .refused) (w .refused); completed = w .completed; dropped = w .dropped }
-counted-low (Answer.Full heard) c w = record { taken = w .taken; repeated = w .repeated; refused = risen-low (c .refused) (w .refused); completed = w .completed; dropped = w .dropped }
-counted-low Answer.NotHeld c w = w
-counted-low Answer.Unfinished c w = w
-counted-low Answer.Header c w = w
-counted-low Answer.Duplicate c w = w
-counted-low Answer.Core c w = w
-counted-low Answer.NotFound c w = w
-counted-low Answer.Limits c w = w
-counted-low Answer.State c w = w
+counted-low (Answer.Stored heard) c w =
+    record {
+      taken = risen-low (c .taken) (w .taken);
+      repeated = w .repeated;
+      refused = w .refused;
+      completed =
+          w .completed;
+      dropped = w .dropped;
+    }
+counted-low (Answer.Complete heard) c w =
+    record {
+      taken = risen-low (c .taken) (w .taken);
+      repeated = w .repeated;
+      refused = w .refused;
+      completed =
+          risen-low (c .completed) (w .completed);
+      dropped = w .dropped;
+    }
+counted-low (Answer.Repeat heard) c w =
+    record {
+      taken = w .taken;
+      repeated = risen-low (c .repeated) (w .repeated);
+      refused = w .refused;
+      completed =
+          w .completed;
+      dropped = w .dropped;
+    }
+counted-low (Answer.Dropped number) c w =
+    record {
+      taken = w .taken;
+      repeated = w .repeated;
+      refused = w .refused;
+      completed = w .completed;
+      dropped =
+          risen-low (c .dropped) (w .dropped);
+    }
+counted-low (Answer.Refused why) c w =
+    record {
+      taken = w .taken;
+      repeated = w .repeated;
+      refused = risen-low (c .refused) (w .refused);
+      completed =
+          w .completed;
+      dropped = w .dropped;
+    }
+counted-low (Answer.Conflict heard) c w =
+    record {
+      taken = w .taken;
+      repeated = w .repeated;
+      refused = risen-low (c .refused) (w .refused);
+      completed =
+          w .completed;
+      dropped = w .dropped;
+    }
+counted-low (Answer.Full heard) c w =
+    record {
+      taken = w .taken;
+      repeated = w .repeated;
+      refused = risen-low (c .refused) (w .refused);
+      completed =
+          w .completed;
+      dropped = w .dropped;
+    }
+counted-low (Answer.Denied reason) c w = w

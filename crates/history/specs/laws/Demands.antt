@@ -1,5 +1,5 @@
--- What is answered in a state whose slots hold just what is stored, call by call; then so after any run, and so by the marks
--- of any state that is not damaged.
+-- What is answered in a state whose slots hold just what is stored, call by call; then so after any run, and so by
+-- the marks of any state that is not damaged.
 use mathlib.Core.Path.{_≡_, refl, ap, subst}
 use mathlib.Core.Logic.{_≢_, _↔_}
 use mathlib.Core.List.{List, [], _∷_}
@@ -7,6 +7,7 @@ use Prim.Native.Nat.{ℕ}
 use native.Mathlib.Omega.{arith}
 use lib.ListN.{length}
 use Rattle.answer.specs.declared.Answer.the-variants as Answer
+use Rattle.answer.specs.declared.Reason.the-variants as Reason
 use Rattle.answer.specs.declared.Part.{Part}
 use Rattle.answer.specs.declared.Part.the-variants.{Header, Body}
 use Rattle.cut.specs.Lists.{Each}
@@ -17,22 +18,22 @@ use Rattle.object.specs.declared.Outcome.{Outcome}
 use Rattle.object.specs.declared.Outcome.the-variants.{Stored, Complete, Repeat, Conflict}
 use Rattle.slots.specs.declared.Found.{Found}
 use Rattle.slots.specs.declared.Found.the-variants.{Nothing, At}
-use Rattle.collector.specs.Calls.{answerAs}
-use Rattle.history.specs.laws.Call.{State, Reply, taking, dropAnswer, limitOf, find, unread, came, none-dropped, found-dropped}
-use Rattle.history.specs.Asking.{showing}
+use Rattle.collector.specs.State.{Start, Reply, State}
+use Rattle.collector.specs.Calls.{answerAs, find, show, takeGroup}
+use Rattle.history.specs.Held.{Same, limitOf, stageFor}
+use Rattle.history.specs.laws.Call.{dropAnswer, unread, came, none-dropped, found-dropped}
 use Rattle.history.specs.laws.Ready.{OfBytes, used-inside, found-used}
-use Rattle.history.specs.Held.{stageFor, Same}
 use Rattle.history.specs.laws.Sound.{Intact, segment-bytes, group-intact}
 use Rattle.history.specs.laws.State.{InOrder, in-order-exactly, group-never, drop-never, located-never, told-never, found-never}
 use Rattle.history.specs.laws.Others.{same-shown}
-use Rattle.history.specs.History.{Question, Call, hand, drop, ask, CallBytes, Elsewhere, event, after, Start, Allowed, reached, told, defined}
+use Rattle.history.specs.History.{Question, Call, hand, drop, ask, CallBytes, Elsewhere, event, after, Allowed, reached, told, defined}
 use Rattle.history.specs.laws.Stands.{StandsFor, came-lowest}
 use Rattle.history.specs.laws.Reached.{reached-intact, reached-stands, reached-limit, others-same}
 use Rattle.history.specs.laws.Answers.{Meets, Room, came-exactly, came-full, markedUnder, marked-stands}
 use Rattle.history.specs.laws.Stage.{all-finished, finished-all, finished-shown, unfinished-shown}
 use Rattle.history.specs.laws.Told.{not-held, unfinished, located-exactly, read-exactly, name-finished, name-missing, found-exactly, nobody-exactly}
 use Rattle.history.specs.laws.Room.{unheld-exactly}
-use Rattle.history.specs.Promise.{Run, reachedBy, stored, Passing, segmentOf, heardOf, View, since, byMarks, answerTo, FitsStored, NotState, ConflictBy, FullBy, RepeatBy, CompleteBy, StoredBy, LowestFreeBy, UnreadBy, DropBy, UnheldBy, NotHeldBy, UnfinishedBy, LocatedBy, ShownBy, UnshownBy, ReadBy, NamedBy, FoundBy, NotFoundBy, AnsweredBy}
+use Rattle.history.specs.Promise.{Run, reachedBy, stored, Passing, arrivalOf, segmentOf, heardOf, View, since, byMarks, answerTo, FitsStored, NotState, ConflictBy, FullBy, RepeatBy, CompleteBy, StoredBy, LowestFreeBy, UnreadBy, DropBy, UnheldBy, NotHeldBy, UnfinishedBy, LocatedBy, ShownBy, UnshownBy, ReadBy, NamedBy, FoundBy, NotFoundBy, AnsweredBy}
 
 -- ---- by what is stored
 
@@ -40,27 +41,38 @@ use Rattle.history.specs.Promise.{Run, reachedBy, stored, Passing, segme
 abbrev holding : State → (Part → ℕ → List Segment) → View
 holding s kept = record { state = s; limit = limitOf s; kept = kept }
 
-module _ (s : State) (kept : Part → ℕ → List Segment) (whole : Intact s) (stands : (number : ℕ) → StandsFor number s (kept Header number) (kept Body number)) where
+module _ (s : State) (kept : Part → ℕ → List Segment) (whole : Intact s)
+    (stands : (number : ℕ) → StandsFor number s (kept Header number) (kept Body number)) where
   these : (part : Part) (number : ℕ) → those part (kept Header number) (kept Body number) ≡ kept part number
   these Header number = refl
   these Body number = refl
 
   -- ---- a group that passes the reading checks
 
-  exactly : (g : Passing) (o : Outcome) → (answerTo defined (holding s kept) g ≡ answerAs o (heardOf g)) ↔ (Meets o (g .carried .part) (limitOf s) (segmentOf g) (kept Header (g .carried .number)) (kept Body (g .carried .number)) × Room o (g .carried .number) s)
-  exactly g o = came-exactly (g .carried) (segmentOf g) s (kept Header (g .carried .number)) (kept Body (g .carried .number)) (segment-bytes (g .bytes) (g .carried) (g .areBytes)) whole (stands (g .carried .number)) (taking (g .bytes) s) (came (g .bytes) s (whole .undamaged) (g .carried) (g .read)) o
+  exactly : (g : Passing) (o : Outcome) → (answerTo defined (holding s kept) g ≡ answerAs o (heardOf g))
+      ↔ (Meets o (g .carried .part) (limitOf s) (segmentOf g) (kept Header (g .carried .number))
+      (kept Body (g .carried .number)) × Room o (g .carried .number) s)
+  exactly g o = came-exactly (arrivalOf g) s (kept Header (g .carried .number)) (kept Body (g .carried .number))
+      (segment-bytes (g .bytes) (g .carried) (g .areBytes)) whole (stands (g .carried .number)) (takeGroup (g .bytes) s)
+      (came (g .bytes) s (whole .undamaged) (g .carried) (g .read)) o
 
   conflict-by : ConflictBy defined (holding s kept)
   conflict-by g = (λ e. exactly g Conflict .0 e .0, λ n. exactly g Conflict .1 (n, tt))
 
   full-by : FullBy defined (holding s kept)
-  full-by g = came-full (g .carried) (segmentOf g) s (kept Header (g .carried .number)) (kept Body (g .carried .number)) (segment-bytes (g .bytes) (g .carried) (g .areBytes)) whole (stands (g .carried .number)) (taking (g .bytes) s) (came (g .bytes) s (whole .undamaged) (g .carried) (g .read))
+  full-by g = came-full (arrivalOf g) s (kept Header (g .carried .number)) (kept Body (g .carried .number))
+      (segment-bytes (g .bytes) (g .carried) (g .areBytes)) whole (stands (g .carried .number)) (takeGroup (g .bytes) s)
+      (came (g .bytes) s (whole .undamaged) (g .carried) (g .read))
 
   repeat-by : RepeatBy defined (holding s kept)
   repeat-by g = (λ e. rw these at (exactly g Repeat .0 e .0), λ i. exactly g Repeat .1 (rw these i, tt))
 
   complete-by : CompleteBy defined (holding s kept)
-  complete-by g = (λ e. let m = exactly g Complete .0 e in (m .0 .0, m .0 .1, m .1), λ m. exactly g Complete .1 ((m .0, m .1), m .2))
+  complete-by g = (
+    λ e. let m = exactly g Complete .0 e in
+        (m .0 .0, m .0 .1, m .1),
+    λ m. exactly g Complete .1 ((m .0, m .1), m .2),
+  )
 
   stored-by : StoredBy defined (holding s kept)
   stored-by g = (
@@ -69,7 +81,9 @@ module _ (s : State) (kept : Part → ℕ → List Segment) (whole : Intact s) (
   )
 
   lowest-by : LowestFreeBy defined (holding s kept)
-  lowest-by g none h = came-lowest (g .carried) (segmentOf g) s (taking (g .bytes) s) (segment-bytes (g .bytes) (g .carried) (g .areBytes)) whole (group-intact (g .bytes) s (g .areBytes) whole) (came (g .bytes) s (whole .undamaged) (g .carried) (g .read)) none h
+  lowest-by g none h = came-lowest (arrivalOf g) s (takeGroup (g .bytes) s)
+      (segment-bytes (g .bytes) (g .carried) (g .areBytes)) whole (group-intact (g .bytes) s (g .areBytes) whole)
+      (came (g .bytes) s (whole .undamaged) (g .carried) (g .read)) none h
 
   -- ---- one that does not, and a drop
 
@@ -79,13 +93,23 @@ module _ (s : State) (kept : Part → ℕ → List Segment) (whole : Intact s) (
   drop-by : DropBy defined (holding s kept)
   drop-by number = go (find number s) refl
     where
-      go : (found : Found) → find number s ≡ found → ((dropAnswer number s ≡ Answer.Dropped number) ↔ (find number s ≢ Nothing)) × ((dropAnswer number s ≡ Answer.NotHeld) ↔ (find number s ≡ Nothing))
+      go : (found : Found) → find number s ≡ found
+          → ((dropAnswer number s ≡ Answer.Dropped number) ↔ (find number s ≢ Nothing))
+          × ((dropAnswer number s ≡ Answer.Denied Reason.NotHeld) ↔ (find number s ≡ Nothing))
       go Nothing e =
-          let a : dropAnswer number s ≡ Answer.NotHeld = ap (λ (t : Reply). t .answer) (none-dropped number s (whole .undamaged) e) in
+          let a : dropAnswer number s ≡ Answer.Denied Reason.NotHeld =
+          ap (λ (t : Reply). t .answer) (none-dropped number s (whole .undamaged) e) in
           (((λ d. let z : _≡_ {A = ℕ} 0 1 = cc in absurd (omega arith)), (λ n. absurd (n e))), ((λ d. e), (λ n. a)))
       go (At i) e =
-          let a : dropAnswer number s ≡ Answer.Dropped number = ap (λ (t : Reply). t .answer) (found-dropped number s (whole .undamaged) i (used-inside s (whole .undamaged) i (found-used s (whole .undamaged) number i e)) e) in
-          (((λ d n. let z : _≡_ {A = ℕ} 0 1 = cc in absurd (omega arith)), (λ n. a)), ((λ d. let z : _≡_ {A = ℕ} 0 1 = cc in absurd (omega arith)), (λ n. let z : _≡_ {A = ℕ} 0 1 = cc in absurd (omega arith))))
+          let a : dropAnswer number s ≡ Answer.Dropped number =
+          ap (λ (t : Reply). t .answer) (found-dropped number s (whole .undamaged) i
+          (used-inside s (whole .undamaged) i (found-used s (whole .undamaged) number i e)) e) in (
+            ((λ d n. let z : _≡_ {A = ℕ} 0 1 = cc in absurd (omega arith)), (λ n. a)),
+            (
+              (λ d. let z : _≡_ {A = ℕ} 0 1 = cc in absurd (omega arith)),
+              (λ n. let z : _≡_ {A = ℕ} 0 1 = cc in absurd (omega arith)),
+            ),
+          )
 
   unheld-by : UnheldBy defined (holding s kept)
   unheld-by number = unheld-exactly number s (kept Header number) (kept Body number) (whole .undamaged) (stands number)
@@ -99,24 +123,33 @@ module _ (s : State) (kept : Part → ℕ → List Segment) (whole : Intact s) (
   unfinished-by number = unfinished number s (kept Header number) (kept Body number) (whole .undamaged) (stands number)
 
   located-by : LocatedBy defined (holding s kept)
-  located-by number i = located-exactly number s (kept Header number) (kept Body number) (whole .undamaged) (stands number) i
+  located-by number i = located-exactly number s (kept Header number) (kept Body number) (whole .undamaged)
+      (stands number) i
 
   shown-by : ShownBy defined (holding s kept)
-  shown-by number f d = finished-shown number s (kept Header number) (kept Body number) (stands number) (whole .undamaged) f d
+  shown-by number f d = finished-shown number s (kept Header number) (kept Body number) (stands number)
+      (whole .undamaged) f d
 
   unshown-by : UnshownBy defined (holding s kept)
-  unshown-by number none part = unfinished-shown number s (kept Header number) (kept Body number) (stands number) (whole .undamaged) none part
+  unshown-by number none part = unfinished-shown number s (kept Header number) (kept Body number) (stands number)
+      (whole .undamaged) none part
 
   read-by : ReadBy defined (holding s kept)
-  read-by number reading = read-exactly number s (kept Header number) (kept Body number) (whole .undamaged) (stands number) reading
+  read-by number reading = read-exactly number s (kept Header number) (kept Body number) (whole .undamaged)
+      (stands number) reading
 
   named-by : NamedBy defined (holding s kept)
-  named-by number = (name-finished number s (kept Header number) (kept Body number) (whole .undamaged) (stands number), name-missing number s (kept Header number) (kept Body number) (whole .undamaged) (stands number))
+  named-by number = (
+    name-finished number s (kept Header number) (kept Body number) (whole .undamaged) (stands number),
+    name-missing number s (kept Header number) (kept Body number) (whole .undamaged) (stands number),
+  )
 
   found-by : FoundBy defined (holding s kept)
   found-by sought number = (
-    λ e. let h = found-exactly s kept (whole .undamaged) stands sought number .0 e in record { object = h .0 .0; finished = h .0 .1; named = h .0 .2; lowest = λ other f d n. h .1 other (f, d, n) },
-    λ l. found-exactly s kept (whole .undamaged) stands sought number .1 ((l .object, l .finished, l .named), λ other h. l .lowest other (h .0) (h .1) (h .2)),
+    λ e. let h = found-exactly s kept (whole .undamaged) stands sought number .0 e in
+        record { object = h .0 .0; finished = h .0 .1; named = h .0 .2; lowest = λ other f d n. h .1 other (f, d, n) },
+    λ l. found-exactly s kept (whole .undamaged) stands sought number .1
+        ((l .object, l .finished, l .named), λ other h. l .lowest other (h .0) (h .1) (h .2)),
   )
 
   not-found-by : NotFoundBy defined (holding s kept)
@@ -163,9 +196,13 @@ event-not-state (ask (Question.parameters number)) s whole = told-never number s
 event-not-state (ask (Question.name number)) s whole = told-never number s (whole .undamaged)
 event-not-state (ask (Question.find sought)) s whole = found-never sought s (whole .undamaged)
 
-pub never-state : (start : Start) → Allowed start → (calls : List Call) → Each CallBytes calls → Each NotState (told defined start calls)
+pub never-state : (start : Start) → Allowed start → (calls : List Call) → Each CallBytes calls
+    → Each NotState (told defined start calls)
 never-state start a [] y = tt
-never-state start a (call ∷ calls) y = (event-not-state call (reached defined start calls) (reached-intact start a calls (y .1)), never-state start a calls (y .1))
+never-state start a (call ∷ calls) y = (
+  event-not-state call (reached defined start calls) (reached-intact start a calls (y .1)),
+  never-state start a calls (y .1),
+)
 
 -- ---- after any run
 
@@ -173,32 +210,54 @@ module _ (r : Run) where
   whole : Intact (reachedBy defined r)
   whole = reached-intact (r .start) (r .allowed) (r .calls) (r .bytes)
 
-  stands : (number : ℕ) → StandsFor number (reachedBy defined r) (stored defined r Header number) (stored defined r Body number)
+  stands : (number : ℕ) → StandsFor number (reachedBy defined r) (stored defined r Header number)
+      (stored defined r Body number)
   stands number = reached-stands (r .start) (r .allowed) (r .calls) (r .bytes) number
 
   limit-is : limitOf (reachedBy defined r) ≡ r .start .limit
   limit-is = reached-limit (r .start) (r .allowed) (r .calls) (r .bytes)
 
   pub run-answered : AnsweredBy defined (since defined r)
-  run-answered = subst (λ (limit : ℕ). AnsweredBy defined (record { state = reachedBy defined r; limit = limit; kept = stored defined r })) limit-is (answered (reachedBy defined r) (stored defined r) whole stands)
+  run-answered = subst (λ (limit : ℕ). AnsweredBy defined
+      (record { state = reachedBy defined r; limit = limit; kept = stored defined r })) limit-is
+      (answered (reachedBy defined r) (stored defined r) whole stands)
 
   -- calls under other numbers
   pub others-held : (number : ℕ) (more : List Call) → Each CallBytes more → Each (Elsewhere number) more
-      → Same number (reachedBy defined r) (after defined more (reachedBy defined r)) × ((part : Part) → showing number part (after defined more (reachedBy defined r)) ≡ showing number part (reachedBy defined r))
+      → Same number (reachedBy defined r) (after defined more (reachedBy defined r))
+      × ((part : Part) → show number part (after defined more (reachedBy defined r))
+      ≡ show number part (reachedBy defined r))
   others-held number more y d =
-      let same = others-same number more (reachedBy defined r) y d whole in
-      (same .0, λ part. same-shown number part (reachedBy defined r) (after defined more (reachedBy defined r)) (whole .undamaged) (same .1 .undamaged) (same .0))
+      let same = others-same number more (reachedBy defined r) y d whole in (
+        same .0,
+        λ part. same-shown number part (reachedBy defined r) (after defined more (reachedBy defined r))
+            (whole .undamaged) (same .1 .undamaged) (same .0),
+      )
 
   -- the stage of a number's slot
   module _ (number : ℕ) where
-    pub finished-exactly : ((header : ℕ) × (body : ℕ) × (stageFor number (reachedBy defined r) ≡ Stage.Finished header body)) ↔ ((f : FitsStored (since defined r) number) × Finished f)
+    pub finished-exactly : ((header : ℕ) × (body : ℕ)
+        × (stageFor number (reachedBy defined r) ≡ Stage.Finished header body))
+        ↔ ((f : FitsStored (since defined r) number) × Finished f)
     finished-exactly = rw limit-is at finished-now
       where
-        finished-now : ((header : ℕ) × (body : ℕ) × (stageFor number (reachedBy defined r) ≡ Stage.Finished header body)) ↔ ((f : Fits (limitOf (reachedBy defined r)) (stored defined r Header number) (stored defined r Body number)) × Finished f)
+        finished-now : ((header : ℕ) × (body : ℕ)
+            × (stageFor number (reachedBy defined r) ≡ Stage.Finished header body))
+            ↔ ((f : Fits (limitOf (reachedBy defined r)) (stored defined r Header number)
+            (stored defined r Body number)) × Finished f)
         finished-now = (
-          (λ e. finished-all number (reachedBy defined r) (stored defined r Header number) (stored defined r Body number) (stands number) (e .0) (e .1) (e .2)),
-          (λ w. (length (w .0 .header), length (w .0 .body), all-finished number (reachedBy defined r) (stored defined r Header number) (stored defined r Body number) (stands number) (w .0) (w .1))),
+          (λ e. finished-all number (reachedBy defined r) (stored defined r Header number)
+              (stored defined r Body number) (stands number) (e .0) (e .1) (e .2)),
+          (λ w. (
+            length (w .0 .header),
+            length (w .0 .body),
+            all-finished number (reachedBy defined r) (stored defined r Header number) (stored defined r Body number)
+                (stands number) (w .0) (w .1),
+          )),
         )
 
-    pub finished-lengths : (f : FitsStored (since defined r) number) → Finished f → stageFor number (reachedBy defined r) ≡ Stage.Finished (length (f .header)) (length (f .body))
-    finished-lengths = rw limit-is at (all-finished number (reachedBy defined r) (stored defined r Header number) (stored defined r Body number) (stands number))
+    pub finished-lengths : (f : FitsStored (since defined r) number) → Finished f
+        → stageFor number (reachedBy defined r) ≡ Stage.Finished (length (f .header)) (length (f .body))
+    finished-lengths = rw limit-is at
+        (all-finished number (reachedBy defined r) (stored defined r Header number) (stored defined r Body number)
+        (stands number))

@@ -1,10 +1,12 @@
--- A history of each kind of answer, computed: document 01's example in a collector of one slot, with a group under another
--- number, a conflict and each question. It meets all that the promises ask, and a part of it comes from one cut of one object.
+-- A history of each kind of answer, computed: document 01's example in a collector of one slot, with a group under
+-- another number, a conflict and each question. It meets all that the promises ask, and a part of it comes from one
+-- cut of one object.
 use mathlib.Core.Path.{_≡_, refl}
 use mathlib.Core.List.{List, [], _∷_}
 use Prim.Native.Nat.{ℕ}
 use native.Mathlib.Omega.{arith}
 use Rattle.answer.specs.declared.Answer.the-variants as Answer
+use Rattle.answer.specs.declared.Reason.the-variants as Reason
 use Rattle.answer.specs.declared.Heard.{Heard}
 use Rattle.answer.specs.declared.Part.{Part}
 use Rattle.answer.specs.declared.Part.the-variants.{Header, Body}
@@ -19,7 +21,7 @@ use Rattle.object.specs.Source.{SentBy}
 use Rattle.collector.specs.declared.Located.the-variants as Located
 use Rattle.queries.specs.declared.Asked.the-variants as Asked
 use Rattle.queries.specs.declared.Sought.the-variants as Sought
-use Rattle.history.specs.Asking.{showing}
+use Rattle.collector.specs.Calls.{show}
 use Rattle.history.specs.History.{Question, Call, hand, drop, ask, CallBytes, shown, read, named, found, handed, dropped, asked, told}
 use Rattle.history.specs.Ours.{ours}
 use Rattle.history.specs.Held.{stageFor}
@@ -47,7 +49,31 @@ calls =
     ∷ []
 
 pub of-bytes : Each CallBytes calls
-of-bytes = (tt, (tt, (tt, (tt, (tt, (tt, (omega arith, (omega arith, (omega arith, (omega arith, (omega arith, (omega arith, (omega arith, tt)))))))))))))
+of-bytes = (
+  tt,
+  (
+    tt,
+    (
+      tt,
+      (
+        tt,
+        (
+          tt,
+          (
+            tt,
+            (
+              omega arith,
+              (
+                omega arith,
+                (omega arith, (omega arith, (omega arith, (omega arith, (omega arith, tt))))),
+              ),
+            ),
+          ),
+        ),
+      ),
+    ),
+  ),
+)
 
 abbrev inHeader : ℕ → Heard
 inHeader number = record { number = number; part = Header; segment = 0 }
@@ -57,15 +83,25 @@ inBody segment = record { number = 5; part = Body; segment = segment }
 
 -- what its header says
 abbrev core : Fields
-core = record { «body_size» = 20; «header_size» = 7; «content_type» = 0; «content_sub_type» = 0; priority = Priority.Absent; name = Name.Absent }
+core = record {
+  «body_size» = 20;
+  «header_size» = 7;
+  «content_type» = 0;
+  «content_sub_type» = 0;
+  priority =
+      Priority.Absent;
+  name = Name.Absent;
+}
 
 pub answers : told ours small calls
     ≡ dropped 5 (Answer.Dropped 5)
-    ∷ dropped 6 Answer.NotHeld
-    ∷ asked (Question.find (0x61 ∷ [])) (found (Sought.Refused Answer.NotFound))
+    ∷ dropped 6 (Answer.Denied Reason.NotHeld)
+    ∷ asked (Question.find (0x61 ∷ [])) (found (Sought.Denied Reason.NotFound))
     ∷ asked (Question.name 5) (named (Asked.Fields core) [])
     ∷ asked (Question.parameters 5) (read (Asked.Fields core))
-    ∷ asked (Question.show 5 Body) (shown (Located.At 0) (0x61 ∷ 0x62 ∷ 0x63 ∷ 0x64 ∷ 0x65 ∷ 0x66 ∷ 0x67 ∷ 0x68 ∷ 0x69 ∷ 0x6A ∷ 0x6B ∷ 0x6C ∷ 0x6D ∷ 0x6E ∷ 0x6F ∷ 0x70 ∷ 0x74 ∷ 0x75 ∷ 0x76 ∷ 0x77 ∷ []))
+    ∷ asked (Question.show 5 Body) (shown (Located.At 0)
+    (0x61 ∷ 0x62 ∷ 0x63 ∷ 0x64 ∷ 0x65 ∷ 0x66 ∷ 0x67 ∷ 0x68 ∷ 0x69 ∷ 0x6A ∷ 0x6B ∷ 0x6C ∷ 0x6D ∷ 0x6E ∷ 0x6F ∷ 0x70
+    ∷ 0x74 ∷ 0x75 ∷ 0x76 ∷ 0x77 ∷ []))
     ∷ handed (0 ∷ []) (Answer.Refused Refusal.Length)
     ∷ handed bodyLast (Answer.Repeat (inBody 1))
     ∷ handed bodyFirst (Answer.Complete (inBody 0))
@@ -94,6 +130,7 @@ unfolding computing small run
 all-from Header = (sent-one .0, tt)
 all-from Body = (sent-one .1, (sent-one .2, tt))
 
-pub finished : (stageFor 5 (reachedBy ours run) ≡ Stage.Finished 7 20) × (showing 5 Header (reachedBy ours run) ≡ object .header) × (showing 5 Body (reachedBy ours run) ≡ object .body)
+pub finished : (stageFor 5 (reachedBy ours run) ≡ Stage.Finished 7 20)
+    × (show 5 Header (reachedBy ours run) ≡ object .header) × (show 5 Body (reachedBy ours run) ≡ object .body)
 unfolding object small run
 finished = promised .finishes run object 5 all-from all-come

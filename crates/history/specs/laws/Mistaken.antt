@@ -9,6 +9,7 @@ use lib.Dec.{eqb, ltb}
 use lib.ListN.{length, getD, take, drop}
 use Rattle.octets.specs.Octets.{equal}
 use Rattle.answer.specs.declared.Answer.the-variants as Answer
+use Rattle.answer.specs.declared.Reason.the-variants as Reason
 use Rattle.answer.specs.declared.Part.{Part}
 use Rattle.answer.specs.declared.Part.the-variants.{Header, Body}
 use Rattle.answer.specs.Table.{numberOf}
@@ -26,14 +27,15 @@ use Rattle.names.specs.declared.Holder.the-variants.{Nobody, Number}
 use Rattle.names.specs.Finding.{headerIn, nameData, hasName, lower, foundByName}
 use Rattle.collector.specs.declared.Located.{Located}
 use Rattle.collector.specs.declared.Located.the-variants as Located
-use Rattle.collector.specs.Calls.{locatedIn, locate, shownAt}
+use Rattle.collector.specs.State.{State}
+use Rattle.collector.specs.Calls.{find, locate, locatedIn, show, shownAt}
+use Rattle.queries.specs.Questions as queries
 use Rattle.queries.specs.declared.Asked.{Asked}
 use Rattle.queries.specs.declared.Asked.the-variants as Asked
 use Rattle.queries.specs.declared.Sought.{Sought}
 use Rattle.queries.specs.declared.Sought.the-variants as Sought
 use Rattle.queries.specs.Questions.{askedAs, askedOf, soughtAs}
-use Rattle.history.specs.laws.Call.{State, find, lentOf}
-use Rattle.history.specs.Asking.{locating, showing, telling, naming, finding}
+use Rattle.history.specs.Held.{lentOf}
 use Rattle.history.specs.History.{Question, defined}
 use Rattle.history.specs.laws.Stage.{none-finished}
 use Rattle.history.specs.laws.Demands.{run-answered}
@@ -45,7 +47,7 @@ use Rattle.history.specs.laws.Trials.{core, none, one, waiting, namedWai
 
 -- the counts are never looked at
 abbrev pub countsUnasked : ℕ → State → Located
-countsUnasked number s = locate number (s .collector) noneYet (s .stores)
+countsUnasked number s = locate number (withCounts noneYet s)
 
 pub counts-unasked-breaks : ¬ (StateAskExactly (locatingBy countsUnasked))
 unfolding computing small
@@ -65,7 +67,7 @@ searches-damaged-breaks p =
 
 -- an object is shown in any state
 abbrev pub showsDamaged : ℕ → Part → State → List ℕ
-showsDamaged number part s = shownAt (locatedIn (find number s) (s .collector)) part (s .collector) (s .stores)
+showsDamaged number part s = shownAt (locatedIn (find number s) (s .collector)) part s
 
 pub shows-damaged-breaks : ¬ (StateAskExactly (showingBy showsDamaged))
 unfolding computing small
@@ -76,7 +78,7 @@ shows-damaged-breaks p =
 -- STATE where more objects were completed than segments taken
 abbrev pub doubtsCounts : ℕ → State → Asked
 doubtsCounts number s =
-    pick (ltb (s .counts .taken) (s .counts .completed)) (Asked.Refused Answer.State) (telling number s)
+    pick (ltb (s .counts .taken) (s .counts .completed)) (Asked.Denied Reason.State) (queries.parameters number s)
 
 pub doubts-counts-breaks : ¬ (StateAskExactly (tellingBy doubtsCounts))
 unfolding computing small
@@ -87,12 +89,12 @@ doubts-counts-breaks p = p doubted (recounted-bytes one) .1 5 .0 refl (recounted
 -- a question that is refused is counted so
 abbrev countedAs : Located → State → State
 countedAs (Located.At i) s = s
-countedAs (Located.Refused why) s = withCounts (oneRefused (s .counts)) s
+countedAs (Located.Denied why) s = withCounts (oneRefused (s .counts)) s
 
 abbrev pub countsQuestions : Question → State → State
-countsQuestions (Question.show number part) s = countedAs (locating number s) s
-countsQuestions (Question.parameters number) s = countedAs (locating number s) s
-countsQuestions (Question.name number) s = countedAs (locating number s) s
+countsQuestions (Question.show number part) s = countedAs (locate number s) s
+countsQuestions (Question.parameters number) s = countedAs (locate number s) s
+countsQuestions (Question.name number) s = countedAs (locate number s) s
 countsQuestions (Question.find sought) s = s
 
 pub counts-questions-breaks : ¬ (AskedLeaves (askingBy countsQuestions))
@@ -121,8 +123,8 @@ mends-counts-breaks p =
 
 -- UNFINISHED for a number that holds no slot
 abbrev unfinishedAs : Found → ℕ → State → Located
-unfinishedAs Nothing number s = Located.Refused Answer.Unfinished
-unfinishedAs (At i) number s = locating number s
+unfinishedAs Nothing number s = Located.Denied Reason.Unfinished
+unfinishedAs (At i) number s = locate number s
 
 abbrev pub unfinishedUnheld : ℕ → State → Located
 unfinishedUnheld number s = unfinishedAs (find number s) number s
@@ -135,7 +137,7 @@ unfinished-unheld-breaks p =
 
 -- what is shown is read, and nobody asks whether anything is: CORE
 abbrev pub readsNothing : ℕ → State → Asked
-readsNothing number s = askedAs (readHeader (showing number Header s))
+readsNothing number s = askedAs (readHeader (show number Header s))
 
 pub reads-nothing-breaks : ¬ (NotHeldExactly (tellingBy readsNothing))
 unfolding computing small
@@ -148,10 +150,10 @@ reads-nothing-breaks p =
 -- NOTHELD for an object until it is finished
 abbrev notHeldAs : Located → Located
 notHeldAs (Located.At i) = Located.At i
-notHeldAs (Located.Refused why) = Located.Refused Answer.NotHeld
+notHeldAs (Located.Denied why) = Located.Denied Reason.NotHeld
 
 abbrev pub notHeldUnfinished : ℕ → State → Located
-notHeldUnfinished number s = notHeldAs (locating number s)
+notHeldUnfinished number s = notHeldAs (locate number s)
 
 pub not-held-unfinished-breaks : ¬ (UnfinishedExactly (locatingBy notHeldUnfinished))
 unfolding computing small
@@ -182,7 +184,7 @@ reads-early-breaks p =
 
 -- nobody asks whether it is finished
 abbrev heldAs : Found → Located
-heldAs Nothing = Located.Refused Answer.NotHeld
+heldAs Nothing = Located.Denied Reason.NotHeld
 heldAs (At i) = Located.At i
 
 abbrev pub locatesHeld : ℕ → State → Located
@@ -197,10 +199,10 @@ locates-held-breaks p =
 -- slots counted from 1
 abbrev fromOneAs : Located → Located
 fromOneAs (Located.At i) = Located.At (suc i)
-fromOneAs (Located.Refused why) = Located.Refused why
+fromOneAs (Located.Denied why) = Located.Denied why
 
 abbrev pub slotsFromOne : ℕ → State → Located
-slotsFromOne number s = fromOneAs (locating number s)
+slotsFromOne number s = fromOneAs (locate number s)
 
 pub slots-from-one-breaks : ¬ (LocatedExactly (locatingBy slotsFromOne))
 unfolding computing small
@@ -212,7 +214,7 @@ slots-from-one-breaks p =
 
 -- it is read off the body
 abbrev pub readsBody : ℕ → State → Asked
-readsBody number s = askedOf (locating number s) (showing number Body s)
+readsBody number s = askedOf (locate number s) (show number Body s)
 
 pub reads-body-breaks : ¬ (ReadExactly (tellingBy readsBody))
 unfolding computing small
@@ -224,10 +226,10 @@ reads-body-breaks p =
 -- a broken list of parameters is called DUPLICATE
 abbrev duplicateAs : Asked → Asked
 duplicateAs (Asked.Fields fields) = Asked.Fields fields
-duplicateAs (Asked.Refused why) = Asked.Refused (pick (eqb (numberOf why) 21) Answer.Duplicate why)
+duplicateAs (Asked.Denied why) = Asked.Denied (pick (eqb (numberOf (Answer.Denied why)) 21) Reason.Duplicate why)
 
 abbrev pub brokenDuplicate : ℕ → State → Asked
-brokenDuplicate number s = duplicateAs (telling number s)
+brokenDuplicate number s = duplicateAs (queries.parameters number s)
 
 pub broken-duplicate-breaks : ¬ (ReadExactly (tellingBy brokenDuplicate))
 unfolding computing small
@@ -240,7 +242,7 @@ broken-duplicate-breaks p =
 
 -- the character set byte is cut off
 abbrev pub cutsSet : ℕ → State → List ℕ
-cutsSet number s = drop 1 (naming number s)
+cutsSet number s = drop 1 (queries.name number s)
 
 pub cuts-set-breaks : ¬ (NamesRead (namingBy cutsSet))
 unfolding computing small
@@ -300,15 +302,16 @@ finds-unfinished-breaks p =
 -- NOTHELD for a name that nobody has
 abbrev notHeldFor : Sought → Sought
 notHeldFor (Sought.Number number) = Sought.Number number
-notHeldFor (Sought.Refused why) = Sought.Refused Answer.NotHeld
+notHeldFor (Sought.Denied why) = Sought.Denied Reason.NotHeld
 
 abbrev pub nobodyNotHeld : List ℕ → State → Sought
-nobodyNotHeld sought s = notHeldFor (finding sought s)
+nobodyNotHeld sought s = notHeldFor (queries.find sought s)
 
 pub nobody-not-held-breaks : ¬ (NotFoundExactly (findingBy nobodyNotHeld))
 unfolding computing small
 nobody-not-held-breaks p =
-    let e : _≡_ {A = ℕ} 19 24 = ap soughtNumber (p none [] .1 λ number f d. absurd (none-finished 1024 [] [] f d refl)) in
+    let e : _≡_ {A = ℕ} 19 24 = ap soughtNumber
+    (p none [] .1 λ number f d. absurd (none-finished 1024 [] [] f d refl)) in
     absurd (omega arith)
 
 -- no slash is dropped

@@ -4,7 +4,7 @@ use mathlib.Core.List.{List, [], _∷_}
 use Prim.Native.Nat.{ℕ, zero, suc, _+_, _*_, _<_}
 use native.Mathlib.Omega.{arith}
 use lib.ListN.{getD, set, replicate}
-use Rattle.wire.specs.declared.Segment.{Segment as Carried}
+use Rattle.wire.specs.declared.Carried.{Carried}
 use Rattle.wire.specs.declared.Reading.{Reading}
 use Rattle.wire.specs.declared.Reading.the-variants.{Read, Refused}
 use Rattle.wire.specs.Wire.{byteAt, userAccess}
@@ -16,12 +16,14 @@ use Rattle.object.specs.declared.Slot.{Slot}
 use Rattle.slots.specs.declared.Found.{Found}
 use Rattle.slots.specs.declared.Found.the-variants.{Nothing, At}
 use Rattle.slots.specs.Stores.{slotsMost, freeSlot, freshSlot, slotAt}
-use Rattle.collector.specs.Calls.{segmentIn}
-use Rattle.history.specs.laws.Call.{State, Reply, taking, dropping, limitOf, slotOf, lentOf, find, Came, alone, full, first, more, unread, came, none-dropped, found-dropped}
+use Rattle.collector.specs.State.{Start, Reply, State}
+use Rattle.collector.specs.Calls.{Arrival, arrivalIn, dropNumber, find, takeGroup}
+use Rattle.history.specs.Held.{lentOf, limitOf, slotOf}
+use Rattle.history.specs.laws.Call.{Came, alone, full, first, more, unread, came, none-dropped, found-dropped}
 use Rattle.history.specs.laws.Ready.{used-inside, found-used}
 use Rattle.history.specs.laws.Taken.{taken-number}
 use Rattle.history.specs.laws.Sound.{Intact}
-use Rattle.history.specs.History.{Call, hand, drop, ask, CallBytes, leaves, Start, Allowed, defined, reached}
+use Rattle.history.specs.History.{Call, hand, drop, ask, CallBytes, leaves, Allowed, defined, reached}
 use Rattle.history.specs.laws.Reached.{start-is, reached-intact}
 
 -- a number of 16 bits
@@ -36,15 +38,18 @@ byte-low (x ∷ l) (suc i) y = byte-low l i (y .1)
 word-low : (a b : ℕ) → a < 256 → b < 256 → a * 256 + b < 65536
 word-low a b h g = omega arith
 
-carried-low : (group : List ℕ) (carried : Carried) → Bytes group → readingOf group ≡ Read carried → Sixteen (carried .number)
+carried-low : (group : List ℕ) (carried : Carried) → Bytes group → readingOf group ≡ Read carried
+    → Sixteen (carried .number)
 unfolding segmentOf
 carried-low group carried y e =
     let r = read-passes group carried e in
     subst (λ (c : Carried). Sixteen (c .number)) (r .2)
-    (word-low (byteAt group (userAccess group + 1)) (byteAt group (userAccess group + 1 + 1)) (byte-low group (userAccess group + 1) y) (byte-low group (userAccess group + 1 + 1) y))
+    (word-low (byteAt group (userAccess group + 1)) (byteAt group (userAccess group + 1 + 1))
+    (byte-low group (userAccess group + 1) y) (byte-low group (userAccess group + 1 + 1) y))
 
 -- one slot is replaced
-set-low : (slots : List Slot) (i : ℕ) (slot : Slot) → Sixteen (slot .number) → ((j : ℕ) → Sixteen (slotAt j slots .number)) → (j : ℕ) → Sixteen (slotAt j (set slots i slot) .number)
+set-low : (slots : List Slot) (i : ℕ) (slot : Slot) → Sixteen (slot .number)
+    → ((j : ℕ) → Sixteen (slotAt j slots .number)) → (j : ℕ) → Sixteen (slotAt j (set slots i slot) .number)
 unfolding slotAt
 set-low [] i slot h low j = low j
 set-low (x ∷ slots) zero slot h low zero = h
@@ -60,27 +65,40 @@ free-low (suc n) zero = omega arith
 free-low (suc n) (suc j) = free-low n j
 
 module _ (s : State) (low : (j : ℕ) → Sixteen (slotOf j s .number)) where
-  came-low : (carried : Carried) (segment : Segment) (t : Reply) → Sixteen (carried .number) → Came carried segment s t → (j : ℕ) → Sixteen (slotOf j (t .left) .number)
+  came-low : (arrived : Arrival) (t : Reply) → Sixteen (arrived .number) → Came arrived s t → (j : ℕ)
+      → Sixteen (slotOf j (t .left) .number)
   unfolding freshSlot
-  came-low carried segment t h (alone n a e) = rw e low
-  came-low carried segment t h (full n a f e) = rw e low
-  came-low carried segment t h (first i n a f e) = rw e (set-low (s .collector .slots) i _ (rw (taken-number (carried .part) (limitOf s) segment (freshSlot (carried .number)) (lentOf i s)) h) low)
-  came-low carried segment t h (more i n e) = rw e (set-low (s .collector .slots) i _ (rw (taken-number (carried .part) (limitOf s) segment (slotOf i s) (lentOf i s)) (low i)) low)
+  came-low arrived t h (alone n a e) = rw e low
+  came-low arrived t h (full n a f e) = rw e low
+  came-low arrived t h (first i n a f e) =
+      rw e (set-low (s .collector .slots) i _
+      (rw (taken-number (arrived .part) (limitOf s) (arrived .segment) (freshSlot (arrived .number)) (lentOf i s)) h)
+      low)
+  came-low arrived t h (more i n e) =
+      rw e (set-low (s .collector .slots) i _
+      (rw (taken-number (arrived .part) (limitOf s) (arrived .segment) (slotOf i s) (lentOf i s)) (low i)) low)
 
   leaves-low : (call : Call) → CallBytes call → Intact s → (j : ℕ) → Sixteen (slotOf j (leaves defined call s) .number)
   unfolding freeSlot
   leaves-low (hand bytes) y whole = go (readingOf bytes) refl
     where
-      go : (reading : Reading) → readingOf bytes ≡ reading → (j : ℕ) → Sixteen (slotOf j (taking bytes s .left) .number)
+      go : (reading : Reading) → readingOf bytes ≡ reading → (j : ℕ)
+          → Sixteen (slotOf j (takeGroup bytes s .left) .number)
       go (Refused why) e = rw (unread bytes s (whole .undamaged) why e) low
-      go (Read carried) e = came-low carried (segmentIn bytes carried) (taking bytes s) (carried-low bytes carried y e) (came bytes s (whole .undamaged) carried e)
+      go (Read arrived) e = came-low (arrivalIn bytes arrived) (takeGroup bytes s) (carried-low bytes arrived y e)
+          (came bytes s (whole .undamaged) arrived e)
   leaves-low (drop number) y whole = go (find number s) refl
     where
-      go : (found : Found) → find number s ≡ found → (j : ℕ) → Sixteen (slotOf j (dropping number s .left) .number)
+      go : (found : Found) → find number s ≡ found → (j : ℕ) → Sixteen (slotOf j (dropNumber number s .left) .number)
       go Nothing e = rw (none-dropped number s (whole .undamaged) e) low
-      go (At i) e = rw (found-dropped number s (whole .undamaged) i (used-inside s (whole .undamaged) i (found-used s (whole .undamaged) number i e)) e) (set-low (s .collector .slots) i freeSlot (omega arith) low)
+      go (At i) e = rw (found-dropped number s (whole .undamaged) i
+          (used-inside s (whole .undamaged) i (found-used s (whole .undamaged) number i e)) e)
+          (set-low (s .collector .slots) i freeSlot (omega arith) low)
   leaves-low (ask question) y whole = low
 
-pub reached-low : (start : Start) → Allowed start → (calls : List Call) → Each CallBytes calls → (j : ℕ) → Sixteen (slotOf j (reached defined start calls) .number)
+pub reached-low : (start : Start) → Allowed start → (calls : List Call) → Each CallBytes calls → (j : ℕ)
+    → Sixteen (slotOf j (reached defined start calls) .number)
 reached-low start a [] y = rw (start-is start a) (free-low slotsMost)
-reached-low start a (call ∷ calls) y = leaves-low (reached defined start calls) (reached-low start a calls (y .1)) call (y .0) (reached-intact start a calls (y .1))
+reached-low start a (call ∷ calls) y =
+    leaves-low (reached defined start calls) (reached-low start a calls (y .1)) call (y .0)
+    (reached-intact start a calls (y .1))

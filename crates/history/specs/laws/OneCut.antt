@@ -1,6 +1,6 @@
--- Where all that is stored under a number since it took its slot comes from one cut of one object, groups of that cut never
--- conflict, in any order, repeated, mixed with any other calls; and once all its segments have come, each with a slot there,
--- it is finished and shown with that header and that body.
+-- Where all that is stored under a number since it took its slot comes from one cut of one object, groups of that cut
+-- never conflict, in any order, repeated, mixed with any other calls; and once all its segments have come, each with
+-- a slot there, it is finished and shown with that header and that body.
 use mathlib.Core.Path.{_≡_, refl, sym, subst}
 use mathlib.Core.Logic.{_≢_, _⊎_, inl, inr}
 use mathlib.Core.Bool.{Bool, true, false}
@@ -10,10 +10,11 @@ use lib.Dec.{eqb}
 use lib.ListN.{length}
 use borrow.Author.Tests.{eqb-true}
 use Rattle.answer.specs.declared.Answer.{Answer}
+use Rattle.answer.specs.declared.Heard.{Heard}
 use Rattle.answer.specs.declared.Answer.the-variants as Answer
 use Rattle.answer.specs.declared.Part.{Part}
 use Rattle.answer.specs.declared.Part.the-variants.{Header, Body}
-use Rattle.wire.specs.declared.Segment.{Segment as Carried}
+use Rattle.wire.specs.declared.Carried.{Carried}
 use Rattle.wire.specs.declared.Reading.{Reading}
 use Rattle.wire.specs.declared.Reading.the-variants.{Read, Refused}
 use Rattle.wire.specs.Reading.{readingOf}
@@ -25,27 +26,32 @@ use Rattle.object.specs.declared.Outcome.{Outcome}
 use Rattle.object.specs.declared.Outcome.the-variants.{Stored, Complete, Repeat, Conflict}
 use Rattle.object.specs.Source.{Source, SentBy}
 use Rattle.object.specs.laws.OffersKept.{source-fits}
-use Rattle.collector.specs.Calls.{heardAs, segmentIn, answerAs}
-use Rattle.history.specs.laws.Call.{taking, groupAnswer, dropAnswer, came}
-use Rattle.history.specs.Asking.{showing}
-use Rattle.history.specs.History.{Call, hand, drop, ask, CallBytes, Start, Allowed, reached, told, isStored, isDropped, with, afterGroup, under, storedUnder, defined}
+use Rattle.collector.specs.Calls.{answerAs, arrivalIn, heardAs, heardIn, segmentIn, show, takeGroup}
+use Rattle.collector.specs.State.{Start}
+use Rattle.history.specs.Held.{stageFor}
+use Rattle.history.specs.laws.Call.{groupAnswer, dropAnswer, came}
+use Rattle.history.specs.History.{Call, hand, drop, ask, CallBytes, Allowed, reached, told, isStored, isDropped, with, afterGroup, under, storedUnder, defined}
 use Rattle.history.specs.laws.Reached.{reached-intact}
 use Rattle.history.specs.laws.Answers.{came-named}
-use Rattle.history.specs.Held.{stageFor}
 use Rattle.history.specs.Promise.{Run, reachedBy, toldBy, stored, Passing, segmentOf, heardOf, since, answerTo, FitsStored, StoredFrom, hadSlot, cameUnder}
 use Rattle.history.specs.laws.Demands.{run-answered, finished-lengths}
 
 -- what is stored fits the object, with one more segment that it sends
-more-fits : (limit : ℕ) (object : Source limit) (part : Part) (segment : Segment) (hs bs : List Segment) → SentBy object part segment → Each (SentBy object Header) hs → Each (SentBy object Body) bs → Fits limit (headersWith part segment hs) (bodiesWith part segment bs)
+more-fits : (limit : ℕ) (object : Source limit) (part : Part) (segment : Segment) (hs bs : List Segment)
+    → SentBy object part segment → Each (SentBy object Header) hs → Each (SentBy object Body) bs
+    → Fits limit (headersWith part segment hs) (bodiesWith part segment bs)
 more-fits limit object Header segment hs bs u h b = source-fits limit object (segment ∷ hs) bs (u, h) b
 more-fits limit object Body segment hs bs u h b = source-fits limit object hs (segment ∷ bs) h (u, b)
 
 -- where all that is stored under a number comes from one cut of one object, a group of that cut does not conflict
-pub one-cut-agrees : (r : Run) (object : Source (r .start .limit)) (number : ℕ) → StoredFrom object number (since defined r)
-    → (g : Passing) → g .carried .number ≡ number → SentBy object (g .carried .part) (segmentOf g) → answerTo defined (since defined r) g ≢ Answer.Conflict (heardOf g)
+pub one-cut-agrees : (r : Run) (object : Source (r .start .limit)) (number : ℕ)
+    → StoredFrom object number (since defined r)
+    → (g : Passing) → g .carried .number ≡ number → SentBy object (g .carried .part) (segmentOf g)
+    → answerTo defined (since defined r) g ≢ Answer.Conflict (heardOf g)
 one-cut-agrees r object number f g n u e =
     run-answered r .conflict g .0 e
-    (more-fits (r .start .limit) object (g .carried .part) (segmentOf g) (stored defined r Header (g .carried .number)) (stored defined r Body (g .carried .number)) u (rw n (f Header)) (rw n (f Body)))
+    (more-fits (r .start .limit) object (g .carried .part) (segmentOf g) (stored defined r Header (g .carried .number))
+    (stored defined r Body (g .carried .number)) u (rw n (f Header)) (rw n (f Body)))
 
 -- ---- all of it that came is stored
 
@@ -55,10 +61,12 @@ module _ {limit : ℕ} (object : Source limit) (part : Part) where
   Into came kept = (s : Segment) → SentBy object part s → Among s came → Among s kept
 
   -- one more of each
-  both-more : (p : Part) (segment : Segment) (came kept : List Segment) → Into came kept → Into (with part p segment came) (with part p segment kept)
+  both-more : (p : Part) (segment : Segment) (came kept : List Segment) → Into came kept
+      → Into (with part p segment came) (with part p segment kept)
   both-more = go part
     where
-      go : (q p : Part) (segment : Segment) (came kept : List Segment) → Into came kept → Into (with q p segment came) (with q p segment kept)
+      go : (q p : Part) (segment : Segment) (came kept : List Segment) → Into came kept
+          → Into (with q p segment came) (with q p segment kept)
       go Header Header segment came kept into s u (inl e) = inl e
       go Header Header segment came kept into s u (inr i) = inr (into s u i)
       go Header Body segment came kept into s u i = into s u i
@@ -67,11 +75,14 @@ module _ {limit : ℕ} (object : Source limit) (part : Part) where
       go Body Body segment came kept into s u (inr i) = inr (into s u i)
 
   -- one more came, which is stored already if the object sends it
-  once-more : (p : Part) (segment : Segment) (came kept : List Segment) → Into came kept → (part ≡ p → SentBy object part segment → Among segment kept) → Into (with part p segment came) kept
+  once-more : (p : Part) (segment : Segment) (came kept : List Segment) → Into came kept
+      → (part ≡ p → SentBy object part segment → Among segment kept) → Into (with part p segment came) kept
   once-more p segment came kept into stays = go part p (λ e. stays e)
     where
-      here : (s : Segment) → segment ≡ s → (SentBy object part segment → Among segment kept) → SentBy object part s → Among s kept
-      here s e i u = subst (λ (x : Segment). Among x kept) e (i (subst (λ (x : Segment). SentBy object part x) (sym e) u))
+      here : (s : Segment) → segment ≡ s → (SentBy object part segment → Among segment kept) → SentBy object part s
+          → Among s kept
+      here s e i u = subst (λ (x : Segment). Among x kept) e
+          (i (subst (λ (x : Segment). SentBy object part x) (sym e) u))
 
       go : (q p : Part) → (q ≡ p → SentBy object part segment → Among segment kept) → Into (with q p segment came) kept
       go Header Header i s u (inl e) = here s e (i refl) u
@@ -82,28 +93,37 @@ module _ {limit : ℕ} (object : Source limit) (part : Part) where
       go Body Body i s u (inr j) = into s u j
 
   -- the segment of a group under the number
-  answered-into : (p : Part) (segment : Segment) (came kept : List Segment) (answer : Answer) (carried : Carried) → Into came kept → (answer ≡ Answer.Full (heardAs carried)) ⊎ ((o : Outcome) × (answer ≡ answerAs o (heardAs carried)))
-      → (part ≡ p → SentBy object part segment → answer ≢ Answer.Conflict (heardAs carried)) → (answer ≡ Answer.Repeat (heardAs carried) → part ≡ p → Among segment kept)
-      → Into (pick (hadSlot answer) (with part p segment came) came) (pick (isStored answer) (with part p segment kept) kept)
-  answered-into p segment came kept answer carried into (inl e) n r = rw e into
-  answered-into p segment came kept answer carried into (inr (Stored, e)) n r = rw e (both-more p segment came kept into)
-  answered-into p segment came kept answer carried into (inr (Complete, e)) n r = rw e (both-more p segment came kept into)
-  answered-into p segment came kept answer carried into (inr (Repeat, e)) n r = rw e (once-more p segment came kept into (λ q u. r e q))
-  answered-into p segment came kept answer carried into (inr (Conflict, e)) n r = rw e (once-more p segment came kept into (λ q u. absurd (n q u e)))
+  answered-into : (p : Part) (segment : Segment) (came kept : List Segment) (answer : Answer) (heard : Heard)
+      → Into came kept → (answer ≡ Answer.Full heard) ⊎ ((o : Outcome) × (answer ≡ answerAs o heard))
+      → (part ≡ p → SentBy object part segment → answer ≢ Answer.Conflict heard)
+      → (answer ≡ Answer.Repeat heard → part ≡ p → Among segment kept)
+      → Into (pick (hadSlot answer) (with part p segment came) came)
+      (pick (isStored answer) (with part p segment kept) kept)
+  answered-into p segment came kept answer heard into (inl e) n r = rw e into
+  answered-into p segment came kept answer heard into (inr (Stored, e)) n r = rw e (both-more p segment came kept into)
+  answered-into p segment came kept answer heard into (inr (Complete, e)) n r =
+      rw e (both-more p segment came kept into)
+  answered-into p segment came kept answer heard into (inr (Repeat, e)) n r =
+      rw e (once-more p segment came kept into (λ q u. r e q))
+  answered-into p segment came kept answer heard into (inr (Conflict, e)) n r =
+      rw e (once-more p segment came kept into (λ q u. absurd (n q u e)))
 
 -- ---- what is stored before a call is stored after it, unless it is dropped
 
-with-rest : (P : Segment → Type 0) (part p : Part) (segment : Segment) (segments : List Segment) → Each P (with part p segment segments) → Each P segments
+with-rest : (P : Segment → Type 0) (part p : Part) (segment : Segment) (segments : List Segment)
+    → Each P (with part p segment segments) → Each P segments
 with-rest P Header Header segment segments e = e .1
 with-rest P Header Body segment segments e = e
 with-rest P Body Header segment segments e = e
 with-rest P Body Body segment segments e = e .1
 
-group-rest : (P : Segment → Type 0) (part : Part) (number : ℕ) (bytes : List ℕ) (answer : Answer) (reading : Reading) (segments : List Segment) → Each P (afterGroup isStored part number reading bytes answer segments) → Each P segments
+group-rest : (P : Segment → Type 0) (part : Part) (number : ℕ) (bytes : List ℕ) (answer : Answer) (reading : Reading)
+    (segments : List Segment) → Each P (afterGroup isStored part number reading bytes answer segments) → Each P segments
 group-rest P part number bytes answer (Refused why) segments e = e
 group-rest P part number bytes answer (Read carried) segments e = go (eqb (carried .number) number) (isStored answer) e
   where
-    go : (b d : Bool) → Each P (pick b (pick d (with part (carried .part) (segmentIn bytes carried) segments) segments) segments) → Each P segments
+    go : (b d : Bool) → Each P (pick b
+        (pick d (with part (carried .part) (segmentIn bytes carried) segments) segments) segments) → Each P segments
     go true true e = with-rest P part (carried .part) (segmentIn bytes carried) segments e
     go true false e = e
     go false d e = e
@@ -117,8 +137,10 @@ module _ (start : Start) (allowed : Allowed start) (object : Source (start .limi
   abbrev From : List Call → Type 0
   From calls = (q : Part) → Each (SentBy object q) (kept start calls q number)
 
-  group-into : (bytes : List ℕ) (calls : List Call) → Bytes bytes → Each CallBytes calls → From calls → Into object part (cameUnder part number (told defined start calls)) (kept start calls part number)
-      → Into object part (cameUnder part number (told defined start (hand bytes ∷ calls))) (kept start (hand bytes ∷ calls) part number)
+  group-into : (bytes : List ℕ) (calls : List Call) → Bytes bytes → Each CallBytes calls → From calls
+      → Into object part (cameUnder part number (told defined start calls)) (kept start calls part number)
+      → Into object part (cameUnder part number (told defined start (hand bytes ∷ calls)))
+      (kept start (hand bytes ∷ calls) part number)
   unfolding under
   group-into bytes calls b y f into = go (readingOf bytes) refl
     where
@@ -134,53 +156,74 @@ module _ (start : Start) (allowed : Allowed start) (object : Source (start .limi
       answer : Answer
       answer = groupAnswer bytes (reached defined start calls)
 
-      mine : (carried : Carried) → readingOf bytes ≡ Read carried → carried .number ≡ number → Into object part (pick (hadSlot answer) (with part (carried .part) (segmentIn bytes carried) arrived) arrived) (pick (isStored answer) (with part (carried .part) (segmentIn bytes carried) held) held)
+      mine : (carried : Carried) → readingOf bytes ≡ Read carried → carried .number ≡ number
+          → Into object part (pick (hadSlot answer)
+          (with part (carried .part) (segmentIn bytes carried) arrived) arrived)
+          (pick (isStored answer) (with part (carried .part) (segmentIn bytes carried) held) held)
       mine carried r n =
           let g : Passing = record { bytes = bytes; areBytes = b; carried = carried; read = r } in
-          answered-into object part (carried .part) (segmentIn bytes carried) arrived held answer carried into
-          (came-named carried (segmentIn bytes carried) (reached defined start calls) (taking bytes (reached defined start calls)) (came bytes (reached defined start calls) (reached-intact start allowed calls y .undamaged) carried r))
+          answered-into object part (carried .part) (segmentIn bytes carried) arrived held answer (heardIn carried) into
+          (came-named (arrivalIn bytes carried) (reached defined start calls)
+          (takeGroup bytes (reached defined start calls))
+          (came bytes (reached defined start calls) (reached-intact start allowed calls y .undamaged) carried r))
           (λ q u. one-cut-agrees run object number f g n (rw q at u))
           (λ e q. rw (q, ← n) (run-answered run .repeated g .0 e))
 
       under-it : (carried : Carried) → readingOf bytes ≡ Read carried → (t : Bool) → eqb (carried .number) number ≡ t
-          → Into object part (pick t (pick (hadSlot answer) (with part (carried .part) (segmentIn bytes carried) arrived) arrived) arrived) (pick t (pick (isStored answer) (with part (carried .part) (segmentIn bytes carried) held) held) held)
+          → Into object part (pick t (pick (hadSlot answer)
+          (with part (carried .part) (segmentIn bytes carried) arrived) arrived) arrived)
+          (pick t (pick (isStored answer) (with part (carried .part) (segmentIn bytes carried) held) held) held)
       under-it carried r true e = mine carried r (eqb-true (carried .number) number e)
       under-it carried r false e = into
 
-      go : (reading : Reading) → readingOf bytes ≡ reading → Into object part (afterGroup hadSlot part number (readingOf bytes) bytes answer arrived) (afterGroup isStored part number (readingOf bytes) bytes answer held)
+      go : (reading : Reading) → readingOf bytes ≡ reading
+          → Into object part (afterGroup hadSlot part number (readingOf bytes) bytes answer arrived)
+          (afterGroup isStored part number (readingOf bytes) bytes answer held)
       go (Refused why) r = rw r into
       go (Read carried) r = rw r (under-it carried r (eqb (carried .number) number) refl)
 
-  came-stored : (calls : List Call) → Each CallBytes calls → From calls → Into object part (cameUnder part number (told defined start calls)) (kept start calls part number)
+  came-stored : (calls : List Call) → Each CallBytes calls → From calls
+      → Into object part (cameUnder part number (told defined start calls)) (kept start calls part number)
   unfolding under
   came-stored [] y f = λ s u i. i
   came-stored (hand bytes ∷ calls) y f =
-      let before : From calls = λ q. group-rest (SentBy object q) q number bytes (groupAnswer bytes (reached defined start calls)) (readingOf bytes) (kept start calls q number) (f q) in
+      let before : From calls = λ q. group-rest (SentBy object q) q number bytes
+      (groupAnswer bytes (reached defined start calls)) (readingOf bytes) (kept start calls q number) (f q) in
       group-into bytes calls (y .0) (y .1) before (came-stored calls (y .1) before)
-  came-stored (drop other ∷ calls) y f = go (eqb other number) (isDropped (dropAnswer other (reached defined start calls))) (came-stored calls (y .1)) f
+  came-stored (drop other ∷ calls) y f =
+      go (eqb other number) (isDropped (dropAnswer other (reached defined start calls))) (came-stored calls (y .1)) f
     where
       -- a drop of the number leaves none of either
-      go : (b d : Bool) → (From calls → Into object part (cameUnder part number (told defined start calls)) (kept start calls part number)) → ((q : Part) → Each (SentBy object q) (pick b (pick d [] (kept start calls q number)) (kept start calls q number)))
-          → Into object part (pick b (pick d [] (cameUnder part number (told defined start calls))) (cameUnder part number (told defined start calls))) (pick b (pick d [] (kept start calls part number)) (kept start calls part number))
+      go : (b d : Bool) → (From calls
+          → Into object part (cameUnder part number (told defined start calls)) (kept start calls part number))
+          → ((q : Part) → Each (SentBy object q)
+          (pick b (pick d [] (kept start calls q number)) (kept start calls q number)))
+          → Into object part (pick b (pick d [] (cameUnder part number (told defined start calls)))
+          (cameUnder part number (told defined start calls)))
+          (pick b (pick d [] (kept start calls part number)) (kept start calls part number))
       go true true before f = λ s u i. i
       go true false before f = before f
       go false d before f = before f
   came-stored (ask question ∷ calls) y f = came-stored calls (y .1) f
 
 -- once every segment that it sends has come under the number, each with a slot there, it is finished and shown
-pub one-cut-finishes : (r : Run) (object : Source (r .start .limit)) (number : ℕ) → StoredFrom object number (since defined r)
+pub one-cut-finishes : (r : Run) (object : Source (r .start .limit)) (number : ℕ)
+    → StoredFrom object number (since defined r)
     → ((part : Part) (s : Segment) → SentBy object part s → Among s (cameUnder part number (toldBy defined r)))
     → (stageFor number (reachedBy defined r) ≡ Stage.Finished (length (object .header)) (length (object .body)))
-    × (showing number Header (reachedBy defined r) ≡ object .header) × (showing number Body (reachedBy defined r) ≡ object .body)
+    × (show number Header (reachedBy defined r) ≡ object .header)
+    × (show number Body (reachedBy defined r) ≡ object .body)
 one-cut-finishes r object number f all =
     let shows = run-answered r .shown number fit done in
     (finished-lengths r number fit done, shows .0, shows .1)
   where
     fit : FitsStored (since defined r) number
-    fit = source-fits (r .start .limit) object (stored defined r Header number) (stored defined r Body number) (f Header) (f Body)
+    fit = source-fits (r .start .limit) object (stored defined r Header number) (stored defined r Body number)
+        (f Header) (f Body)
 
     done : Finished fit
     done = record {
-      header = λ s u. came-stored (r .start) (r .allowed) object number Header (r .calls) (r .bytes) f s u (all Header s u);
+      header = λ s u. came-stored (r .start) (r .allowed) object number Header (r .calls) (r .bytes) f s u
+          (all Header s u);
       body = λ s u. came-stored (r .start) (r .allowed) object number Body (r .calls) (r .bytes) f s u (all Body s u);
     }

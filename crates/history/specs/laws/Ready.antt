@@ -1,4 +1,5 @@
--- What the test of a state gives, where it passes: of each slot in use, of the one that holds a number and of a free one.
+-- What the test of a state gives, where it passes: of each slot in use, of the one that holds a number and of a free
+-- one.
 use mathlib.Core.Path.{_≡_}
 use mathlib.Core.Bool.{true, false}
 use Prim.Native.Nat.{ℕ, _*_, _≤_}
@@ -18,10 +19,12 @@ use Rattle.slots.specs.State.{soundSlots, Limits}
 use Rattle.slots.specs.Take.{Inside}
 use Rattle.slots.specs.laws.Shares.{lent-wide}
 use Rattle.slots.specs.laws.Ready.{inside-store, held-sound, free-unmarked}
-use Rattle.collector.specs.Calls.{soundState}
+use Rattle.collector.specs.State.{State, sound}
+use Rattle.collector.specs.Calls.{find, free}
 use Rattle.history.specs.laws.Counts.{Low, within-low}
 use Rattle.history.specs.laws.Slots.{Undamaged, found-at, found-none, sound-undamaged}
-use Rattle.history.specs.laws.Call.{State, sound, limitOf, InUse, slotOf, lentOf, find, free}
+use Rattle.history.specs.Held.{lentOf, limitOf, slotOf}
+use Rattle.history.specs.laws.Call.{InUse}
 
 -- what is lent are bytes, as all memory is
 pub record OfBytes (stores : Stores) : Type 0 where
@@ -29,7 +32,8 @@ pub record OfBytes (stores : Stores) : Type 0 where
   pub body : Bytes (stores .body)
 
 -- within the limits each slot has its shares
-module _ (s : State) (i : ℕ) (w : Limits (limitOf s) (s .collector .count) (length (s .stores .header)) (length (s .stores .body)) (length (s .stores .marks))) (u : InUse i s) where
+module _ (s : State) (i : ℕ) (w : Limits (limitOf s) (s .collector .count) (length (s .stores .header))
+    (length (s .stores .body)) (length (s .stores .marks))) (u : InUse i s) where
   pub limits-inside : Inside (limitOf s) i (s .stores)
   limits-inside = record {
     slot = omega (arith, w .slots, u .counted);
@@ -46,14 +50,18 @@ module _ (s : State) (i : ℕ) (w : Limits (limitOf s) (s .collector .count) (le
         headerLength = wide .header;
         bodyLength = wide .body;
         marksLength = wide .marks;
-        headerBytes = bytes-take headerMost (drop (i * headerMost) (s .stores .header)) (bytes-drop (i * headerMost) (s .stores .header) (b .header));
-        bodyBytes = bytes-take (limitOf s) (drop (i * limitOf s) (s .stores .body)) (bytes-drop (i * limitOf s) (s .stores .body) (b .body));
+        headerBytes = bytes-take headerMost (drop (i * headerMost) (s .stores .header))
+            (bytes-drop (i * headerMost) (s .stores .header) (b .header));
+        bodyBytes = bytes-take (limitOf s) (drop (i * limitOf s) (s .stores .body))
+            (bytes-drop (i * limitOf s) (s .stores .body) (b .body));
       }
 
 module _ (s : State) (good : sound s ≡ true) where
-  both-sound : (soundSlots (limitOf s) (s .collector .count) (s .collector .slots) (s .stores) ≡ true) × (within (s .counts) ≡ true)
-  unfolding soundState
-  both-sound = both-true (soundSlots (limitOf s) (s .collector .count) (s .collector .slots) (s .stores)) (within (s .counts)) good
+  both-sound : (soundSlots (limitOf s) (s .collector .count) (s .collector .slots) (s .stores) ≡ true)
+      × (within (s .counts) ≡ true)
+  unfolding sound
+  both-sound = both-true (soundSlots (limitOf s) (s .collector .count) (s .collector .slots) (s .stores))
+      (within (s .counts)) good
 
   pub slots-sound : soundSlots (limitOf s) (s .collector .count) (s .collector .slots) (s .stores) ≡ true
   slots-sound = both-sound .0
@@ -84,7 +92,8 @@ module _ (s : State) (good : sound s ≡ true) where
   found-holds number i e = found-at (holds number) (s .collector .count) (s .collector .slots) i e .1
 
   pub found-sound : (number i : ℕ) → find number s ≡ At i → soundSlot (limitOf s) (slotOf i s) (lentOf i s) ≡ true
-  found-sound number i e = held-sound (limitOf s) number (slotOf i s) (lentOf i s) (found-holds number i e) (slots-right .right i (found-used number i e))
+  found-sound number i e = held-sound (limitOf s) number (slotOf i s) (lentOf i s) (found-holds number i e)
+      (slots-right .right i (found-used number i e))
 
   pub none-holds : (number i : ℕ) → find number s ≡ Nothing → InUse i s → holds number (slotOf i s) ≡ false
   unfolding findIn
@@ -100,4 +109,5 @@ module _ (s : State) (good : sound s ≡ true) where
   free-free i e = found-at isFree (s .collector .count) (s .collector .slots) i e .1
 
   pub free-marks : (i : ℕ) → free s ≡ At i → sumOf (lentOf i s .marks) ≡ 0
-  free-marks i e = free-unmarked (limitOf s) (slotOf i s) (lentOf i s) (free-free i e) (slots-right .right i (free-used i e))
+  free-marks i e = free-unmarked (limitOf s) (slotOf i s) (lentOf i s) (free-free i e)
+      (slots-right .right i (free-used i e))

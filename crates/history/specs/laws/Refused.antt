@@ -1,5 +1,5 @@
--- A refusal leaves every store byte, every mark and every slot's record as they were, in any state, and no count but the
--- refused one rises; what an opening and a drop leave, in any state.
+-- A refusal leaves every store byte, every mark and every slot's record as they were, in any state, and no count but
+-- the refused one rises; what an opening and a drop leave, in any state.
 use mathlib.Core.Path.{_≡_, refl, ap, _∙_}
 use mathlib.Core.Bool.{Bool, true, false}
 use mathlib.Core.Logic.{_↔_}
@@ -11,14 +11,14 @@ use lib.Seq.{set-getD}
 use Rattle.octets.specs.Octets.{zeros}
 use Rattle.answer.specs.declared.Answer.{Answer}
 use Rattle.answer.specs.declared.Answer.the-variants as Answer
+use Rattle.answer.specs.declared.Reason.the-variants as Reason
 use Rattle.answer.specs.declared.Heard.{Heard}
 use Rattle.answer.specs.declared.Part.{Part}
-use Rattle.answer.specs.declared.Refusal.{Refusal}
-use Rattle.answer.specs.declared.Refusal.the-variants as Refusal
 use Rattle.answer.specs.Table.{numberOf}
+use Rattle.answer.specs.laws.Table.{refusal-to, reason-from}
 use Rattle.counts.specs.declared.Counts.{Counts}
 use Rattle.counts.specs.Counted.{noneYet, oneRepeated, oneRefused, counted}
-use Rattle.wire.specs.declared.Segment.{Segment as Carried}
+use Rattle.wire.specs.declared.Carried.{Carried}
 use Rattle.wire.specs.declared.Reading.{Reading}
 use Rattle.wire.specs.declared.Reading.the-variants.{Read, Refused}
 use Rattle.wire.specs.Reading.{readingOf}
@@ -41,11 +41,13 @@ use Rattle.slots.specs.Alone.{fitsAlone}
 use Rattle.slots.specs.laws.Fresh.{fresh-taken}
 use Rattle.slots.specs.laws.StateTests.{limits-hold}
 use Rattle.collector.specs.declared.Opening.the-variants as Opening
-use Rattle.collector.specs.Calls.{answeredBy, heardAs, segmentIn, answerAs, dropFound, dropNumber, allFree, openedBy}
+use Rattle.collector.specs.State.{Start, Reply, State, answering, sound}
+use Rattle.collector.specs.Calls.{Arrival, allFree, answerAs, arrivalIn, dropFound, dropNumber, find, heardAs, inLimits, openWith, takeGroup}
 use Rattle.history.specs.laws.Slots.{Used, limits-within}
-use Rattle.history.specs.laws.Call.{State, Reply, taking, dropping, groupAnswer, groupLeaves, dropAnswer, dropLeaves, sound, limitOf, slotOf, lentOf, find, answering, replacing, offering, Came, alone, full, first, more, group-damaged, unread, came, drop-damaged, none-dropped, found-dropped, lent-same, inLimits, opened-all, opened-none}
+use Rattle.history.specs.Held.{lentOf, limitOf, slotOf}
+use Rattle.history.specs.laws.Call.{groupAnswer, groupLeaves, dropAnswer, dropLeaves, replacing, offering, Came, alone, full, first, more, group-damaged, unread, came, drop-damaged, none-dropped, found-dropped, lent-same, opened-all, opened-none}
 use Rattle.history.specs.laws.State.{InOrder}
-use Rattle.history.specs.History.{Start, Within, begun}
+use Rattle.history.specs.History.{Within}
 use Rattle.history.specs.laws.Ready.{used-inside, found-used, free-marks}
 
 -- ---- the offer of a segment
@@ -62,7 +64,9 @@ stage-stores Stage.Free l = l
 stage-stores Stage.Gathering l = l
 stage-stores (Stage.Finished header body) l = l
 
-offer-leaves : (part : Part) (limit : ℕ) (segment : Segment) (slot : Slot) (lent : Lent) → Leaving (takeInto part limit segment slot lent .outcome) → takeInto part limit segment slot lent ≡ unchanged (takeInto part limit segment slot lent .outcome) slot lent
+offer-leaves : (part : Part) (limit : ℕ) (segment : Segment) (slot : Slot) (lent : Lent)
+    → Leaving (takeInto part limit segment slot lent .outcome)
+    → takeInto part limit segment slot lent ≡ unchanged (takeInto part limit segment slot lent .outcome) slot lent
 unfolding takeInto
 offer-leaves part limit segment slot lent = go (decided part limit segment (partsOf slot lent))
   where
@@ -72,8 +76,12 @@ offer-leaves part limit segment slot lent = go (decided part limit segment (part
     go (Decided.Fits core) l = absurd (stage-stores (stageOf (partsWith part limit segment (partsOf slot lent))) l)
 
 -- the first segment of a number, where it fits alone, is stored
-first-stores : (part : Part) (limit number : ℕ) (segment : Segment) (lent : Lent) → fitsAlone part limit segment ≡ true → takeInto part limit segment (freshSlot number) lent ≡ ifNew (fitsAlone part limit segment) part limit segment (freshSlot number) lent → Leaving (takeInto part limit segment (freshSlot number) lent .outcome) → ⊥
-first-stores part limit number segment lent a e l = stage-stores (stageOf (partsWith part limit segment (partsOf (freshSlot number) lent))) (rw (e, a) at l)
+first-stores : (part : Part) (limit number : ℕ) (segment : Segment) (lent : Lent) → fitsAlone part limit segment ≡ true
+    → takeInto part limit segment (freshSlot number) lent
+    ≡ ifNew (fitsAlone part limit segment) part limit segment (freshSlot number) lent
+    → Leaving (takeInto part limit segment (freshSlot number) lent .outcome) → ⊥
+first-stores part limit number segment lent a e l =
+    stage-stores (stageOf (partsWith part limit segment (partsOf (freshSlot number) lent))) (rw (e, a) at l)
 
 -- ---- a call that is refused, or answered REPEAT
 
@@ -86,14 +94,7 @@ Kept (Answer.Repeat heard) = Unit {0}
 Kept (Answer.Refused why) = Unit {0}
 Kept (Answer.Conflict heard) = Unit {0}
 Kept (Answer.Full heard) = Unit {0}
-Kept Answer.NotHeld = Unit {0}
-Kept Answer.Unfinished = Unit {0}
-Kept Answer.Header = Unit {0}
-Kept Answer.Duplicate = Unit {0}
-Kept Answer.Core = Unit {0}
-Kept Answer.NotFound = Unit {0}
-Kept Answer.Limits = Unit {0}
-Kept Answer.State = Unit {0}
+Kept (Answer.Denied reason) = Unit {0}
 
 kept-leaving : (o : Outcome) (heard : Heard) → Kept (answerAs o heard) → Leaving o
 kept-leaving Stored heard k = k
@@ -102,49 +103,52 @@ kept-leaving Repeat heard k = tt
 kept-leaving Conflict heard k = tt
 
 -- a slot that is replaced by itself and its own shares
-same-replaced : (answer : Answer) (i : ℕ) (s : State) → sound s ≡ true → Used (s .collector .count) i (s .collector .slots) → replacing answer i (slotOf i s) (lentOf i s) s ≡ answering answer s
+same-replaced : (answer : Answer) (i : ℕ) (s : State) → sound s ≡ true
+    → Used (s .collector .count) i (s .collector .slots)
+    → replacing answer i (slotOf i s) (lentOf i s) s ≡ answering answer s
 unfolding slotAt
-same-replaced answer i s good u = rw (set-getD (s .collector .slots) i freeSlot, lent-same (limitOf s) i (s .stores) (used-inside s good i u)) refl
+same-replaced answer i s good u =
+    rw (set-getD (s .collector .slots) i freeSlot, lent-same (limitOf s) i (s .stores) (used-inside s good i u)) refl
 
-came-kept : (carried : Carried) (segment : Segment) (s : State) (t : Reply) → sound s ≡ true → Came carried segment s t → Kept (t .answer) → t ≡ answering (t .answer) s
-came-kept carried segment s t good (alone n a e) k = rw e refl
-came-kept carried segment s t good (full n a f e) k = rw e refl
-came-kept carried segment s t good (first i n a f e) k =
-    absurd (first-stores (carried .part) (limitOf s) (carried .number) segment (lentOf i s) a (fresh-taken (carried .part) (limitOf s) (carried .number) segment (lentOf i s) (free-marks s good i f))
-    (kept-leaving (takeInto (carried .part) (limitOf s) segment (freshSlot (carried .number)) (lentOf i s) .outcome) (heardAs carried) (rw e at k)))
-came-kept carried segment s t good (more i n e) k =
-    let x : Taken = takeInto (carried .part) (limitOf s) segment (slotOf i s) (lentOf i s) in
-    let same : x ≡ unchanged (x .outcome) (slotOf i s) (lentOf i s) = offer-leaves (carried .part) (limitOf s) segment (slotOf i s) (lentOf i s) (kept-leaving (x .outcome) (heardAs carried) (rw e at k)) in
-    rw e (ap (offering carried segment i s) same ∙ same-replaced (answerAs (x .outcome) (heardAs carried)) i s good (found-used s good (carried .number) i n))
+came-kept : (arrived : Arrival) (s : State) (t : Reply) → sound s ≡ true → Came arrived s t → Kept (t .answer)
+    → t ≡ answering (t .answer) s
+came-kept arrived s t good (alone n a e) k = rw e refl
+came-kept arrived s t good (full n a f e) k = rw e refl
+came-kept arrived s t good (first i n a f e) k =
+    absurd (first-stores (arrived .part) (limitOf s) (arrived .number) (arrived .segment) (lentOf i s) a
+    (fresh-taken (arrived .part) (limitOf s) (arrived .number) (arrived .segment) (lentOf i s) (free-marks s good i f))
+    (kept-leaving (takeInto (arrived .part) (limitOf s) (arrived .segment) (freshSlot (arrived .number))
+    (lentOf i s) .outcome) (heardAs arrived) (rw e at k)))
+came-kept arrived s t good (more i n e) k =
+    let x : Taken = takeInto (arrived .part) (limitOf s) (arrived .segment) (slotOf i s) (lentOf i s) in
+    let same : x ≡ unchanged (x .outcome) (slotOf i s) (lentOf i s) =
+    offer-leaves (arrived .part) (limitOf s) (arrived .segment) (slotOf i s) (lentOf i s)
+    (kept-leaving (x .outcome) (heardAs arrived) (rw e at k)) in
+    rw e (ap (offering arrived i s) same ∙ same-replaced (answerAs (x .outcome) (heardAs arrived)) i s good
+    (found-used s good (arrived .number) i n))
 
 -- A GROUP that is refused, or that is a repeat, changes nothing but a count
-pub group-kept : (group : List ℕ) (s : State) → Kept (taking group s .answer) → taking group s ≡ answering (taking group s .answer) s
+pub group-kept : (group : List ℕ) (s : State) → Kept (takeGroup group s .answer)
+    → takeGroup group s ≡ answering (takeGroup group s .answer) s
 group-kept group s k = go (sound s) refl (readingOf group) refl
   where
-    go : (b : Bool) → sound s ≡ b → (reading : Reading) → readingOf group ≡ reading → taking group s ≡ answering (taking group s .answer) s
+    go : (b : Bool) → sound s ≡ b → (reading : Reading) → readingOf group ≡ reading
+        → takeGroup group s ≡ answering (takeGroup group s .answer) s
     go false d reading e = rw (group-damaged group s d) refl
     go true d (Refused why) e = rw (unread group s d why e) refl
-    go true d (Read carried) e = came-kept carried (segmentIn group carried) s (taking group s) d (came group s d carried e) k
+    go true d (Read carried) e = came-kept (arrivalIn group carried) s (takeGroup group s) d
+        (came group s d carried e) k
 
 -- A DROP that is refused changes nothing at all
-pub drop-kept : (number : ℕ) (s : State) → Kept (dropping number s .answer) → dropping number s .left ≡ s
+pub drop-kept : (number : ℕ) (s : State) → Kept (dropNumber number s .answer) → dropNumber number s .left ≡ s
 drop-kept number s k = go (sound s) refl (find number s) refl
   where
-    go : (b : Bool) → sound s ≡ b → (found : Found) → find number s ≡ found → dropping number s .left ≡ s
+    go : (b : Bool) → sound s ≡ b → (found : Found) → find number s ≡ found → dropNumber number s .left ≡ s
     go false d found e = rw (drop-damaged number s d) refl
     go true d Nothing e = rw (none-dropped number s d e) refl
     go true d (At i) e = absurd (rw (found-dropped number s d i (used-inside s d i (found-used s d number i e)) e) at k)
 
 -- ---- demand 1, by the numbers of the answers
-
-unread-number : (why : Refusal) → numberOf (Answer.Refused why) ≤ 16
-unread-number Refusal.Length = omega arith
-unread-number Refusal.NoCheck = omega arith
-unread-number Refusal.BadCheck = omega arith
-unread-number Refusal.Kind = omega arith
-unread-number Refusal.NoSegment = omega arith
-unread-number Refusal.Address = omega arith
-unread-number Refusal.Size = omega arith
 
 refusal-kept : (a : Answer) → 10 ≤ numberOf a → Kept a
 refusal-kept (Answer.Stored heard) h = absurd (omega arith)
@@ -154,14 +158,7 @@ refusal-kept (Answer.Dropped number) h = absurd (omega arith)
 refusal-kept (Answer.Refused why) h = tt
 refusal-kept (Answer.Conflict heard) h = tt
 refusal-kept (Answer.Full heard) h = tt
-refusal-kept Answer.NotHeld h = tt
-refusal-kept Answer.Unfinished h = tt
-refusal-kept Answer.Header h = tt
-refusal-kept Answer.Duplicate h = tt
-refusal-kept Answer.Core h = tt
-refusal-kept Answer.NotFound h = tt
-refusal-kept Answer.Limits h = tt
-refusal-kept Answer.State h = tt
+refusal-kept (Answer.Denied reason) h = tt
 
 counted-refused : (a : Answer) (c : Counts) → 10 ≤ numberOf a → numberOf a ≤ 18 → counted a c ≡ oneRefused c
 counted-refused (Answer.Stored heard) c h g = absurd (omega arith)
@@ -171,62 +168,60 @@ counted-refused (Answer.Dropped number) c h g = absurd (omega arith)
 counted-refused (Answer.Refused why) c h g = refl
 counted-refused (Answer.Conflict heard) c h g = refl
 counted-refused (Answer.Full heard) c h g = refl
-counted-refused Answer.NotHeld c h g = absurd (omega arith)
-counted-refused Answer.Unfinished c h g = absurd (omega arith)
-counted-refused Answer.Header c h g = absurd (omega arith)
-counted-refused Answer.Duplicate c h g = absurd (omega arith)
-counted-refused Answer.Core c h g = absurd (omega arith)
-counted-refused Answer.NotFound c h g = absurd (omega arith)
-counted-refused Answer.Limits c h g = absurd (omega arith)
-counted-refused Answer.State c h g = absurd (omega arith)
+counted-refused (Answer.Denied reason) c h g = absurd (omega (arith, reason-from reason))
 
 counted-not : (a : Answer) (c : Counts) → 19 ≤ numberOf a → counted a c ≡ c
 counted-not (Answer.Stored heard) c h = absurd (omega arith)
 counted-not (Answer.Complete heard) c h = absurd (omega arith)
 counted-not (Answer.Repeat heard) c h = absurd (omega arith)
 counted-not (Answer.Dropped number) c h = absurd (omega arith)
-counted-not (Answer.Refused why) c h = absurd (omega (arith, unread-number why))
+counted-not (Answer.Refused why) c h = absurd (omega (arith, refusal-to why))
 counted-not (Answer.Conflict heard) c h = absurd (omega arith)
 counted-not (Answer.Full heard) c h = absurd (omega arith)
-counted-not Answer.NotHeld c h = refl
-counted-not Answer.Unfinished c h = refl
-counted-not Answer.Header c h = refl
-counted-not Answer.Duplicate c h = refl
-counted-not Answer.Core c h = refl
-counted-not Answer.NotFound c h = refl
-counted-not Answer.Limits c h = refl
-counted-not Answer.State c h = refl
+counted-not (Answer.Denied reason) c h = refl
 
--- A REFUSED GROUP, 10 to 18: one more is refused, and every other count, every store byte, every mark and every slot's record stay
-pub refused-group : (group : List ℕ) (s : State) → 10 ≤ numberOf (groupAnswer group s) → numberOf (groupAnswer group s) ≤ 18
+-- A REFUSED GROUP, 10 to 18: one more is refused, and every other count, every store byte, every mark and every slot's
+-- record stay
+pub refused-group : (group : List ℕ) (s : State) → 10 ≤ numberOf (groupAnswer group s)
+    → numberOf (groupAnswer group s) ≤ 18
     → groupLeaves group s ≡ record { collector = s .collector; counts = oneRefused (s .counts); stores = s .stores }
 refused-group group s h g =
-    let a : Answer = taking group s .answer in
-    ap (λ (t : Reply). t .left) (group-kept group s (refusal-kept a h)) ∙ ap (λ (c : Counts). record { collector = s .collector; counts = c; stores = s .stores }) (counted-refused a (s .counts) h g)
+    let a : Answer = takeGroup group s .answer in
+    ap (λ (t : Reply). t .left) (group-kept group s (refusal-kept a h))
+    ∙ ap (λ (c : Counts). record { collector = s .collector; counts = c; stores = s .stores })
+    (counted-refused a (s .counts) h g)
 
 -- 19 to 26 change nothing, the counts neither
 pub unanswered-group : (group : List ℕ) (s : State) → 19 ≤ numberOf (groupAnswer group s) → groupLeaves group s ≡ s
 unanswered-group group s h =
-    let a : Answer = taking group s .answer in
-    ap (λ (t : Reply). t .left) (group-kept group s (refusal-kept a (omega arith))) ∙ ap (λ (c : Counts). record { collector = s .collector; counts = c; stores = s .stores }) (counted-not a (s .counts) h)
+    let a : Answer = takeGroup group s .answer in
+    ap (λ (t : Reply). t .left) (group-kept group s (refusal-kept a (omega arith)))
+    ∙ ap (λ (c : Counts). record { collector = s .collector; counts = c; stores = s .stores })
+    (counted-not a (s .counts) h)
 
 -- A REFUSED DROP changes nothing
 pub refused-drop : (number : ℕ) (s : State) → 10 ≤ numberOf (dropAnswer number s) → dropLeaves number s ≡ s
-refused-drop number s h = drop-kept number s (refusal-kept (dropping number s .answer) h)
+refused-drop number s h = drop-kept number s (refusal-kept (dropNumber number s .answer) h)
 
 -- A REPEAT: one more is repeated, and nothing else changes
 pub repeated-group : (group : List ℕ) (s : State) (heard : Heard) → groupAnswer group s ≡ Answer.Repeat heard
     → groupLeaves group s ≡ record { collector = s .collector; counts = oneRepeated (s .counts); stores = s .stores }
-repeated-group group s heard e = ap (λ (t : Reply). t .left) (group-kept group s (rw e tt)) ∙ ap (λ (a : Answer). record { collector = s .collector; counts = counted a (s .counts); stores = s .stores }) e
+repeated-group group s heard e =
+    ap (λ (t : Reply). t .left) (group-kept group s (rw e tt))
+    ∙ ap (λ (a : Answer). record { collector = s .collector; counts = counted a (s .counts); stores = s .stores }) e
 
 -- ---- a drop
 
 -- it touches no store byte
-pub drop-stores : (number : ℕ) (s : State) → (dropLeaves number s .stores .header ≡ s .stores .header) × (dropLeaves number s .stores .body ≡ s .stores .body)
-unfolding dropping dropNumber
+pub drop-stores : (number : ℕ) (s : State) → (dropLeaves number s .stores .header ≡ s .stores .header)
+    × (dropLeaves number s .stores .body ≡ s .stores .body)
+unfolding dropNumber
 drop-stores number s = go (sound s) (find number s)
   where
-    go : (b : Bool) (found : Found) → (pick b (dropFound found number (s .collector) (s .counts) (s .stores)) (answeredBy Answer.State (s .collector) (s .counts) (s .stores)) .stores .header ≡ s .stores .header) × (pick b (dropFound found number (s .collector) (s .counts) (s .stores)) (answeredBy Answer.State (s .collector) (s .counts) (s .stores)) .stores .body ≡ s .stores .body)
+    go : (b : Bool) (found : Found)
+        → (pick b (dropFound found number s) (answering (Answer.Denied Reason.State) s) .left .stores .header
+        ≡ s .stores .header) × (pick b (dropFound found number s)
+        (answering (Answer.Denied Reason.State) s) .left .stores .body ≡ s .stores .body)
     go false found = (refl, refl)
     go true Nothing = (refl, refl)
     go true (At i) = (refl, refl)
@@ -236,31 +231,57 @@ drop-stores number s = go (sound s) (find number s)
 module _ (start : Start) where
   -- the test of the limits
   abbrev kept-limits : Bool
-  kept-limits = inLimits (start .limit) (start .count) (start .stores)
+  kept-limits = inLimits start
 
   within-kept : Within start → kept-limits ≡ true
-  within-kept w = limits-within (start .limit) (start .count) (length (start .stores .header)) (length (start .stores .body)) (length (start .stores .marks)) w
+  within-kept w = limits-within (start .limit) (start .count) (length (start .stores .header))
+      (length (start .stores .body)) (length (start .stores .marks)) w
 
   kept-within : kept-limits ≡ true → Within start
-  kept-within e = limits-hold (start .limit) (start .count) (length (start .stores .header)) (length (start .stores .body)) (length (start .stores .marks)) e
+  kept-within e = limits-hold (start .limit) (start .count) (length (start .stores .header))
+      (length (start .stores .body)) (length (start .stores .marks)) e
 
   not-kept : (b : Bool) → kept-limits ≡ b → ¬ (Within start) → kept-limits ≡ false
   not-kept false e n = e
   not-kept true e n = absurd (n (kept-within e))
 
   -- LIMITS exactly when it is outside them
-  pub limits-exactly : ((begun start .opening ≡ Opening.Refused Answer.Limits) ↔ (¬ (Within start))) × ((begun start .opening ≡ Opening.Open) ↔ Within start)
-  unfolding openedBy
+  pub limits-exactly : ((openWith start .opening ≡ Opening.Denied Reason.Limits) ↔ (¬ (Within start)))
+      × ((openWith start .opening ≡ Opening.Open) ↔ Within start)
+  unfolding openWith
   limits-exactly = go kept-limits refl
     where
-      go : (b : Bool) → kept-limits ≡ b → ((begun start .opening ≡ Opening.Refused Answer.Limits) ↔ (¬ (Within start))) × ((begun start .opening ≡ Opening.Open) ↔ Within start)
-      go true e = rw e (((λ d. let z : _≡_ {A = ℕ} 0 1 = cc in absurd (omega arith)), (λ n. absurd (n (kept-within e)))), ((λ d. kept-within e), (λ w. refl)))
-      go false e = rw e (((λ d w. false-true e (within-kept w)), (λ n. refl)), ((λ d. let z : _≡_ {A = ℕ} 0 1 = cc in absurd (omega arith)), (λ w. absurd (false-true e (within-kept w)))))
+      go : (b : Bool) → kept-limits ≡ b
+          → ((openWith start .opening ≡ Opening.Denied Reason.Limits) ↔ (¬ (Within start)))
+          × ((openWith start .opening ≡ Opening.Open) ↔ Within start)
+      go true e = rw e (
+        (
+          (λ d. let z : _≡_ {A = ℕ} 0 1 = cc in absurd (omega arith)),
+          (λ n. absurd (n (kept-within e))),
+        ),
+        ((λ d. kept-within e), (λ w. refl)),
+      )
+      go false e = rw e (
+        ((λ d w. false-true e (within-kept w)), (λ n. refl)),
+        ((λ d. let z : _≡_ {A = ℕ} 0 1 = cc in absurd (omega arith)), (λ w. absurd (false-true e (within-kept w)))),
+      )
 
   pub opened-leaves : Within start
-      → begun start .left ≡ record { collector = allFree (start .limit) (start .count); counts = noneYet; stores = record { header = start .stores .header; body = start .stores .body; marks = zeros (length (start .stores .marks)) } }
-  opened-leaves w = opened-all (start .limit) (start .count) (start .counts) (start .stores) (within-kept w)
+      → openWith start .left ≡ record {
+        collector = allFree (start .limit) (start .count);
+        counts = noneYet;
+        stores =
+            record {
+              header = start .stores .header;
+              body = start .stores .body;
+              marks =
+                  zeros (length (start .stores .marks));
+            };
+      }
+  opened-leaves w = opened-all start (within-kept w)
 
   -- a refused one leaves the counts and all that is lent, and hands back a state that every call answers with STATE
-  pub unopened-leaves : ¬ (Within start) → (begun start .left .counts ≡ start .counts) × (begun start .left .stores ≡ start .stores) × (¬ (InOrder (begun start .left)))
-  unopened-leaves n = rw (opened-none (start .limit) (start .count) (start .counts) (start .stores) (not-kept kept-limits refl n)) (refl, refl, (λ w. let h : limitLeast ≤ 0 = w .limits .least in absurd (omega arith)))
+  pub unopened-leaves : ¬ (Within start) → (openWith start .left .counts ≡ start .counts)
+      × (openWith start .left .stores ≡ start .stores) × (¬ (InOrder (openWith start .left)))
+  unopened-leaves n = rw (opened-none start (not-kept kept-limits refl n))
+      (refl, refl, (λ w. let h : limitLeast ≤ 0 = w .limits .least in absurd (omega arith)))

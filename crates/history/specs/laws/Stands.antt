@@ -1,4 +1,5 @@
--- Each slot holds just what was stored under its number, and nothing was stored under any other number: kept by every call.
+-- Each slot holds just what was stored under its number, and nothing was stored under any other number: kept by every
+-- call.
 use mathlib.Core.Path.{_≡_, refl, sym, _∙_, subst}
 use mathlib.Core.Logic.{_≢_}
 use mathlib.Core.Bool.{Bool, true, false}
@@ -16,7 +17,7 @@ use Rattle.answer.specs.declared.Heard.{Heard}
 use Rattle.answer.specs.declared.Part.{Part}
 use Rattle.answer.specs.declared.Part.the-variants.{Header, Body}
 use Rattle.answer.specs.Table.{numberOf}
-use Rattle.wire.specs.declared.Segment.{Segment as Carried}
+use Rattle.wire.specs.declared.Carried.{Carried}
 use Rattle.wire.specs.declared.Reading.{Reading}
 use Rattle.wire.specs.declared.Reading.the-variants.{Read, Refused}
 use Rattle.wire.specs.Reading.{readingOf}
@@ -36,10 +37,11 @@ use Rattle.slots.specs.Stores.{freeSlot, freshSlot, slotAt}
 use Rattle.slots.specs.Find.{isFree, holds, findIn, freeIn}
 use Rattle.slots.specs.Alone.{fitsAlone}
 use Rattle.slots.specs.laws.Shares.{lent-back}
-use Rattle.collector.specs.Calls.{heardAs, segmentIn, answerAs}
+use Rattle.collector.specs.State.{Reply, State, answering, sound}
+use Rattle.collector.specs.Calls.{Arrival, answerAs, arrivalIn, dropNumber, find, free, heardAs, takeGroup}
 use Rattle.history.specs.laws.Slots.{held-is, is-held, free-holds, found-first, none-found, only-found, slot-here, slot-there, used-before, used-after}
-use Rattle.history.specs.laws.Call.{State, Reply, taking, dropping, sound, limitOf, InUse, slotOf, lentOf, find, free, answering, replacing, offering, Came, alone, full, first, more, unread, came, none-dropped, found-dropped, cleared}
-use Rattle.history.specs.Held.{Same}
+use Rattle.history.specs.Held.{Same, lentOf, limitOf, slotOf}
+use Rattle.history.specs.laws.Call.{InUse, replacing, offering, Came, alone, full, first, more, unread, came, none-dropped, found-dropped, cleared}
 use Rattle.history.specs.laws.Ready.{slots-right, limit-low, used-inside, used-lent, found-used, found-holds, free-used, free-free, free-marks}
 use Rattle.history.specs.laws.Taken.{holds-held, taken-number, fresh-gathers, fresh-added}
 use Rattle.history.specs.laws.Sound.{Intact, lent-is-wide, more-lent, first-lent, segment-bytes, group-intact}
@@ -55,15 +57,18 @@ pub record StandsFor (number : ℕ) (s : State) (hs bs : List Segment) : Type 0 
 abbrev pub Stands : State → List Event → Type 0
 Stands s events = (number : ℕ) → StandsFor number s (storedUnder Header number events) (storedUnder Body number events)
 
-same-stands : (number : ℕ) (s t : State) (hs bs : List Segment) → Same number s t → StandsFor number s hs bs → StandsFor number t hs bs
+same-stands : (number : ℕ) (s t : State) (hs bs : List Segment) → Same number s t → StandsFor number s hs bs
+    → StandsFor number t hs bs
 same-stands number s t hs bs same w = record {
-  held = λ i e. let f : find number s ≡ At i = sym (same .found) ∙ e in rw (same .slot i f, same .lent i f, same .limit) (w .held i f);
+  held = λ i e. let f : find number s ≡ At i = sym (same .found) ∙ e in
+      rw (same .slot i f, same .lent i f, same .limit) (w .held i f);
   rest = λ e. w .rest (sym (same .found) ∙ e);
 }
 
 -- ---- a slot is replaced by one that holds the number
 
-module _ (number : ℕ) (answer : Answer) (i : ℕ) (slot : Slot) (lent : Lent) (s : State) (good : sound s ≡ true) (u : InUse i s) (l : IsLent (limitOf s) lent) (whole : Intact (replacing answer i slot lent s .left)) where
+module _ (number : ℕ) (answer : Answer) (i : ℕ) (slot : Slot) (lent : Lent) (s : State) (good : sound s ≡ true)
+    (u : InUse i s) (l : IsLent (limitOf s) lent) (whole : Intact (replacing answer i slot lent s .left)) where
   t : State
   t = replacing answer i slot lent s .left
 
@@ -77,7 +82,8 @@ module _ (number : ℕ) (answer : Answer) (i : ℕ) (slot : Slot) (lent : Lent) 
 
   replaced-found : holds number slot ≡ true → find number (replacing answer i slot lent s .left) ≡ At i
   unfolding t findIn
-  replaced-found h = only-found (holds number) (s .collector .count) (t .collector .slots) i v own (λ j x g. slots-right t (whole .undamaged) .once number j i x v g own)
+  replaced-found h = only-found (holds number) (s .collector .count) (t .collector .slots) i v own
+      (λ j x g. slots-right t (whole .undamaged) .once number j i x v g own)
     where
       v : InUse i t
       v = used-after i slot (s .collector .slots) (s .collector .count) i u
@@ -85,9 +91,14 @@ module _ (number : ℕ) (answer : Answer) (i : ℕ) (slot : Slot) (lent : Lent) 
       own : holds number (slotOf i t) ≡ true
       own = rw here h
 
-  replaced-stands : (hs bs : List Segment) → slot .number ≡ number → Holds (limitOf s) slot lent hs bs → StandsFor number (replacing answer i slot lent s .left) hs bs
+  replaced-stands : (hs bs : List Segment) → slot .number ≡ number → Holds (limitOf s) slot lent hs bs
+      → StandsFor number (replacing answer i slot lent s .left) hs bs
   unfolding t
-  replaced-stands hs bs e h = record { held = held; rest = λ f. let z : _≡_ {A = ℕ} 0 1 = cc found in absurd (omega arith) }
+  replaced-stands hs bs e h = record {
+    held = held;
+    rest = λ f. let z : _≡_ {A = ℕ} 0 1 = cc found in
+        absurd (omega arith);
+  }
     where
       found : find number t ≡ At i
       found = replaced-found (is-held number slot (holds-held (limitOf s) slot lent hs bs h) e)
@@ -100,15 +111,19 @@ module _ (number : ℕ) (answer : Answer) (i : ℕ) (slot : Slot) (lent : Lent) 
 -- ---- a group
 
 -- what the slot holds after a segment was offered to it
-told-holds : (o : Outcome) (heard : Heard) (part : Part) (limit : ℕ) (segment : Segment) (slot : Slot) (lent : Lent) (hs bs : List Segment) (t : Taken) → Holds limit slot lent hs bs → Tells o part limit segment slot lent hs bs t
-    → Holds limit (t .slot) (t .lent) (pick (isStored (answerAs o heard)) (headersWith part segment hs) hs) (pick (isStored (answerAs o heard)) (bodiesWith part segment bs) bs)
+told-holds : (o : Outcome) (heard : Heard) (part : Part) (limit : ℕ) (segment : Segment) (slot : Slot) (lent : Lent)
+    (hs bs : List Segment) (t : Taken) → Holds limit slot lent hs bs → Tells o part limit segment slot lent hs bs t
+    → Holds limit (t .slot) (t .lent) (pick (isStored (answerAs o heard)) (headersWith part segment hs) hs)
+    (pick (isStored (answerAs o heard)) (bodiesWith part segment bs) bs)
 told-holds Stored heard part limit segment slot lent hs bs t h w = w .0 .holds
 told-holds Complete heard part limit segment slot lent hs bs t h w = w .0 .holds
 told-holds Repeat heard part limit segment slot lent hs bs t h w = rw (w .1) h
 told-holds Conflict heard part limit segment slot lent hs bs t h w = rw (w .1) h
 
 -- where it is added, the outcome is STORED or COMPLETE
-added-stored : (o : Outcome) (heard : Heard) (part : Part) (limit : ℕ) (segment : Segment) (slot : Slot) (lent : Lent) (t : Taken) → Added part limit segment slot [] [] t → Tells o part limit segment slot lent [] [] t → isStored (answerAs o heard) ≡ true
+added-stored : (o : Outcome) (heard : Heard) (part : Part) (limit : ℕ) (segment : Segment) (slot : Slot) (lent : Lent)
+    (t : Taken) → Added part limit segment slot [] [] t → Tells o part limit segment slot lent [] [] t
+    → isStored (answerAs o heard) ≡ true
 added-stored Stored heard part limit segment slot lent t a w = refl
 added-stored Complete heard part limit segment slot lent t a w = refl
 added-stored Repeat heard Header limit segment slot lent t a w = absurd (w .0)
@@ -116,51 +131,79 @@ added-stored Repeat heard Body limit segment slot lent t a w = absurd (w .0)
 added-stored Conflict heard part limit segment slot lent t a w = absurd (w .0 (a .holds .gathers .object))
 
 -- what is stored under a number after a group that was read
-abbrev next : Part → ℕ → Carried → Segment → Answer → List Segment → List Segment
-next part number carried segment answer segments = pick (eqb (carried .number) number) (pick (isStored answer) (with part (carried .part) segment segments) segments) segments
+abbrev next : Part → ℕ → Arrival → Answer → List Segment → List Segment
+next part number arrived answer segments =
+    pick (eqb (arrived .number) number)
+    (pick (isStored answer) (with part (arrived .part) (arrived .segment) segments) segments) segments
 
-next-other : (part : Part) (number : ℕ) (carried : Carried) (segment : Segment) (answer : Answer) (segments : List Segment) → number ≢ carried .number → next part number carried segment answer segments ≡ segments
-next-other part number carried segment answer segments d = rw (ne-eqb (carried .number) number (λ e. d (sym e))) refl
+next-other : (part : Part) (number : ℕ) (arrived : Arrival) (answer : Answer) (segments : List Segment)
+    → number ≢ arrived .number → next part number arrived answer segments ≡ segments
+next-other part number arrived answer segments d = rw (ne-eqb (arrived .number) number (λ e. d (sym e))) refl
 
-next-own : (part : Part) (carried : Carried) (segment : Segment) (answer : Answer) (segments : List Segment) → next part (carried .number) carried segment answer segments ≡ pick (isStored answer) (with part (carried .part) segment segments) segments
-next-own part carried segment answer segments = rw (eq-eqb (carried .number) (carried .number) refl) refl
+next-own : (part : Part) (arrived : Arrival) (answer : Answer) (segments : List Segment)
+    → next part (arrived .number) arrived answer segments
+    ≡ pick (isStored answer) (with part (arrived .part) (arrived .segment) segments) segments
+next-own part arrived answer segments = rw (eq-eqb (arrived .number) (arrived .number) refl) refl
 
 -- nothing is stored: all stands as it did
-not-stands : (carried : Carried) (segment : Segment) (answer : Answer) (s : State) (hs bs : List Segment) → isStored answer ≡ false → StandsFor (carried .number) s hs bs
-    → StandsFor (carried .number) (answering answer s .left) (pick (isStored answer) (headersWith (carried .part) segment hs) hs) (pick (isStored answer) (bodiesWith (carried .part) segment bs) bs)
-not-stands carried segment answer s hs bs e w = rw e (record { held = w .held; rest = w .rest })
+not-stands : (arrived : Arrival) (answer : Answer) (s : State) (hs bs : List Segment) → isStored answer ≡ false
+    → StandsFor (arrived .number) s hs bs
+    → StandsFor (arrived .number) (answering answer s .left)
+    (pick (isStored answer) (headersWith (arrived .part) (arrived .segment) hs) hs)
+    (pick (isStored answer) (bodiesWith (arrived .part) (arrived .segment) bs) bs)
+not-stands arrived answer s hs bs e w = rw e (record { held = w .held; rest = w .rest })
 
 -- the segment is offered to the slot that holds its number
-more-stands : (carried : Carried) (segment : Segment) (s : State) (i : ℕ) (hs bs : List Segment) (taken : Taken) → taken ≡ takeInto (carried .part) (limitOf s) segment (slotOf i s) (lentOf i s)
-    → Bytes (segment .bytes) → Intact s → Intact (offering carried segment i s taken .left) → StandsFor (carried .number) s hs bs → find (carried .number) s ≡ At i
-    → StandsFor (carried .number) (offering carried segment i s taken .left) (pick (isStored (answerAs (taken .outcome) (heardAs carried))) (headersWith (carried .part) segment hs) hs) (pick (isStored (answerAs (taken .outcome) (heardAs carried))) (bodiesWith (carried .part) segment bs) bs)
-more-stands carried segment s i hs bs taken same y whole whole' w n = replaced-stands (carried .number) (answerAs (taken .outcome) (heardAs carried)) i (taken .slot) (taken .lent) s (whole .undamaged) (found-used s (whole .undamaged) (carried .number) i n)
-    (rw same (more-lent s whole (carried .number) i (carried .part) segment y n))
+more-stands : (arrived : Arrival) (s : State) (i : ℕ) (hs bs : List Segment) (taken : Taken)
+    → taken ≡ takeInto (arrived .part) (limitOf s) (arrived .segment) (slotOf i s) (lentOf i s)
+    → Bytes (arrived .segment .bytes) → Intact s → Intact (offering arrived i s taken .left)
+    → StandsFor (arrived .number) s hs bs → find (arrived .number) s ≡ At i
+    → StandsFor (arrived .number) (offering arrived i s taken .left)
+    (pick (isStored (answerAs (taken .outcome) (heardAs arrived)))
+    (headersWith (arrived .part) (arrived .segment) hs) hs)
+    (pick (isStored (answerAs (taken .outcome) (heardAs arrived)))
+    (bodiesWith (arrived .part) (arrived .segment) bs) bs)
+more-stands arrived s i hs bs taken same y whole whole' w n =
+    replaced-stands (arrived .number) (answerAs (taken .outcome) (heardAs arrived)) i (taken .slot) (taken .lent) s
+    (whole .undamaged) (found-used s (whole .undamaged) (arrived .number) i n)
+    (rw same (more-lent s whole (arrived .number) i (arrived .part) (arrived .segment) y n))
     whole'
-    (pick (isStored (answerAs (taken .outcome) (heardAs carried))) (headersWith (carried .part) segment hs) hs)
-    (pick (isStored (answerAs (taken .outcome) (heardAs carried))) (bodiesWith (carried .part) segment bs) bs)
+    (pick (isStored (answerAs (taken .outcome) (heardAs arrived)))
+    (headersWith (arrived .part) (arrived .segment) hs) hs)
+    (pick (isStored (answerAs (taken .outcome) (heardAs arrived)))
+    (bodiesWith (arrived .part) (arrived .segment) bs) bs)
     number
-    (told-holds (taken .outcome) (heardAs carried) (carried .part) (limitOf s) segment (slotOf i s) (lentOf i s) hs bs taken (w .held i n) told)
+    (told-holds (taken .outcome) (heardAs arrived) (arrived .part) (limitOf s) (arrived .segment) (slotOf i s)
+    (lentOf i s) hs bs taken (w .held i n) told)
   where
-    number : taken .slot .number ≡ carried .number
-    number = rw same (taken-number (carried .part) (limitOf s) segment (slotOf i s) (lentOf i s)) ∙ held-is (carried .number) (slotOf i s) (found-holds s (whole .undamaged) (carried .number) i n) .1
+    number : taken .slot .number ≡ arrived .number
+    number = rw same (taken-number (arrived .part) (limitOf s) (arrived .segment) (slotOf i s) (lentOf i s)) ∙ held-is
+        (arrived .number) (slotOf i s) (found-holds s (whole .undamaged) (arrived .number) i n) .1
 
-    told : Tells (taken .outcome) (carried .part) (limitOf s) segment (slotOf i s) (lentOf i s) hs bs taken
-    told = rw same (outcome-tells (carried .part) (limitOf s) segment (slotOf i s) (lentOf i s) hs bs (limit-low s (whole .undamaged)) y (w .held i n .gathers) (takeInto (carried .part) (limitOf s) segment (slotOf i s) (lentOf i s) .outcome) refl)
+    told : Tells (taken .outcome) (arrived .part) (limitOf s) (arrived .segment) (slotOf i s) (lentOf i s) hs bs taken
+    told = rw same (outcome-tells (arrived .part) (limitOf s) (arrived .segment) (slotOf i s) (lentOf i s) hs bs
+        (limit-low s (whole .undamaged)) y (w .held i n .gathers)
+        (takeInto (arrived .part) (limitOf s) (arrived .segment) (slotOf i s) (lentOf i s) .outcome) refl)
 
 -- the first segment of its number takes a free slot
-first-stands : (carried : Carried) (segment : Segment) (s : State) (i : ℕ) (taken : Taken) → taken ≡ takeInto (carried .part) (limitOf s) segment (freshSlot (carried .number)) (lentOf i s)
-    → Bytes (segment .bytes) → Intact s → Intact (offering carried segment i s taken .left) → fitsAlone (carried .part) (limitOf s) segment ≡ true → free s ≡ At i
-    → (isStored (answerAs (taken .outcome) (heardAs carried)) ≡ true) × StandsFor (carried .number) (offering carried segment i s taken .left) (headersWith (carried .part) segment []) (bodiesWith (carried .part) segment [])
+first-stands : (arrived : Arrival) (s : State) (i : ℕ) (taken : Taken)
+    → taken ≡ takeInto (arrived .part) (limitOf s) (arrived .segment) (freshSlot (arrived .number)) (lentOf i s)
+    → Bytes (arrived .segment .bytes) → Intact s → Intact (offering arrived i s taken .left)
+    → fitsAlone (arrived .part) (limitOf s) (arrived .segment) ≡ true → free s ≡ At i
+    → (isStored (answerAs (taken .outcome) (heardAs arrived)) ≡ true)
+    × StandsFor (arrived .number) (offering arrived i s taken .left) (headersWith (arrived .part) (arrived .segment) [])
+    (bodiesWith (arrived .part) (arrived .segment) [])
 unfolding freshSlot
-first-stands carried segment s i taken same y whole whole' a f = (
-  added-stored (taken .outcome) (heardAs carried) (carried .part) (limitOf s) segment (freshSlot (carried .number)) (lentOf i s) taken added told,
-  replaced-stands (carried .number) (answerAs (taken .outcome) (heardAs carried)) i (taken .slot) (taken .lent) s (whole .undamaged) (free-used s (whole .undamaged) i f)
-      (rw same (first-lent s whole (carried .number) i (carried .part) segment y f))
+first-stands arrived s i taken same y whole whole' a f = (
+  added-stored (taken .outcome) (heardAs arrived) (arrived .part) (limitOf s) (arrived .segment)
+      (freshSlot (arrived .number)) (lentOf i s) taken added told,
+  replaced-stands (arrived .number) (answerAs (taken .outcome) (heardAs arrived)) i (taken .slot) (taken .lent) s
+      (whole .undamaged) (free-used s (whole .undamaged) i f)
+      (rw same (first-lent s whole (arrived .number) i (arrived .part) (arrived .segment) y f))
       whole'
-      (headersWith (carried .part) segment [])
-      (bodiesWith (carried .part) segment [])
-      (rw same (taken-number (carried .part) (limitOf s) segment (freshSlot (carried .number)) (lentOf i s)))
+      (headersWith (arrived .part) (arrived .segment) [])
+      (bodiesWith (arrived .part) (arrived .segment) [])
+      (rw same (taken-number (arrived .part) (limitOf s) (arrived .segment) (freshSlot (arrived .number)) (lentOf i s)))
       (added .holds),
 )
   where
@@ -170,49 +213,76 @@ first-stands carried segment s i taken same y whole whole' a f = (
     none : sumOf (lentOf i s .marks) ≡ 0
     none = free-marks s (whole .undamaged) i f
 
-    added : Added (carried .part) (limitOf s) segment (freshSlot (carried .number)) [] [] taken
-    added = rw same (fresh-added (carried .part) (limitOf s) (carried .number) segment (lentOf i s) (limit-low s (whole .undamaged)) y lends none a)
+    added : Added (arrived .part) (limitOf s) (arrived .segment) (freshSlot (arrived .number)) [] [] taken
+    added = rw same (fresh-added (arrived .part) (limitOf s) (arrived .number) (arrived .segment) (lentOf i s)
+        (limit-low s (whole .undamaged)) y lends none a)
 
-    told : Tells (taken .outcome) (carried .part) (limitOf s) segment (freshSlot (carried .number)) (lentOf i s) [] [] taken
-    told = rw same (outcome-tells (carried .part) (limitOf s) segment (freshSlot (carried .number)) (lentOf i s) [] [] (limit-low s (whole .undamaged)) y (fresh-gathers (carried .part) (limitOf s) (carried .number) segment (lentOf i s) (limit-low s (whole .undamaged)) y lends none) (takeInto (carried .part) (limitOf s) segment (freshSlot (carried .number)) (lentOf i s) .outcome) refl)
+    told : Tells (taken .outcome) (arrived .part) (limitOf s) (arrived .segment) (freshSlot (arrived .number))
+        (lentOf i s) [] [] taken
+    told = rw same (outcome-tells (arrived .part) (limitOf s) (arrived .segment) (freshSlot (arrived .number))
+        (lentOf i s) [] [] (limit-low s (whole .undamaged)) y
+        (fresh-gathers (arrived .part) (limitOf s) (arrived .number) (arrived .segment) (lentOf i s)
+        (limit-low s (whole .undamaged)) y lends none)
+        (takeInto (arrived .part) (limitOf s) (arrived .segment) (freshSlot (arrived .number)) (lentOf i s) .outcome)
+        refl)
 
-came-own : (carried : Carried) (segment : Segment) (s : State) (t : Reply) (hs bs : List Segment) → Bytes (segment .bytes) → Intact s → Intact (t .left) → StandsFor (carried .number) s hs bs → Came carried segment s t
-    → StandsFor (carried .number) (t .left) (pick (isStored (t .answer)) (headersWith (carried .part) segment hs) hs) (pick (isStored (t .answer)) (bodiesWith (carried .part) segment bs) bs)
-came-own carried segment s t hs bs y whole whole' w (alone n a e) = rw e (not-stands carried segment (Answer.Conflict (heardAs carried)) s hs bs refl w)
-came-own carried segment s t hs bs y whole whole' w (full n a f e) = rw e (not-stands carried segment (Answer.Full (heardAs carried)) s hs bs refl w)
-came-own carried segment s t hs bs y whole whole' w (first i n a f e) =
-    let x : Taken = takeInto (carried .part) (limitOf s) segment (freshSlot (carried .number)) (lentOf i s) in
-    let r = first-stands carried segment s i x refl y whole (rw e at whole') a f in
+came-own : (arrived : Arrival) (s : State) (t : Reply) (hs bs : List Segment) → Bytes (arrived .segment .bytes)
+    → Intact s → Intact (t .left) → StandsFor (arrived .number) s hs bs → Came arrived s t
+    → StandsFor (arrived .number) (t .left)
+    (pick (isStored (t .answer)) (headersWith (arrived .part) (arrived .segment) hs) hs)
+    (pick (isStored (t .answer)) (bodiesWith (arrived .part) (arrived .segment) bs) bs)
+came-own arrived s t hs bs y whole whole' w (alone n a e) =
+    rw e (not-stands arrived (Answer.Conflict (heardAs arrived)) s hs bs refl w)
+came-own arrived s t hs bs y whole whole' w (full n a f e) =
+    rw e (not-stands arrived (Answer.Full (heardAs arrived)) s hs bs refl w)
+came-own arrived s t hs bs y whole whole' w (first i n a f e) =
+    let x : Taken = takeInto (arrived .part) (limitOf s) (arrived .segment) (freshSlot (arrived .number))
+    (lentOf i s) in
+    let r = first-stands arrived s i x refl y whole (rw e at whole') a f in
     let none = w .rest n in
     rw (none .0, none .1, e, r .0) (r .1)
-came-own carried segment s t hs bs y whole whole' w (more i n e) = rw e (more-stands carried segment s i hs bs (takeInto (carried .part) (limitOf s) segment (slotOf i s) (lentOf i s)) refl y whole (rw e at whole') w n)
+came-own arrived s t hs bs y whole whole' w (more i n e) =
+    rw e (more-stands arrived s i hs bs
+    (takeInto (arrived .part) (limitOf s) (arrived .segment) (slotOf i s) (lentOf i s)) refl y whole
+    (rw e at whole') w n)
 
 -- a number that held no slot takes the lowest free one
-pub came-lowest : (carried : Carried) (segment : Segment) (s : State) (t : Reply) → Bytes (segment .bytes) → Intact s → Intact (t .left) → Came carried segment s t → find (carried .number) s ≡ Nothing → numberOf (t .answer) ≤ 1
-    → (i : ℕ) × (find (carried .number) (t .left) ≡ At i) × (isFree (slotOf i s) ≡ true) × ((j : ℕ) → j < i → isFree (slotOf j s) ≡ false)
+pub came-lowest : (arrived : Arrival) (s : State) (t : Reply) → Bytes (arrived .segment .bytes) → Intact s
+    → Intact (t .left) → Came arrived s t → find (arrived .number) s ≡ Nothing → numberOf (t .answer) ≤ 1
+    → (i : ℕ) × (find (arrived .number) (t .left) ≡ At i) × (isFree (slotOf i s) ≡ true)
+    × ((j : ℕ) → j < i → isFree (slotOf j s) ≡ false)
 unfolding freeIn freshSlot
-came-lowest carried segment s t y whole whole' (alone n a e) none h = absurd (omega (arith, rw e at h))
-came-lowest carried segment s t y whole whole' (full n a f e) none h = absurd (omega (arith, rw e at h))
-came-lowest carried segment s t y whole whole' (more i n e) none h = let z : _≡_ {A = ℕ} 0 1 = cc in absurd (omega arith)
-came-lowest carried segment s t y whole whole' (first i n a f e) none h =
-    let x : Taken = takeInto (carried .part) (limitOf s) segment (freshSlot (carried .number)) (lentOf i s) in
+came-lowest arrived s t y whole whole' (alone n a e) none h = absurd (omega (arith, rw e at h))
+came-lowest arrived s t y whole whole' (full n a f e) none h = absurd (omega (arith, rw e at h))
+came-lowest arrived s t y whole whole' (more i n e) none h = let z : _≡_ {A = ℕ} 0 1 = cc in absurd (omega arith)
+came-lowest arrived s t y whole whole' (first i n a f e) none h =
+    let x : Taken = takeInto (arrived .part) (limitOf s) (arrived .segment) (freshSlot (arrived .number))
+    (lentOf i s) in
     let u = free-used s (whole .undamaged) i f in
     let lends = used-lent s (whole .undamaged) i u (whole .bytes) in
-    let added = fresh-added (carried .part) (limitOf s) (carried .number) segment (lentOf i s) (limit-low s (whole .undamaged)) y lends (free-marks s (whole .undamaged) i f) a in
-    let own : holds (carried .number) (x .slot) ≡ true = is-held (carried .number) (x .slot) (holds-held (limitOf s) (x .slot) (x .lent) (headersWith (carried .part) segment []) (bodiesWith (carried .part) segment []) (added .holds)) (taken-number (carried .part) (limitOf s) segment (freshSlot (carried .number)) (lentOf i s)) in (
+    let added = fresh-added (arrived .part) (limitOf s) (arrived .number) (arrived .segment) (lentOf i s)
+    (limit-low s (whole .undamaged)) y lends (free-marks s (whole .undamaged) i f) a in
+    let own : holds (arrived .number) (x .slot) ≡ true =
+    is-held (arrived .number) (x .slot)
+    (holds-held (limitOf s) (x .slot) (x .lent) (headersWith (arrived .part) (arrived .segment) [])
+    (bodiesWith (arrived .part) (arrived .segment) []) (added .holds))
+    (taken-number (arrived .part) (limitOf s) (arrived .segment) (freshSlot (arrived .number)) (lentOf i s)) in (
       i,
-      rw e (replaced-found (carried .number) (answerAs (x .outcome) (heardAs carried)) i (x .slot) (x .lent) s (whole .undamaged) u (first-lent s whole (carried .number) i (carried .part) segment y f) (rw e at whole') own),
+      rw e (replaced-found (arrived .number) (answerAs (x .outcome) (heardAs arrived)) i (x .slot) (x .lent) s
+          (whole .undamaged) u (first-lent s whole (arrived .number) i (arrived .part) (arrived .segment) y f)
+          (rw e at whole') own),
       free-free s (whole .undamaged) i f,
       found-first isFree (s .collector .count) (s .collector .slots) i f,
     )
 
 -- A GROUP: each slot holds just what was stored, this group counted
-pub group-stands : (bytes : List ℕ) (s : State) (events : List Event) → Bytes bytes → Intact s → Stands s events → Stands (taking bytes s .left) (handed bytes (taking bytes s .answer) ∷ events)
+pub group-stands : (bytes : List ℕ) (s : State) (events : List Event) → Bytes bytes → Intact s → Stands s events
+    → Stands (takeGroup bytes s .left) (handed bytes (takeGroup bytes s .answer) ∷ events)
 unfolding under
 group-stands bytes s events y whole w number = go (readingOf bytes) refl
   where
     t : Reply
-    t = taking bytes s
+    t = takeGroup bytes s
 
     hs : ℕ → List Segment
     hs n = storedUnder Header n events
@@ -223,25 +293,43 @@ group-stands bytes s events y whole w number = go (readingOf bytes) refl
     whole' : Intact (t .left)
     whole' = group-intact bytes s y whole
 
-    read : (carried : Carried) → readingOf bytes ≡ Read carried → (n : ℕ) → Dec (n ≡ carried .number) → StandsFor n (t .left) (next Header n carried (segmentIn bytes carried) (t .answer) (hs n)) (next Body n carried (segmentIn bytes carried) (t .answer) (bs n))
+    read : (carried : Carried) → readingOf bytes ≡ Read carried → (n : ℕ) → Dec (n ≡ carried .number)
+        → StandsFor n (t .left) (next Header n (arrivalIn bytes carried) (t .answer) (hs n))
+        (next Body n (arrivalIn bytes carried) (t .answer) (bs n))
     read carried e n (no d) =
-        rw (next-other Header n carried (segmentIn bytes carried) (t .answer) (hs n) d, next-other Body n carried (segmentIn bytes carried) (t .answer) (bs n) d)
-        (same-stands n s (t .left) (hs n) (bs n) (came-same n carried (segmentIn bytes carried) s t d (segment-bytes bytes carried y) whole (came bytes s (whole .undamaged) carried e)) (w n))
+        rw (
+          next-other Header n (arrivalIn bytes carried) (t .answer) (hs n) d,
+          next-other Body n (arrivalIn bytes carried) (t .answer) (bs n) d,
+        )
+        (same-stands n s (t .left) (hs n) (bs n)
+        (came-same n (arrivalIn bytes carried) s t d (segment-bytes bytes carried y) whole
+        (came bytes s (whole .undamaged) carried e)) (w n))
     read carried e n (yes d) =
-        subst (λ (m : ℕ). StandsFor m (t .left) (next Header m carried (segmentIn bytes carried) (t .answer) (hs m)) (next Body m carried (segmentIn bytes carried) (t .answer) (bs m))) (sym d)
-        (rw (next-own Header carried (segmentIn bytes carried) (t .answer) (hs (carried .number)), next-own Body carried (segmentIn bytes carried) (t .answer) (bs (carried .number)))
-        (came-own carried (segmentIn bytes carried) s t (hs (carried .number)) (bs (carried .number)) (segment-bytes bytes carried y) whole whole' (w (carried .number)) (came bytes s (whole .undamaged) carried e)))
+        subst (λ (m : ℕ). StandsFor m (t .left) (next Header m (arrivalIn bytes carried) (t .answer) (hs m))
+        (next Body m (arrivalIn bytes carried) (t .answer) (bs m))) (sym d)
+        (rw (
+          next-own Header (arrivalIn bytes carried) (t .answer) (hs (carried .number)),
+          next-own Body (arrivalIn bytes carried) (t .answer) (bs (carried .number)),
+        )
+        (came-own (arrivalIn bytes carried) s t (hs (carried .number)) (bs (carried .number))
+        (segment-bytes bytes carried y) whole whole' (w (carried .number)) (came bytes s (whole .undamaged) carried e)))
 
-    go : (reading : Reading) → readingOf bytes ≡ reading → StandsFor number (t .left) (afterGroup isStored Header number (readingOf bytes) bytes (t .answer) (hs number)) (afterGroup isStored Body number (readingOf bytes) bytes (t .answer) (bs number))
-    go (Refused why) e = rw (e, unread bytes s (whole .undamaged) why e) (record { held = w number .held; rest = w number .rest })
+    go : (reading : Reading) → readingOf bytes ≡ reading
+        → StandsFor number (t .left) (afterGroup isStored Header number (readingOf bytes) bytes (t .answer) (hs number))
+        (afterGroup isStored Body number (readingOf bytes) bytes (t .answer) (bs number))
+    go (Refused why) e = rw (e, unread bytes s (whole .undamaged) why e)
+        (record { held = w number .held; rest = w number .rest })
     go (Read carried) e = rw e (read carried e number (ℕ-discrete number (carried .number)))
 
 -- ---- a drop
 
 -- the slot that held the number is free, and no other holds it
-dropped-none : (number i : ℕ) (answer : Answer) (lent : Lent) (s : State) → sound s ≡ true → find number s ≡ At i → find number (replacing answer i freeSlot lent s .left) ≡ Nothing
+dropped-none : (number i : ℕ) (answer : Answer) (lent : Lent) (s : State) → sound s ≡ true → find number s ≡ At i
+    → find number (replacing answer i freeSlot lent s .left) ≡ Nothing
 unfolding findIn freeSlot isFree
-dropped-none number i answer lent s good e = none-found (holds number) (s .collector .count) (set (s .collector .slots) i freeSlot) (λ j u. go j (used-before i freeSlot (s .collector .slots) (s .collector .count) j u) (ℕ-discrete j i))
+dropped-none number i answer lent s good e =
+    none-found (holds number) (s .collector .count) (set (s .collector .slots) i freeSlot)
+    (λ j u. go j (used-before i freeSlot (s .collector .slots) (s .collector .count) j u) (ℕ-discrete j i))
   where
     v : InUse i s
     v = found-used s good number i e
@@ -254,32 +342,41 @@ dropped-none number i answer lent s good e = none-found (holds number) (s .colle
     other j u d true h = absurd (d (slots-right s good .once number j i u v h (found-holds s good number i e)))
 
     go : (j : ℕ) → InUse j s → Dec (j ≡ i) → holds number (slotAt j (set (s .collector .slots) i freeSlot)) ≡ false
-    go j u (yes d) = subst (λ (k : ℕ). holds number (slotAt k (set (s .collector .slots) i freeSlot)) ≡ false) (sym d) here
+    go j u (yes d) = subst (λ (k : ℕ). holds number (slotAt k (set (s .collector .slots) i freeSlot)) ≡ false)
+        (sym d) here
     go j u (no d) = rw (slot-there i freeSlot (s .collector .slots) j d) (other j u d (holds number (slotOf j s)) refl)
 
-after-other : (number other : ℕ) (answer : Answer) (segments : List Segment) → number ≢ other → afterDrop number other answer segments ≡ segments
+after-other : (number other : ℕ) (answer : Answer) (segments : List Segment) → number ≢ other
+    → afterDrop number other answer segments ≡ segments
 after-other number other answer segments d = rw (ne-eqb other number (λ e. d (sym e))) refl
 
-after-own : (number : ℕ) (answer : Answer) (segments : List Segment) → afterDrop number number answer segments ≡ pick (isDropped answer) [] segments
+after-own : (number : ℕ) (answer : Answer) (segments : List Segment)
+    → afterDrop number number answer segments ≡ pick (isDropped answer) [] segments
 after-own number answer segments = rw (eq-eqb number number refl) refl
 
-drop-own : (number : ℕ) (s : State) (hs bs : List Segment) → Intact s → StandsFor number s hs bs → StandsFor number (dropping number s .left) (pick (isDropped (dropping number s .answer)) [] hs) (pick (isDropped (dropping number s .answer)) [] bs)
+drop-own : (number : ℕ) (s : State) (hs bs : List Segment) → Intact s → StandsFor number s hs bs
+    → StandsFor number (dropNumber number s .left) (pick (isDropped (dropNumber number s .answer)) [] hs)
+    (pick (isDropped (dropNumber number s .answer)) [] bs)
 drop-own number s hs bs whole w = go (find number s) refl
   where
-    go : (found : Found) → find number s ≡ found → StandsFor number (dropping number s .left) (pick (isDropped (dropping number s .answer)) [] hs) (pick (isDropped (dropping number s .answer)) [] bs)
+    go : (found : Found) → find number s ≡ found
+        → StandsFor number (dropNumber number s .left) (pick (isDropped (dropNumber number s .answer)) [] hs)
+        (pick (isDropped (dropNumber number s .answer)) [] bs)
     go Nothing e = rw (none-dropped number s (whole .undamaged) e) (record { held = w .held; rest = w .rest })
     go (At i) e =
         let gone = dropped-none number i (Answer.Dropped number) (cleared (lentOf i s)) s (whole .undamaged) e in
-        rw (found-dropped number s (whole .undamaged) i (used-inside s (whole .undamaged) i (found-used s (whole .undamaged) number i e)) e)
+        rw (found-dropped number s (whole .undamaged) i
+        (used-inside s (whole .undamaged) i (found-used s (whole .undamaged) number i e)) e)
         (record { held = λ j f. let z : _≡_ {A = ℕ} 0 1 = cc gone in absurd (omega arith); rest = λ f. (refl, refl) })
 
 -- A DROP: under its number nothing is stored any more
-pub drop-stands : (other : ℕ) (s : State) (events : List Event) → Intact s → Stands s events → Stands (dropping other s .left) (dropped other (dropping other s .answer) ∷ events)
+pub drop-stands : (other : ℕ) (s : State) (events : List Event) → Intact s → Stands s events
+    → Stands (dropNumber other s .left) (dropped other (dropNumber other s .answer) ∷ events)
 unfolding under
 drop-stands other s events whole w number = go number (ℕ-discrete number other)
   where
     t : Reply
-    t = dropping other s
+    t = dropNumber other s
 
     hs : ℕ → List Segment
     hs n = storedUnder Header n events
@@ -287,8 +384,12 @@ drop-stands other s events whole w number = go number (ℕ-discrete number other
     bs : ℕ → List Segment
     bs n = storedUnder Body n events
 
-    go : (n : ℕ) → Dec (n ≡ other) → StandsFor n (t .left) (afterDrop n other (t .answer) (hs n)) (afterDrop n other (t .answer) (bs n))
-    go n (no d) = rw (after-other n other (t .answer) (hs n) d, after-other n other (t .answer) (bs n) d) (same-stands n s (t .left) (hs n) (bs n) (drop-others n other s d whole) (w n))
+    go : (n : ℕ) → Dec (n ≡ other) → StandsFor n (t .left) (afterDrop n other (t .answer) (hs n))
+        (afterDrop n other (t .answer) (bs n))
+    go n (no d) = rw (after-other n other (t .answer) (hs n) d, after-other n other (t .answer) (bs n) d)
+        (same-stands n s (t .left) (hs n) (bs n) (drop-others n other s d whole) (w n))
     go n (yes d) =
-        subst (λ (m : ℕ). StandsFor m (t .left) (afterDrop m other (t .answer) (hs m)) (afterDrop m other (t .answer) (bs m))) (sym d)
-        (rw (after-own other (t .answer) (hs other), after-own other (t .answer) (bs other)) (drop-own other s (hs other) (bs other) whole (w other)))
+        subst (λ (m : ℕ). StandsFor m (t .left) (afterDrop m other (t .answer) (hs m))
+        (afterDrop m other (t .answer) (bs m))) (sym d)
+        (rw (after-own other (t .answer) (hs other), after-own other (t .answer) (bs other))
+        (drop-own other s (hs other) (bs other) whole (w other)))

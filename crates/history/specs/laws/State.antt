@@ -10,11 +10,12 @@ use borrow.Author.Tests.{eqb-true, eq-eqb}
 use Rattle.octets.specs.Octets.{largestOf}
 use Rattle.octets.specs.laws.Marks.{largest-each}
 use Rattle.answer.specs.declared.Answer.the-variants as Answer
+use Rattle.answer.specs.declared.Reason.the-variants as Reason
 use Rattle.answer.specs.declared.Heard.{Heard}
 use Rattle.answer.specs.declared.Part.{Part}
 use Rattle.answer.specs.declared.Part.the-variants.{Header}
 use Rattle.counts.specs.Counted.{within}
-use Rattle.wire.specs.declared.Segment.{Segment as Carried}
+use Rattle.wire.specs.declared.Carried.{Carried}
 use Rattle.wire.specs.declared.Reading.{Reading}
 use Rattle.wire.specs.declared.Reading.the-variants.{Read, Refused}
 use Rattle.wire.specs.Reading.{readingOf}
@@ -43,26 +44,30 @@ use Rattle.collector.specs.declared.Located.the-variants as Located
 use Rattle.names.specs.declared.Holder.{Holder}
 use Rattle.names.specs.declared.Holder.the-variants as Holder
 use Rattle.names.specs.Finding.{nameData, foundByName}
-use Rattle.collector.specs.Calls.{soundState, heardAs, segmentIn, answerAs, locatedAs, locatedIn, locate, show}
+use Rattle.collector.specs.State.{Reply, State, sound}
+use Rattle.collector.specs.Calls.{Arrival, answerAs, arrivalIn, dropNumber, find, heardAs, locate, locatedAs, locatedIn, show, takeGroup}
+use Rattle.queries.specs.Questions as queries
 use Rattle.queries.specs.declared.Asked.the-variants as Asked
 use Rattle.queries.specs.declared.Sought.the-variants as Sought
 use Rattle.queries.specs.Questions.{askedAs, askedOf, parameters, name, soughtAs, find as findByName}
 use Rattle.history.specs.laws.Slots.{undamaged-sound}
-use Rattle.history.specs.laws.Call.{State, Reply, taking, dropping, groupAnswer, dropAnswer, sound, limitOf, InUse, slotOf, lentOf, find, Came, alone, full, first, more, group-damaged, unread, came, drop-damaged, none-dropped, found-dropped}
-use Rattle.history.specs.Asking.{locating, showing, telling, naming, finding}
+use Rattle.history.specs.Held.{lentOf, limitOf, slotOf}
+use Rattle.history.specs.laws.Call.{groupAnswer, dropAnswer, InUse, Came, alone, full, first, more, group-damaged, unread, came, drop-damaged, none-dropped, found-dropped}
 use Rattle.history.specs.laws.Counts.{Low, low-within}
 use Rattle.history.specs.laws.Ready.{OfBytes, counts-low, slots-right, limit-low, limits-lent, used-inside, used-lent, found-used}
 
 -- a state that is not damaged
 pub record InOrder (s : State) : Type 0 where
   -- the lent lengths are right, and the limit and the number of slots are within their bounds
-  pub limits : Limits (limitOf s) (s .collector .count) (length (s .stores .header)) (length (s .stores .body)) (length (s .stores .marks))
+  pub limits : Limits (limitOf s) (s .collector .count) (length (s .stores .header)) (length (s .stores .body))
+      (length (s .stores .marks))
   -- no two slots hold one number
-  pub once : (number i j : ℕ) → InUse i s → InUse j s → holds number (slotOf i s) ≡ true → holds number (slotOf j s) ≡ true → i ≡ j
+  pub once : (number i j : ℕ) → InUse i s → InUse j s → holds number (slotOf i s) ≡ true
+      → holds number (slotOf j s) ≡ true → i ≡ j
   -- no mark is set in a free slot
   pub unmarked : (i : ℕ) → InUse i s → isFree (slotOf i s) ≡ true → (n : ℕ) → getD (lentOf i s .marks) n 0 ≡ 0
-  -- the marks of a held slot are 0 or 1 and one is set; its marked segments, with their recorded lengths and stored bytes,
-  -- fit some object and cut; and its record and stage are those that these segments give
+  -- the marks of a held slot are 0 or 1 and one is set; its marked segments, with their recorded lengths and stored
+  -- bytes, fit some object and cut; and its record and stage are those that these segments give
   pub held : (i : ℕ) → InUse i s → isFree (slotOf i s) ≡ false → Sound (limitOf s) (slotOf i s) (lentOf i s)
   -- no count lies outside 0 to 2147483647
   pub counts : Low (s .counts)
@@ -73,8 +78,10 @@ module _ (limit : ℕ) (slot : Slot) (lent : Lent) (z : limit ≤ limitMost) (l 
   right-free : isFree slot ≡ true → (rightSlot limit slot lent ≡ true) ↔ ((n : ℕ) → getD (lent .marks) n 0 ≡ 0)
   unfolding rightSlot
   right-free f = rw f (
-    (λ e n. none (getD (lent .marks) n 0) (largest-each (lent .marks) 0 .0 (omega (arith, eqb-true (largestOf (lent .marks)) 0 e)) n)),
-    (λ u. eq-eqb (largestOf (lent .marks)) 0 (none (largestOf (lent .marks)) (largest-each (lent .marks) 0 .1 (λ n. omega (arith, u n))))),
+    (λ e n. none (getD (lent .marks) n 0)
+        (largest-each (lent .marks) 0 .0 (omega (arith, eqb-true (largestOf (lent .marks)) 0 e)) n)),
+    (λ u. eq-eqb (largestOf (lent .marks)) 0
+        (none (largestOf (lent .marks)) (largest-each (lent .marks) 0 .1 (λ n. omega (arith, u n))))),
   )
     where
       none : (x : ℕ) → x ≤ 0 → x ≡ 0
@@ -85,90 +92,103 @@ module _ (limit : ℕ) (slot : Slot) (lent : Lent) (z : limit ≤ limitMost) (l 
   right-held f = rw f (sound-exactly limit slot lent z l)
 
 pub in-order-exactly : (s : State) → OfBytes (s .stores) → (sound s ≡ true) ↔ InOrder s
-unfolding soundState
+unfolding sound
 in-order-exactly s b = (there, back)
   where
     there : sound s ≡ true → InOrder s
     there good = record {
       limits = slots-right s good .limits;
       once = slots-right s good .once;
-      unmarked = λ i u f. right-free (limitOf s) (slotOf i s) (lentOf i s) (limit-low s good) (used-lent s good i u b) f .0 (slots-right s good .right i u);
-      held = λ i u f. right-held (limitOf s) (slotOf i s) (lentOf i s) (limit-low s good) (used-lent s good i u b) f .0 (slots-right s good .right i u);
+      unmarked = λ i u f. right-free (limitOf s) (slotOf i s) (lentOf i s) (limit-low s good)
+          (used-lent s good i u b) f .0 (slots-right s good .right i u);
+      held = λ i u f. right-held (limitOf s) (slotOf i s) (lentOf i s) (limit-low s good) (used-lent s good i u b) f .0
+          (slots-right s good .right i u);
       counts = counts-low s good;
     }
 
     back : InOrder s → sound s ≡ true
     back w =
         true-both (soundSlots (limitOf s) (s .collector .count) (s .collector .slots) (s .stores)) (within (s .counts))
-        (undamaged-sound (limitOf s) (s .collector .count) (s .collector .slots) (s .stores) (record { limits = w .limits; once = w .once; right = λ i u. right i u (isFree (slotOf i s)) refl }))
+        (undamaged-sound (limitOf s) (s .collector .count) (s .collector .slots) (s .stores)
+        (record { limits = w .limits; once = w .once; right = λ i u. right i u (isFree (slotOf i s)) refl }))
         (low-within (s .counts) (w .counts))
       where
-        right : (i : ℕ) → InUse i s → (b : Bool) → isFree (slotOf i s) ≡ b → rightSlot (limitOf s) (slotOf i s) (lentOf i s) ≡ true
-        right i u true f = right-free (limitOf s) (slotOf i s) (lentOf i s) (w .limits .most) (limits-lent s i (w .limits) u b) f .1 (w .unmarked i u f)
-        right i u false f = right-held (limitOf s) (slotOf i s) (lentOf i s) (w .limits .most) (limits-lent s i (w .limits) u b) f .1 (w .held i u f)
+        right : (i : ℕ) → InUse i s → (b : Bool) → isFree (slotOf i s) ≡ b
+            → rightSlot (limitOf s) (slotOf i s) (lentOf i s) ≡ true
+        right i u true f = right-free (limitOf s) (slotOf i s) (lentOf i s) (w .limits .most)
+            (limits-lent s i (w .limits) u b) f .1 (w .unmarked i u f)
+        right i u false f = right-held (limitOf s) (slotOf i s) (lentOf i s) (w .limits .most)
+            (limits-lent s i (w .limits) u b) f .1 (w .held i u f)
 
 -- ---- a state that passes the test is not answered with STATE
 
-named-never : (o : Outcome) (heard : Heard) → answerAs o heard ≢ Answer.State
+named-never : (o : Outcome) (heard : Heard) → answerAs o heard ≢ Answer.Denied Reason.State
 named-never Stored heard e = let z : _≡_ {A = ℕ} 0 1 = cc in absurd (omega arith)
 named-never Complete heard e = let z : _≡_ {A = ℕ} 0 1 = cc in absurd (omega arith)
 named-never Repeat heard e = let z : _≡_ {A = ℕ} 0 1 = cc in absurd (omega arith)
 named-never Conflict heard e = let z : _≡_ {A = ℕ} 0 1 = cc in absurd (omega arith)
 
-came-never : (carried : Carried) (segment : Segment) (s : State) (t : Reply) → Came carried segment s t → t .answer ≢ Answer.State
-came-never carried segment s t (alone n a e) d = let z : _≡_ {A = ℕ} 0 1 = cc in absurd (omega arith)
-came-never carried segment s t (full n a f e) d = let z : _≡_ {A = ℕ} 0 1 = cc in absurd (omega arith)
-came-never carried segment s t (first i n a f e) d = named-never (takeInto (carried .part) (limitOf s) segment (freshSlot (carried .number)) (lentOf i s) .outcome) (heardAs carried) (rw e at d)
-came-never carried segment s t (more i n e) d = named-never (takeInto (carried .part) (limitOf s) segment (slotOf i s) (lentOf i s) .outcome) (heardAs carried) (rw e at d)
+came-never : (arrived : Arrival) (s : State) (t : Reply) → Came arrived s t → t .answer ≢ Answer.Denied Reason.State
+came-never arrived s t (alone n a e) d = let z : _≡_ {A = ℕ} 0 1 = cc in absurd (omega arith)
+came-never arrived s t (full n a f e) d = let z : _≡_ {A = ℕ} 0 1 = cc in absurd (omega arith)
+came-never arrived s t (first i n a f e) d =
+    named-never (takeInto (arrived .part) (limitOf s) (arrived .segment) (freshSlot (arrived .number))
+    (lentOf i s) .outcome) (heardAs arrived) (rw e at d)
+came-never arrived s t (more i n e) d =
+    named-never (takeInto (arrived .part) (limitOf s) (arrived .segment) (slotOf i s) (lentOf i s) .outcome)
+    (heardAs arrived) (rw e at d)
 
-pub group-never : (group : List ℕ) (s : State) → sound s ≡ true → groupAnswer group s ≢ Answer.State
+pub group-never : (group : List ℕ) (s : State) → sound s ≡ true → groupAnswer group s ≢ Answer.Denied Reason.State
 group-never group s good = go (readingOf group) refl
   where
-    go : (reading : Reading) → readingOf group ≡ reading → taking group s .answer ≢ Answer.State
+    go : (reading : Reading) → readingOf group ≡ reading → takeGroup group s .answer ≢ Answer.Denied Reason.State
     go (Refused why) e d = let f = unread group s good why e in let z : _≡_ {A = ℕ} 0 1 = cc in absurd (omega arith)
-    go (Read carried) e d = came-never carried (segmentIn group carried) s (taking group s) (came group s good carried e) d
+    go (Read carried) e d = came-never (arrivalIn group carried) s (takeGroup group s) (came group s good carried e) d
 
-pub drop-never : (number : ℕ) (s : State) → sound s ≡ true → dropAnswer number s ≢ Answer.State
+pub drop-never : (number : ℕ) (s : State) → sound s ≡ true → dropAnswer number s ≢ Answer.Denied Reason.State
 drop-never number s good = go (find number s) refl
   where
-    go : (found : Found) → find number s ≡ found → dropping number s .answer ≢ Answer.State
+    go : (found : Found) → find number s ≡ found → dropNumber number s .answer ≢ Answer.Denied Reason.State
     go Nothing e d = let f = none-dropped number s good e in let z : _≡_ {A = ℕ} 0 1 = cc in absurd (omega arith)
-    go (At i) e d = let f = found-dropped number s good i (used-inside s good i (found-used s good number i e)) e in let z : _≡_ {A = ℕ} 0 1 = cc in absurd (omega arith)
+    go (At i) e d = let f = found-dropped number s good i (used-inside s good i (found-used s good number i e)) e in
+        let z : _≡_ {A = ℕ} 0 1 = cc in absurd (omega arith)
 
-staged-never : (stage : Stage) (i : ℕ) → locatedAs stage i ≢ Located.Refused Answer.State
+staged-never : (stage : Stage) (i : ℕ) → locatedAs stage i ≢ Located.Denied Reason.State
 staged-never Stage.Free i e = let z : _≡_ {A = ℕ} 0 1 = cc in absurd (omega arith)
 staged-never Stage.Gathering i e = let z : _≡_ {A = ℕ} 0 1 = cc in absurd (omega arith)
 staged-never (Stage.Finished header body) i e = let z : _≡_ {A = ℕ} 0 1 = cc in absurd (omega arith)
 
-pub located-never : (number : ℕ) (s : State) → sound s ≡ true → locating number s ≢ Located.Refused Answer.State
+pub located-never : (number : ℕ) (s : State) → sound s ≡ true → locate number s ≢ Located.Denied Reason.State
 unfolding locate
 located-never number s good d = go (find number s) (rw good at d)
   where
-    go : (found : Found) → locatedIn found (s .collector) ≢ Located.Refused Answer.State
+    go : (found : Found) → locatedIn found (s .collector) ≢ Located.Denied Reason.State
     go Nothing e = let z : _≡_ {A = ℕ} 0 1 = cc in absurd (omega arith)
     go (At i) e = staged-never (slotOf i s .stage) i e
 
-read-never : (reading : HeaderReading) → askedAs reading ≢ Asked.Refused Answer.State
+read-never : (reading : HeaderReading) → askedAs reading ≢ Asked.Denied Reason.State
 read-never (HeaderReading.Read fields) e = let z : _≡_ {A = ℕ} 0 1 = cc in absurd (omega arith)
 read-never (HeaderReading.Refused HeaderRefusal.Core) e = let z : _≡_ {A = ℕ} 0 1 = cc in absurd (omega arith)
 read-never (HeaderReading.Refused HeaderRefusal.Header) e = let z : _≡_ {A = ℕ} 0 1 = cc in absurd (omega arith)
 read-never (HeaderReading.Refused HeaderRefusal.Duplicate) e = let z : _≡_ {A = ℕ} 0 1 = cc in absurd (omega arith)
 
-asked-never : (l : Located) (header : List ℕ) → l ≢ Located.Refused Answer.State → askedOf l header ≢ Asked.Refused Answer.State
-asked-never (Located.Refused why) header n e = let same : why ≡ Answer.State = cc in n (ap Located.Refused same)
+asked-never : (l : Located) (header : List ℕ) → l ≢ Located.Denied Reason.State
+    → askedOf l header ≢ Asked.Denied Reason.State
+asked-never (Located.Denied why) header n e = let same : why ≡ Reason.State = cc in n (ap Located.Denied same)
 asked-never (Located.At i) header n e = read-never (readHeader header) e
 
-pub told-never : (number : ℕ) (s : State) → sound s ≡ true → telling number s ≢ Asked.Refused Answer.State
+pub told-never : (number : ℕ) (s : State) → sound s ≡ true → queries.parameters number s ≢ Asked.Denied Reason.State
 unfolding parameters
-told-never number s good = asked-never (locating number s) (showing number Header s) (located-never number s good)
+told-never number s good = asked-never (locate number s) (show number Header s) (located-never number s good)
 
-sought-never : (holder : Holder) → soughtAs holder ≢ Sought.Refused Answer.State
+sought-never : (holder : Holder) → soughtAs holder ≢ Sought.Denied Reason.State
 sought-never (Holder.Number number) e = let z : _≡_ {A = ℕ} 0 1 = cc in absurd (omega arith)
 sought-never Holder.Nobody e = let z : _≡_ {A = ℕ} 0 1 = cc in absurd (omega arith)
 
-pub found-never : (sought : List ℕ) (s : State) → sound s ≡ true → finding sought s ≢ Sought.Refused Answer.State
+pub found-never : (sought : List ℕ) (s : State) → sound s ≡ true → queries.find sought s ≢ Sought.Denied Reason.State
 unfolding findByName
-found-never sought s good d = sought-never (foundByName sought (s .collector .count) (s .collector .slots) (s .stores .header)) (rw good at d)
+found-never sought s good d = sought-never
+    (foundByName sought (s .collector .count) (s .collector .slots) (s .stores .header)) (rw good at d)
 
 -- ---- STATE exactly when the state is damaged
 
@@ -176,46 +196,59 @@ tested : (s : State) (b : Bool) → sound s ≡ b → OfBytes (s .stores) → ¬
 tested s false e y n = e
 tested s true e y n = absurd (n (in-order-exactly s y .0 e))
 
-pub group-state : (group : List ℕ) (s : State) → OfBytes (s .stores) → (groupAnswer group s ≡ Answer.State) ↔ (¬ (InOrder s))
+pub group-state : (group : List ℕ) (s : State) → OfBytes (s .stores)
+    → (groupAnswer group s ≡ Answer.Denied Reason.State) ↔ (¬ (InOrder s))
 group-state group s y = (
   (λ e w. group-never group s (in-order-exactly s y .1 w) e),
   (λ n. ap (λ (t : Reply). t .answer) (group-damaged group s (tested s (sound s) refl y n))),
 )
 
-pub drop-state : (number : ℕ) (s : State) → OfBytes (s .stores) → (dropAnswer number s ≡ Answer.State) ↔ (¬ (InOrder s))
+pub drop-state : (number : ℕ) (s : State) → OfBytes (s .stores) → (dropAnswer number s ≡ Answer.Denied Reason.State)
+    ↔ (¬ (InOrder s))
 drop-state number s y = (
   (λ e w. drop-never number s (in-order-exactly s y .1 w) e),
   (λ n. ap (λ (t : Reply). t .answer) (drop-damaged number s (tested s (sound s) refl y n))),
 )
 
 -- and a question
-located-damaged : (number : ℕ) (s : State) → sound s ≡ false → locating number s ≡ Located.Refused Answer.State
+located-damaged : (number : ℕ) (s : State) → sound s ≡ false → locate number s ≡ Located.Denied Reason.State
 unfolding locate
 located-damaged number s d = rw d refl
 
-shown-damaged : (number : ℕ) (part : Part) (s : State) → sound s ≡ false → showing number part s ≡ []
+shown-damaged : (number : ℕ) (part : Part) (s : State) → sound s ≡ false → show number part s ≡ []
 unfolding show
 shown-damaged number part s d = rw (located-damaged number s d) refl
 
-told-damaged : (number : ℕ) (s : State) → sound s ≡ false → telling number s ≡ Asked.Refused Answer.State
+told-damaged : (number : ℕ) (s : State) → sound s ≡ false → queries.parameters number s ≡ Asked.Denied Reason.State
 unfolding parameters
 told-damaged number s d = rw (located-damaged number s d) refl
 
-named-damaged : (number : ℕ) (s : State) → sound s ≡ false → naming number s ≡ []
+named-damaged : (number : ℕ) (s : State) → sound s ≡ false → queries.name number s ≡ []
 unfolding name nameData readHeader
 named-damaged number s d = ap nameData (shown-damaged number Header s d)
 
-found-damaged : (sought : List ℕ) (s : State) → sound s ≡ false → finding sought s ≡ Sought.Refused Answer.State
+found-damaged : (sought : List ℕ) (s : State) → sound s ≡ false → queries.find sought s ≡ Sought.Denied Reason.State
 unfolding findByName
 found-damaged sought s d = rw d refl
 
 pub ask-state : (s : State) → OfBytes (s .stores)
-    → ((number : ℕ) → (locating number s ≡ Located.Refused Answer.State) ↔ (¬ (InOrder s))) × ((number : ℕ) → (telling number s ≡ Asked.Refused Answer.State) ↔ (¬ (InOrder s)))
-    × ((sought : List ℕ) → (finding sought s ≡ Sought.Refused Answer.State) ↔ (¬ (InOrder s)))
-    × (¬ (InOrder s) → (number : ℕ) → ((part : Part) → showing number part s ≡ []) × (naming number s ≡ []))
+    → ((number : ℕ) → (locate number s ≡ Located.Denied Reason.State) ↔ (¬ (InOrder s)))
+    × ((number : ℕ) → (queries.parameters number s ≡ Asked.Denied Reason.State) ↔ (¬ (InOrder s)))
+    × ((sought : List ℕ) → (queries.find sought s ≡ Sought.Denied Reason.State) ↔ (¬ (InOrder s)))
+    × (¬ (InOrder s) → (number : ℕ) → ((part : Part) → show number part s ≡ []) × (queries.name number s ≡ []))
 ask-state s y = (
-  (λ number. ((λ e w. located-never number s (in-order-exactly s y .1 w) e), (λ n. located-damaged number s (tested s (sound s) refl y n)))),
-  (λ number. ((λ e w. told-never number s (in-order-exactly s y .1 w) e), (λ n. told-damaged number s (tested s (sound s) refl y n)))),
-  (λ sought. ((λ e w. found-never sought s (in-order-exactly s y .1 w) e), (λ n. found-damaged sought s (tested s (sound s) refl y n)))),
-  (λ n number. let d = tested s (sound s) refl y n in ((λ part. shown-damaged number part s d), named-damaged number s d)),
+  (λ number. (
+    (λ e w. located-never number s (in-order-exactly s y .1 w) e),
+    (λ n. located-damaged number s (tested s (sound s) refl y n)),
+  )),
+  (λ number. (
+    (λ e w. told-never number s (in-order-exactly s y .1 w) e),
+    (λ n. told-damaged number s (tested s (sound s) refl y n)),
+  )),
+  (λ sought. (
+    (λ e w. found-never sought s (in-order-exactly s y .1 w) e),
+    (λ n. found-damaged sought s (tested s (sound s) refl y n)),
+  )),
+  (λ n number. let d = tested s (sound s) refl y n in
+      ((λ part. shown-damaged number part s d), named-damaged number s d)),
 )

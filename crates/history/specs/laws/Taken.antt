@@ -1,5 +1,5 @@
--- A segment is offered to a slot: the slot keeps its number and is not free afterwards; the first segment of a slot that a
--- number has just taken is stored where it fits alone.
+-- A segment is offered to a slot: the slot keeps its number and is not free afterwards; the first segment of a slot
+-- that a number has just taken is stored where it fits alone.
 use mathlib.Core.Path.{_≡_, refl, sym, ap, _∙_}
 use mathlib.Core.Logic.{_≢_, _↔_}
 use mathlib.Core.Bool.{Bool, true, false}
@@ -38,7 +38,8 @@ use Rattle.slots.specs.State.{rightSlot}
 use Rattle.slots.specs.laws.Fresh.{fresh-taken}
 
 -- a slot that holds segments is not free
-pub holds-held : (limit : ℕ) (slot : Slot) (lent : Lent) (hs bs : List Segment) → Holds limit slot lent hs bs → isFree slot ≡ false
+pub holds-held : (limit : ℕ) (slot : Slot) (lent : Lent) (hs bs : List Segment) → Holds limit slot lent hs bs
+    → isFree slot ≡ false
 unfolding isFree
 holds-held limit slot lent hs bs h = go (slot .stage) (h .stage)
   where
@@ -48,12 +49,16 @@ holds-held limit slot lent hs bs h = go (slot .stage) (h .stage)
     go (Stage.Finished header body) w = refl
 
 -- a sound slot is right
-pub sound-right : (limit : ℕ) (slot : Slot) (lent : Lent) → limit ≤ limitMost → IsLent limit lent → soundSlot limit slot lent ≡ true → rightSlot limit slot lent ≡ true
+pub sound-right : (limit : ℕ) (slot : Slot) (lent : Lent) → limit ≤ limitMost → IsLent limit lent
+    → soundSlot limit slot lent ≡ true → rightSlot limit slot lent ≡ true
 unfolding rightSlot
-sound-right limit slot lent z l e = rw (holds-held limit slot lent (markedSegments Header slot lent) (markedSegments Body slot lent) (sound-holds limit slot lent z l e)) e
+sound-right limit slot lent z l e =
+    rw (holds-held limit slot lent (markedSegments Header slot lent) (markedSegments Body slot lent)
+    (sound-holds limit slot lent z l e)) e
 
 -- whatever is taken, the slot keeps its number
-pub taken-number : (part : Part) (limit : ℕ) (segment : Segment) (slot : Slot) (lent : Lent) → takeInto part limit segment slot lent .slot .number ≡ slot .number
+pub taken-number : (part : Part) (limit : ℕ) (segment : Segment) (slot : Slot) (lent : Lent)
+    → takeInto part limit segment slot lent .slot .number ≡ slot .number
 unfolding takeInto slotWith
 taken-number part limit segment slot lent = go (decided part limit segment (partsOf slot lent))
   where
@@ -64,7 +69,8 @@ taken-number part limit segment slot lent = go (decided part limit segment (part
 
 -- ---- a slot that a number has just taken
 
-module _ (part : Part) (limit number : ℕ) (segment : Segment) (lent : Lent) (z : limit ≤ limitMost) (y : Bytes (segment .bytes)) (l : IsLent limit lent) (none : sumOf (lent .marks) ≡ 0) where
+module _ (part : Part) (limit number : ℕ) (segment : Segment) (lent : Lent) (z : limit ≤ limitMost)
+    (y : Bytes (segment .bytes)) (l : IsLent limit lent) (none : sumOf (lent .marks) ≡ 0) where
   pub fresh-vacant : Vacant limit (freshSlot number) lent
   unfolding freshSlot
   fresh-vacant = record { lends = l; header = refl; body = refl; marks = none }
@@ -73,8 +79,11 @@ module _ (part : Part) (limit number : ℕ) (segment : Segment) (lent : Lent) (z
   fresh-gathers = vacant-gathers limit (freshSlot number) lent z fresh-vacant
 
   -- its first segment, where it fits alone, is stored
-  pub fresh-added : fitsAlone part limit segment ≡ true → Added part limit segment (freshSlot number) [] [] (takeInto part limit segment (freshSlot number) lent)
-  fresh-added a = go part (x .outcome) (outcome-tells part limit segment (freshSlot number) lent [] [] z y fresh-gathers (x .outcome) refl) (taken (x .outcome) refl)
+  pub fresh-added : fitsAlone part limit segment ≡ true
+      → Added part limit segment (freshSlot number) [] [] (takeInto part limit segment (freshSlot number) lent)
+  fresh-added a = go part (x .outcome)
+      (outcome-tells part limit segment (freshSlot number) lent [] [] z y fresh-gathers (x .outcome) refl)
+      (taken (x .outcome) refl)
     where
       x : Taken
       x = takeInto part limit segment (freshSlot number) lent
@@ -86,10 +95,13 @@ module _ (part : Part) (limit number : ℕ) (segment : Segment) (lent : Lent) (z
 
       taken : (o : Outcome) → x .outcome ≡ o → o ≢ Conflict
       taken o e c =
-          let f : x ≡ ifNew true part limit segment (freshSlot number) lent = rw a at (fresh-taken part limit number segment lent none) in
-          never (stageOf (partsWith part limit segment (partsOf (freshSlot number) lent))) (sym (ap (λ (t : Taken). t .outcome) f) ∙ e ∙ c)
+          let f : x ≡ ifNew true part limit segment (freshSlot number) lent =
+          rw a at (fresh-taken part limit number segment lent none) in
+          never (stageOf (partsWith part limit segment (partsOf (freshSlot number) lent)))
+          (sym (ap (λ (t : Taken). t .outcome) f) ∙ e ∙ c)
 
-      go : (p : Part) (o : Outcome) → Tells o p limit segment (freshSlot number) lent [] [] x → o ≢ Conflict → Added p limit segment (freshSlot number) [] [] x
+      go : (p : Part) (o : Outcome) → Tells o p limit segment (freshSlot number) lent [] [] x → o ≢ Conflict
+          → Added p limit segment (freshSlot number) [] [] x
       go p Stored w d = w .0
       go p Complete w d = w .0
       go Header Repeat w d = absurd (w .0)
@@ -112,7 +124,8 @@ blank-lent limit = record {
   bodyBytes = bytes-zeros limit;
 }
 
-pub alone-fits : (part : Part) (limit : ℕ) (segment : Segment) → limit ≤ limitMost → Bytes (segment .bytes) → (fitsAlone part limit segment ≡ true) ↔ Fits limit (headersWith part segment []) (bodiesWith part segment [])
+pub alone-fits : (part : Part) (limit : ℕ) (segment : Segment) → limit ≤ limitMost → Bytes (segment .bytes)
+    → (fitsAlone part limit segment ≡ true) ↔ Fits limit (headersWith part segment []) (bodiesWith part segment [])
 alone-fits part limit segment z y = (
   (λ a. fresh-added part limit 0 segment (blank limit) z y (blank-lent limit) none a .holds .gathers .object),
   (λ f. go f (fitsAlone part limit segment) refl),
@@ -121,8 +134,11 @@ alone-fits part limit segment z y = (
     none : sumOf (blank limit .marks) ≡ 0
     none = zeros-sum slotMarks
 
-    go : Fits limit (headersWith part segment []) (bodiesWith part segment []) → (b : Bool) → fitsAlone part limit segment ≡ b → fitsAlone part limit segment ≡ true
+    go : Fits limit (headersWith part segment []) (bodiesWith part segment []) → (b : Bool)
+        → fitsAlone part limit segment ≡ b → fitsAlone part limit segment ≡ true
     go f true e = e
     go f false e =
-        let refused : takeInto part limit segment (freshSlot 0) (blank limit) .outcome ≡ Conflict = ap (λ (t : Taken). t .outcome) (rw e at (fresh-taken part limit 0 segment (blank limit) none)) in
-        absurd (conflict-exactly part limit segment (freshSlot 0) (blank limit) [] [] z y (fresh-gathers part limit 0 segment (blank limit) z y (blank-lent limit) none) .0 refused f)
+        let refused : takeInto part limit segment (freshSlot 0) (blank limit) .outcome ≡ Conflict =
+        ap (λ (t : Taken). t .outcome) (rw e at (fresh-taken part limit 0 segment (blank limit) none)) in
+        absurd (conflict-exactly part limit segment (freshSlot 0) (blank limit) [] [] z y
+        (fresh-gathers part limit 0 segment (blank limit) z y (blank-lent limit) none) .0 refused f)

@@ -2,29 +2,33 @@
 use mathlib.Core.Path.{_≡_, refl, ap, _∙_}
 use mathlib.Core.Bool.{Bool, true, false, cond}
 use mathlib.Core.List.{List, [], _∷_}
-use Prim.Native.Nat.{ℕ, suc, _+_, min}
+use Prim.Native.Nat.{ℕ, suc, _+_, _<_, min}
 use native.Mathlib.Omega.{arith}
-use lib.Dec.{ltb}
-use borrow.Author.Tests.{ltb-true, ltb-false}
+use lib.Dec.{leb, ltb}
+use borrow.Author.Tests.{ltb-true, ltb-false, lt-leb}
 use Rattle.answer.specs.declared.Answer.{Answer}
 use Rattle.answer.specs.declared.Answer.the-variants as Answer
 use Rattle.answer.specs.declared.Refusal.{Refusal}
 use Rattle.answer.specs.declared.Refusal.the-variants as Refusal
+use Rattle.answer.specs.Table.{numberOf}
+use Rattle.answer.specs.laws.Table.{reason-from}
 use Rattle.counts.specs.declared.Counts.{Counts}
 use Rattle.counts.specs.Counted.{ceiling, risen, counted}
-use Rattle.wire.specs.declared.Segment.{Segment as Carried}
+use Rattle.wire.specs.declared.Carried.{Carried}
 use Rattle.wire.specs.declared.Reading.{Reading}
 use Rattle.wire.specs.declared.Reading.the-variants.{Read, Refused}
 use Rattle.wire.specs.Reading.{readingOf}
 use Rattle.cut.specs.Lists.{pick}
 use Rattle.cut.specs.Requirement.{Segment}
+use Rattle.cut.specs.Decision.{both}
 use Rattle.slots.specs.declared.Found.{Found}
 use Rattle.slots.specs.declared.Found.the-variants.{Nothing, At}
-use Rattle.collector.specs.Calls.{segmentIn}
-use Rattle.history.specs.laws.Call.{State, Reply, taking, dropping, sound, find, Came, alone, full, first, more, group-damaged, unread, came, drop-damaged, none-dropped, found-dropped}
+use Rattle.collector.specs.State.{Start, Reply, State, sound}
+use Rattle.collector.specs.Calls.{Arrival, arrivalIn, dropNumber, find, takeGroup}
+use Rattle.history.specs.laws.Call.{Came, alone, full, first, more, group-damaged, unread, came, drop-damaged, none-dropped, found-dropped}
 use Rattle.history.specs.laws.Ready.{used-inside, found-used}
 use Rattle.history.specs.Promise.{between, answersFrom, tallied}
-use Rattle.history.specs.History.{Call, hand, drop, ask, Event, dropped, leaves, event, Start, Allowed, defined, reached, told}
+use Rattle.history.specs.History.{Call, hand, drop, ask, Event, dropped, leaves, event, Allowed, defined, reached, told}
 use Rattle.history.specs.laws.Reached.{start-is}
 
 risen-min : (n : ℕ) → risen (min n ceiling) ≡ min (suc n) ceiling
@@ -37,13 +41,22 @@ risen-min n = go (ltb (min n ceiling) ceiling) refl
 
 -- five numbers, each up to the ceiling
 abbrev capped : ℕ → ℕ → ℕ → ℕ → ℕ → Counts
-capped t r f c d = record { taken = min t ceiling; repeated = min r ceiling; refused = min f ceiling; completed = min c ceiling; dropped = min d ceiling }
+capped t r f c d = record {
+  taken = min t ceiling;
+  repeated = min r ceiling;
+  refused = min f ceiling;
+  completed =
+      min c ceiling;
+  dropped = min d ceiling;
+}
 
 -- one answer more
 abbrev onMore : Answer → ℕ → ℕ → ℕ → ℕ
 onMore a low high n = pick (between low high a) (suc n) n
 
-unread-more : (why : Refusal) (t r f c d : ℕ) → capped t r (suc f) c d ≡ capped (onMore (Answer.Refused why) 0 1 t) (onMore (Answer.Refused why) 2 2 r) (onMore (Answer.Refused why) 10 18 f) (onMore (Answer.Refused why) 1 1 c) (onMore (Answer.Refused why) 3 3 d)
+unread-more : (why : Refusal) (t r f c d : ℕ)
+    → capped t r (suc f) c d ≡ capped (onMore (Answer.Refused why) 0 1 t) (onMore (Answer.Refused why) 2 2 r)
+    (onMore (Answer.Refused why) 10 18 f) (onMore (Answer.Refused why) 1 1 c) (onMore (Answer.Refused why) 3 3 d)
 unread-more Refusal.Length t r f c d = refl
 unread-more Refusal.NoCheck t r f c d = refl
 unread-more Refusal.BadCheck t r f c d = refl
@@ -52,7 +65,17 @@ unread-more Refusal.NoSegment t r f c d = refl
 unread-more Refusal.Address t r f c d = refl
 unread-more Refusal.Size t r f c d = refl
 
-counted-more : (a : Answer) (t r f c d : ℕ) → counted a (capped t r f c d) ≡ capped (onMore a 0 1 t) (onMore a 2 2 r) (onMore a 10 18 f) (onMore a 1 1 c) (onMore a 3 3 d)
+-- an answer whose number lies over the two
+over-more : (a : Answer) (low high n : ℕ) → high < numberOf a → onMore a low high n ≡ n
+over-more a low high n h = rw (lt-leb (numberOf a) high h) (go (leb low (numberOf a)))
+  where
+    go : (b : Bool) → pick (both b false) (suc n) n ≡ n
+    go true = refl
+    go false = refl
+
+counted-more : (a : Answer) (t r f c d : ℕ)
+    → counted a (capped t r f c d) ≡ capped (onMore a 0 1 t) (onMore a 2 2 r) (onMore a 10 18 f) (onMore a 1 1 c)
+    (onMore a 3 3 d)
 counted-more (Answer.Stored heard) t r f c d = rw (risen-min t) refl
 counted-more (Answer.Complete heard) t r f c d = rw (risen-min t, risen-min c) refl
 counted-more (Answer.Repeat heard) t r f c d = rw (risen-min r) refl
@@ -60,50 +83,68 @@ counted-more (Answer.Dropped number) t r f c d = rw (risen-min d) refl
 counted-more (Answer.Refused why) t r f c d = rw (risen-min f) (unread-more why t r f c d)
 counted-more (Answer.Conflict heard) t r f c d = rw (risen-min f) refl
 counted-more (Answer.Full heard) t r f c d = rw (risen-min f) refl
-counted-more Answer.NotHeld t r f c d = refl
-counted-more Answer.Unfinished t r f c d = refl
-counted-more Answer.Header t r f c d = refl
-counted-more Answer.Duplicate t r f c d = refl
-counted-more Answer.Core t r f c d = refl
-counted-more Answer.NotFound t r f c d = refl
-counted-more Answer.Limits t r f c d = refl
-counted-more Answer.State t r f c d = refl
+counted-more (Answer.Denied reason) t r f c d =
+    let a = Answer.Denied reason in
+    let low = reason-from reason in
+    rw (
+      over-more a 0 1 t (omega arith),
+      over-more a 2 2 r (omega arith),
+      over-more a 10 18 f (omega arith),
+      over-more a 1 1 c (omega arith),
+      over-more a 3 3 d (omega arith),
+    ) refl
 
 -- ---- each call counts its answer, in any state
 
-came-counted : (carried : Carried) (segment : Segment) (s : State) (t : Reply) → Came carried segment s t → t .left .counts ≡ counted (t .answer) (s .counts)
-came-counted carried segment s t (alone n a e) = rw e refl
-came-counted carried segment s t (full n a f e) = rw e refl
-came-counted carried segment s t (first i n a f e) = rw e refl
-came-counted carried segment s t (more i n e) = rw e refl
+came-counted : (arrived : Arrival) (s : State) (t : Reply) → Came arrived s t
+    → t .left .counts ≡ counted (t .answer) (s .counts)
+came-counted arrived s t (alone n a e) = rw e refl
+came-counted arrived s t (full n a f e) = rw e refl
+came-counted arrived s t (first i n a f e) = rw e refl
+came-counted arrived s t (more i n e) = rw e refl
 
-group-counted : (bytes : List ℕ) (s : State) → taking bytes s .left .counts ≡ counted (taking bytes s .answer) (s .counts)
+group-counted : (bytes : List ℕ) (s : State)
+    → takeGroup bytes s .left .counts ≡ counted (takeGroup bytes s .answer) (s .counts)
 group-counted bytes s = go (sound s) refl (readingOf bytes) refl
   where
-    go : (b : Bool) → sound s ≡ b → (reading : Reading) → readingOf bytes ≡ reading → taking bytes s .left .counts ≡ counted (taking bytes s .answer) (s .counts)
+    go : (b : Bool) → sound s ≡ b → (reading : Reading) → readingOf bytes ≡ reading
+        → takeGroup bytes s .left .counts ≡ counted (takeGroup bytes s .answer) (s .counts)
     go false d reading e = rw (group-damaged bytes s d) refl
     go true d (Refused why) e = rw (unread bytes s d why e) refl
-    go true d (Read carried) e = came-counted carried (segmentIn bytes carried) s (taking bytes s) (came bytes s d carried e)
+    go true d (Read carried) e = came-counted (arrivalIn bytes carried) s (takeGroup bytes s) (came bytes s d carried e)
 
-drop-counted : (number : ℕ) (s : State) → dropping number s .left .counts ≡ counted (dropping number s .answer) (s .counts)
+drop-counted : (number : ℕ) (s : State)
+    → dropNumber number s .left .counts ≡ counted (dropNumber number s .answer) (s .counts)
 drop-counted number s = go (sound s) refl (find number s) refl
   where
-    go : (b : Bool) → sound s ≡ b → (found : Found) → find number s ≡ found → dropping number s .left .counts ≡ counted (dropping number s .answer) (s .counts)
+    go : (b : Bool) → sound s ≡ b → (found : Found) → find number s ≡ found
+        → dropNumber number s .left .counts ≡ counted (dropNumber number s .answer) (s .counts)
     go false d found e = rw (drop-damaged number s d) refl
     go true d Nothing e = rw (none-dropped number s d e) refl
     go true d (At i) e = rw (found-dropped number s d i (used-inside s d i (found-used s d number i e)) e) refl
 
-tallied-more : (answer : Answer) (events : List Event) → counted answer (tallied events) ≡ capped (onMore answer 0 1 (answersFrom 0 1 events)) (onMore answer 2 2 (answersFrom 2 2 events)) (onMore answer 10 18 (answersFrom 10 18 events)) (onMore answer 1 1 (answersFrom 1 1 events)) (onMore answer 3 3 (answersFrom 3 3 events))
-tallied-more answer events = counted-more answer (answersFrom 0 1 events) (answersFrom 2 2 events) (answersFrom 10 18 events) (answersFrom 1 1 events) (answersFrom 3 3 events)
+tallied-more : (answer : Answer) (events : List Event)
+    → counted answer (tallied events)
+    ≡ capped (onMore answer 0 1 (answersFrom 0 1 events)) (onMore answer 2 2 (answersFrom 2 2 events))
+    (onMore answer 10 18 (answersFrom 10 18 events)) (onMore answer 1 1 (answersFrom 1 1 events))
+    (onMore answer 3 3 (answersFrom 3 3 events))
+tallied-more answer events = counted-more answer (answersFrom 0 1 events) (answersFrom 2 2 events)
+    (answersFrom 10 18 events) (answersFrom 1 1 events) (answersFrom 3 3 events)
 
-leaves-tallied : (call : Call) (s : State) (events : List Event) → s .counts ≡ tallied events → leaves defined call s .counts ≡ tallied (event defined call s ∷ events)
+leaves-tallied : (call : Call) (s : State) (events : List Event) → s .counts ≡ tallied events
+    → leaves defined call s .counts ≡ tallied (event defined call s ∷ events)
 unfolding answersFrom
-leaves-tallied (hand bytes) s events e = group-counted bytes s ∙ ap (counted (taking bytes s .answer)) e ∙ tallied-more (taking bytes s .answer) events
-leaves-tallied (drop number) s events e = drop-counted number s ∙ ap (counted (dropping number s .answer)) e ∙ tallied-more (dropping number s .answer) events
+leaves-tallied (hand bytes) s events e =
+    group-counted bytes s ∙ ap (counted (takeGroup bytes s .answer)) e ∙ tallied-more (takeGroup bytes s .answer) events
+leaves-tallied (drop number) s events e =
+    drop-counted number s ∙ ap (counted (dropNumber number s .answer)) e ∙ tallied-more
+    (dropNumber number s .answer) events
 leaves-tallied (ask question) s events e = e
 
 -- THE COUNTS over any history
-pub reached-counts : (start : Start) → Allowed start → (calls : List Call) → reached defined start calls .counts ≡ tallied (told defined start calls)
+pub reached-counts : (start : Start) → Allowed start → (calls : List Call)
+    → reached defined start calls .counts ≡ tallied (told defined start calls)
 unfolding answersFrom
 reached-counts start a [] = rw (start-is start a) refl
-reached-counts start a (call ∷ calls) = leaves-tallied call (reached defined start calls) (told defined start calls) (reached-counts start a calls)
+reached-counts start a (call ∷ calls) =
+    leaves-tallied call (reached defined start calls) (told defined start calls) (reached-counts start a calls)

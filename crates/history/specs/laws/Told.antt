@@ -5,7 +5,7 @@ use mathlib.Core.Bool.{true}
 use mathlib.Core.List.{List, []}
 use Prim.Native.Nat.{ℕ, _≤_}
 use native.Mathlib.Omega.{arith}
-use Rattle.answer.specs.declared.Answer.the-variants as Answer
+use Rattle.answer.specs.declared.Reason.the-variants as Reason
 use Rattle.answer.specs.declared.Part.{Part}
 use Rattle.answer.specs.declared.Part.the-variants.{Header, Body}
 use Rattle.cut.specs.Requirement.{Segment, Fits, Finished}
@@ -24,35 +24,35 @@ use Rattle.names.specs.Requirement.{Named}
 use Rattle.names.specs.Finding.{nameData}
 use Rattle.collector.specs.declared.Located.{Located}
 use Rattle.collector.specs.declared.Located.the-variants as Located
-use Rattle.collector.specs.Calls.{locatedAs, locatedIn, locate}
+use Rattle.collector.specs.State.{State, sound}
+use Rattle.collector.specs.Calls.{find, locate, locatedAs, locatedIn, show}
+use Rattle.queries.specs.Questions as queries
 use Rattle.queries.specs.declared.Asked.{Asked}
 use Rattle.queries.specs.declared.Asked.the-variants as Asked
 use Rattle.queries.specs.declared.Sought.the-variants as Sought
-use Rattle.queries.specs.Questions.{refusedAs, askedAs, askedOf, parameters, name}
+use Rattle.queries.specs.Questions.{reasonOf, askedAs, askedOf, parameters, name}
 use Rattle.queries.specs.laws.Theorems.{find-lowest, find-nobody}
 use Rattle.history.specs.laws.Slots.{held-is}
-use Rattle.history.specs.laws.Call.{State, sound, limitOf, slotOf, find}
-use Rattle.history.specs.Asking.{locating, showing, telling, naming, finding}
+use Rattle.history.specs.Held.{limitOf, slotOf, stageAt, stageFor}
 use Rattle.history.specs.laws.Ready.{found-holds}
-use Rattle.history.specs.Held.{stageAt, stageFor}
 use Rattle.history.specs.laws.Stands.{StandsFor}
 use Rattle.history.specs.laws.Stage.{all-finished, finished-all, finished-shown, unfinished-shown}
 
 -- ---- an answer is of one kind
 
-unheld-unread : (reading : Reading) → askedAs reading ≢ Asked.Refused Answer.NotHeld
+unheld-unread : (reading : Reading) → askedAs reading ≢ Asked.Denied Reason.NotHeld
 unheld-unread (Reading.Read fields) e = let z : _≡_ {A = ℕ} 0 1 = cc in absurd (omega arith)
 unheld-unread (Reading.Refused Refusal.Core) e = let z : _≡_ {A = ℕ} 0 1 = cc in absurd (omega arith)
 unheld-unread (Reading.Refused Refusal.Header) e = let z : _≡_ {A = ℕ} 0 1 = cc in absurd (omega arith)
 unheld-unread (Reading.Refused Refusal.Duplicate) e = let z : _≡_ {A = ℕ} 0 1 = cc in absurd (omega arith)
 
-missing-unread : (reading : Reading) → askedAs reading ≢ Asked.Refused Answer.Unfinished
+missing-unread : (reading : Reading) → askedAs reading ≢ Asked.Denied Reason.Unfinished
 missing-unread (Reading.Read fields) e = let z : _≡_ {A = ℕ} 0 1 = cc in absurd (omega arith)
 missing-unread (Reading.Refused Refusal.Core) e = let z : _≡_ {A = ℕ} 0 1 = cc in absurd (omega arith)
 missing-unread (Reading.Refused Refusal.Header) e = let z : _≡_ {A = ℕ} 0 1 = cc in absurd (omega arith)
 missing-unread (Reading.Refused Refusal.Duplicate) e = let z : _≡_ {A = ℕ} 0 1 = cc in absurd (omega arith)
 
-refused-once : (a b : Refusal) → refusedAs a ≡ refusedAs b → a ≡ b
+refused-once : (a b : Refusal) → reasonOf a ≡ reasonOf b → a ≡ b
 refused-once Refusal.Core Refusal.Core e = refl
 refused-once Refusal.Core Refusal.Header e = let z : _≡_ {A = ℕ} 0 1 = cc in absurd (omega arith)
 refused-once Refusal.Core Refusal.Duplicate e = let z : _≡_ {A = ℕ} 0 1 = cc in absurd (omega arith)
@@ -67,26 +67,31 @@ asked-once : (a b : Reading) → askedAs a ≡ askedAs b → a ≡ b
 asked-once (Reading.Read f) (Reading.Read g) e = let same : f ≡ g = cc in ap Reading.Read same
 asked-once (Reading.Read f) (Reading.Refused why) e = let z : _≡_ {A = ℕ} 0 1 = cc in absurd (omega arith)
 asked-once (Reading.Refused why) (Reading.Read f) e = let z : _≡_ {A = ℕ} 0 1 = cc in absurd (omega arith)
-asked-once (Reading.Refused a) (Reading.Refused b) e = let same : refusedAs a ≡ refusedAs b = cc in ap Reading.Refused (refused-once a b same)
+asked-once (Reading.Refused a) (Reading.Refused b) e = let same : reasonOf a ≡ reasonOf b = cc in
+    ap Reading.Refused (refused-once a b same)
 
 -- ---- one number
 
 module _ (number : ℕ) (s : State) (hs bs : List Segment) (good : sound s ≡ true) (w : StandsFor number s hs bs) where
   -- a number with no slot, an object that is not finished, a finished one
   pub data Asks : Type 0 where
-    unheld : find number s ≡ Nothing → locating number s ≡ Located.Refused Answer.NotHeld → telling number s ≡ Asked.Refused Answer.NotHeld → Asks
-    missing : (i : ℕ) → find number s ≡ At i → ((f : Fits (limitOf s) hs bs) → ¬ (Finished f)) → locating number s ≡ Located.Refused Answer.Unfinished → telling number s ≡ Asked.Refused Answer.Unfinished → Asks
-    whole : (i : ℕ) → find number s ≡ At i → (f : Fits (limitOf s) hs bs) → Finished f → locating number s ≡ Located.At i → telling number s ≡ askedAs (readHeader (showing number Header s)) → Asks
+    unheld : find number s ≡ Nothing → locate number s ≡ Located.Denied Reason.NotHeld
+        → queries.parameters number s ≡ Asked.Denied Reason.NotHeld → Asks
+    missing : (i : ℕ) → find number s ≡ At i → ((f : Fits (limitOf s) hs bs) → ¬ (Finished f))
+        → locate number s ≡ Located.Denied Reason.Unfinished
+        → queries.parameters number s ≡ Asked.Denied Reason.Unfinished → Asks
+    whole : (i : ℕ) → find number s ≡ At i → (f : Fits (limitOf s) hs bs) → Finished f → locate number s ≡ Located.At i
+        → queries.parameters number s ≡ askedAs (readHeader (show number Header s)) → Asks
 
   held-stage : (i : ℕ) → find number s ≡ At i → slotOf i s .stage ≢ Stage.Free
   unfolding isFree
   held-stage i e f = false-true (held-is number (slotOf i s) (found-holds s good number i e) .0) (rw f refl)
 
-  located : (found : Found) → find number s ≡ found → locating number s ≡ locatedIn found (s .collector)
+  located : (found : Found) → find number s ≡ found → locate number s ≡ locatedIn found (s .collector)
   unfolding locate
   located found e = rw (good, e) refl
 
-  told-as : (l : Located) → locating number s ≡ l → telling number s ≡ askedOf l (showing number Header s)
+  told-as : (l : Located) → locate number s ≡ l → queries.parameters number s ≡ askedOf l (show number Header s)
   unfolding parameters
   told-as l e = rw e refl
 
@@ -97,16 +102,19 @@ module _ (number : ℕ) (s : State) (hs bs : List Segment) (good : sound s ≡ t
       held : (i : ℕ) → find number s ≡ At i → (stage : Stage) → slotOf i s .stage ≡ stage → Asks
       held i e Stage.Free f = absurd (held-stage i e f)
       held i e Stage.Gathering f =
-          let at : locating number s ≡ Located.Refused Answer.Unfinished = located (At i) e ∙ ap (λ (x : Stage). locatedAs x i) f in
+          let at : locate number s ≡ Located.Denied Reason.Unfinished =
+          located (At i) e ∙ ap (λ (x : Stage). locatedAs x i) f in
           let stage : stageFor number s ≡ Stage.Gathering = ap (λ (x : Found). stageAt x s) e ∙ f in
-          missing i e (λ g d. let other = all-finished number s hs bs w g d in let z : _≡_ {A = ℕ} 0 1 = cc in absurd (omega arith)) at (told-as (Located.Refused Answer.Unfinished) at)
+          missing i e (λ g d. let other = all-finished number s hs bs w g d in let z : _≡_ {A = ℕ} 0 1 = cc in
+          absurd (omega arith)) at (told-as (Located.Denied Reason.Unfinished) at)
       held i e (Stage.Finished header body) f =
-          let at : locating number s ≡ Located.At i = located (At i) e ∙ ap (λ (x : Stage). locatedAs x i) f in
+          let at : locate number s ≡ Located.At i = located (At i) e ∙ ap (λ (x : Stage). locatedAs x i) f in
           let all = finished-all number s hs bs w header body (ap (λ (x : Found). stageAt x s) e ∙ f) in
           whole i e (all .0) (all .1) at (told-as (Located.At i) at)
 
       go : (found : Found) → find number s ≡ found → Asks
-      go Nothing e = let at : locating number s ≡ Located.Refused Answer.NotHeld = located Nothing e in unheld e at (told-as (Located.Refused Answer.NotHeld) at)
+      go Nothing e = let at : locate number s ≡ Located.Denied Reason.NotHeld = located Nothing e in
+          unheld e at (told-as (Located.Denied Reason.NotHeld) at)
       go (At i) e = held i e (slotOf i s .stage) refl
 
   no-slot : (i : ℕ) → find number s ≡ At i → find number s ≢ Nothing
@@ -114,82 +122,159 @@ module _ (number : ℕ) (s : State) (hs bs : List Segment) (good : sound s ≡ t
 
   -- no object is finished under a number with no slot
   unheld-missing : find number s ≡ Nothing → (f : Fits (limitOf s) hs bs) → ¬ (Finished f)
-  unheld-missing e f d = let stage = ap (λ (x : Found). stageAt x s) e in let other = all-finished number s hs bs w f d in let z : _≡_ {A = ℕ} 0 1 = cc in absurd (omega arith)
+  unheld-missing e f d = let stage = ap (λ (x : Found). stageAt x s) e in let other =
+      all-finished number s hs bs w f d in let z : _≡_ {A = ℕ} 0 1 = cc in absurd (omega arith)
 
-  shown-header : (f : Fits (limitOf s) hs bs) → Finished f → showing number Header s ≡ f .header
+  shown-header : (f : Fits (limitOf s) hs bs) → Finished f → show number Header s ≡ f .header
   shown-header f d = finished-shown number s hs bs w good f d .0
 
-  pub not-held : ((locating number s ≡ Located.Refused Answer.NotHeld) ↔ (find number s ≡ Nothing)) × ((telling number s ≡ Asked.Refused Answer.NotHeld) ↔ (find number s ≡ Nothing))
+  pub not-held : ((locate number s ≡ Located.Denied Reason.NotHeld) ↔ (find number s ≡ Nothing))
+      × ((queries.parameters number s ≡ Asked.Denied Reason.NotHeld) ↔ (find number s ≡ Nothing))
   not-held = go asks
     where
-      go : Asks → ((locating number s ≡ Located.Refused Answer.NotHeld) ↔ (find number s ≡ Nothing)) × ((telling number s ≡ Asked.Refused Answer.NotHeld) ↔ (find number s ≡ Nothing))
+      go : Asks → ((locate number s ≡ Located.Denied Reason.NotHeld) ↔ (find number s ≡ Nothing))
+          × ((queries.parameters number s ≡ Asked.Denied Reason.NotHeld) ↔ (find number s ≡ Nothing))
       go (unheld e l t) = ((λ x. e, λ x. l), (λ x. e, λ x. t))
-      go (missing i e m l t) = ((λ x. let z : _≡_ {A = ℕ} 0 1 = cc in absurd (omega arith), λ x. absurd (no-slot i e x)), (λ x. let z : _≡_ {A = ℕ} 0 1 = cc in absurd (omega arith), λ x. absurd (no-slot i e x)))
-      go (whole i e f d l t) = ((λ x. let z : _≡_ {A = ℕ} 0 1 = cc in absurd (omega arith), λ x. absurd (no-slot i e x)), (λ x. absurd (unheld-unread (readHeader (showing number Header s)) (sym t ∙ x)), λ x. absurd (no-slot i e x)))
+      go (missing i e m l t) = (
+        (
+          λ x. let z : _≡_ {A = ℕ} 0 1 = cc in absurd (omega arith),
+          λ x. absurd (no-slot i e x),
+        ),
+        (
+          λ x. let z : _≡_ {A = ℕ} 0 1 = cc in absurd (omega arith),
+          λ x. absurd (no-slot i e x),
+        ),
+      )
+      go (whole i e f d l t) = (
+        (
+          λ x. let z : _≡_ {A = ℕ} 0 1 = cc in absurd (omega arith),
+          λ x. absurd (no-slot i e x),
+        ),
+        (
+          λ x. absurd (unheld-unread (readHeader (show number Header s)) (sym t ∙ x)),
+          λ x. absurd (no-slot i e x),
+        ),
+      )
 
-  pub unfinished : ((locating number s ≡ Located.Refused Answer.Unfinished) ↔ ((find number s ≢ Nothing) × ((f : Fits (limitOf s) hs bs) → ¬ (Finished f)))) × ((telling number s ≡ Asked.Refused Answer.Unfinished) ↔ ((find number s ≢ Nothing) × ((f : Fits (limitOf s) hs bs) → ¬ (Finished f))))
+  pub unfinished : ((locate number s ≡ Located.Denied Reason.Unfinished)
+      ↔ ((find number s ≢ Nothing) × ((f : Fits (limitOf s) hs bs) → ¬ (Finished f))))
+      × ((queries.parameters number s ≡ Asked.Denied Reason.Unfinished)
+      ↔ ((find number s ≢ Nothing) × ((f : Fits (limitOf s) hs bs) → ¬ (Finished f))))
   unfinished = go asks
     where
-      go : Asks → ((locating number s ≡ Located.Refused Answer.Unfinished) ↔ ((find number s ≢ Nothing) × ((f : Fits (limitOf s) hs bs) → ¬ (Finished f)))) × ((telling number s ≡ Asked.Refused Answer.Unfinished) ↔ ((find number s ≢ Nothing) × ((f : Fits (limitOf s) hs bs) → ¬ (Finished f))))
-      go (unheld e l t) = ((λ x. let z : _≡_ {A = ℕ} 0 1 = cc in absurd (omega arith), λ x. absurd (x .0 e)), (λ x. let z : _≡_ {A = ℕ} 0 1 = cc in absurd (omega arith), λ x. absurd (x .0 e)))
+      go : Asks → ((locate number s ≡ Located.Denied Reason.Unfinished)
+          ↔ ((find number s ≢ Nothing) × ((f : Fits (limitOf s) hs bs) → ¬ (Finished f))))
+          × ((queries.parameters number s ≡ Asked.Denied Reason.Unfinished)
+          ↔ ((find number s ≢ Nothing) × ((f : Fits (limitOf s) hs bs) → ¬ (Finished f))))
+      go (unheld e l t) = (
+        (λ x. let z : _≡_ {A = ℕ} 0 1 = cc in absurd (omega arith), λ x. absurd (x .0 e)),
+        (λ x. let z : _≡_ {A = ℕ} 0 1 = cc in absurd (omega arith), λ x. absurd (x .0 e)),
+      )
       go (missing i e m l t) = ((λ x. (no-slot i e, m), λ x. l), (λ x. (no-slot i e, m), λ x. t))
-      go (whole i e f d l t) = ((λ x. let z : _≡_ {A = ℕ} 0 1 = cc in absurd (omega arith), λ x. absurd (x .1 f d)), (λ x. absurd (missing-unread (readHeader (showing number Header s)) (sym t ∙ x)), λ x. absurd (x .1 f d)))
+      go (whole i e f d l t) = (
+        (λ x. let z : _≡_ {A = ℕ} 0 1 = cc in absurd (omega arith), λ x. absurd (x .1 f d)),
+        (λ x. absurd (missing-unread (readHeader (show number Header s)) (sym t ∙ x)), λ x. absurd (x .1 f d)),
+      )
 
-  pub located-exactly : (i : ℕ) → (locating number s ≡ Located.At i) ↔ ((find number s ≡ At i) × (f : Fits (limitOf s) hs bs) × Finished f)
+  pub located-exactly : (i : ℕ) → (locate number s ≡ Located.At i)
+      ↔ ((find number s ≡ At i) × (f : Fits (limitOf s) hs bs) × Finished f)
   located-exactly i = go asks
     where
-      go : Asks → (locating number s ≡ Located.At i) ↔ ((find number s ≡ At i) × (f : Fits (limitOf s) hs bs) × Finished f)
+      go : Asks → (locate number s ≡ Located.At i)
+          ↔ ((find number s ≡ At i) × (f : Fits (limitOf s) hs bs) × Finished f)
       go (unheld e l t) = (λ x. let z : _≡_ {A = ℕ} 0 1 = cc in absurd (omega arith), λ x. absurd (no-slot i (x .0) e))
-      go (missing j e m l t) = (λ x. let z : _≡_ {A = ℕ} 0 1 = cc in absurd (omega arith), λ x. absurd (m (x .1) (x .2)))
-      go (whole j e f d l t) = (λ x. let same : j ≡ i = cc in (e ∙ ap At same, f, d), λ x. let same : j ≡ i = cc (x .0) in l ∙ ap Located.At same)
+      go (missing j e m l t) = (
+        λ x. let z : _≡_ {A = ℕ} 0 1 = cc in absurd (omega arith),
+        λ x. absurd (m (x .1) (x .2)),
+      )
+      go (whole j e f d l t) = (
+        λ x. let same : j ≡ i = cc in
+            (e ∙ ap At same, f, d),
+        λ x. let same : j ≡ i = cc (x .0) in l ∙ ap Located.At same,
+      )
 
-  pub read-exactly : (reading : Reading) → (telling number s ≡ askedAs reading) ↔ ((f : Fits (limitOf s) hs bs) × Finished f × (readHeader (f .header) ≡ reading))
+  pub read-exactly : (reading : Reading) → (queries.parameters number s ≡ askedAs reading)
+      ↔ ((f : Fits (limitOf s) hs bs) × Finished f × (readHeader (f .header) ≡ reading))
   read-exactly reading = go asks
     where
-      go : Asks → (telling number s ≡ askedAs reading) ↔ ((f : Fits (limitOf s) hs bs) × Finished f × (readHeader (f .header) ≡ reading))
-      go (unheld e l t) = (λ x. absurd (unheld-unread reading (sym x ∙ t)), λ x. absurd (unheld-missing e (x .0) (x .1)))
+      go : Asks → (queries.parameters number s ≡ askedAs reading)
+          ↔ ((f : Fits (limitOf s) hs bs) × Finished f × (readHeader (f .header) ≡ reading))
+      go (unheld e l t) = (
+        λ x. absurd (unheld-unread reading (sym x ∙ t)),
+        λ x. absurd (unheld-missing e (x .0) (x .1)),
+      )
       go (missing i e m l t) = (λ x. absurd (missing-unread reading (sym x ∙ t)), λ x. absurd (m (x .0) (x .1)))
       go (whole i e f d l t) = (
-        λ x. (f, d, ap readHeader (sym (shown-header f d)) ∙ asked-once (readHeader (showing number Header s)) reading (sym t ∙ x)),
+        λ x. (
+          f,
+          d,
+          ap readHeader (sym (shown-header f d)) ∙ asked-once (readHeader (show number Header s)) reading
+              (sym t ∙ x),
+        ),
         λ x. t ∙ ap askedAs (ap readHeader (shown-header (x .0) (x .1)) ∙ x .2),
       )
 
-  pub name-finished : (f : Fits (limitOf s) hs bs) → Finished f → naming number s ≡ nameData (f .header)
+  pub name-finished : (f : Fits (limitOf s) hs bs) → Finished f → queries.name number s ≡ nameData (f .header)
   unfolding name
   name-finished f d = ap nameData (shown-header f d)
 
-  pub name-missing : ((f : Fits (limitOf s) hs bs) → ¬ (Finished f)) → naming number s ≡ []
+  pub name-missing : ((f : Fits (limitOf s) hs bs) → ¬ (Finished f)) → queries.name number s ≡ []
   unfolding name nameData readHeader
   name-missing m = ap nameData (unfinished-shown number s hs bs w good m Header)
 
 -- ---- whose a name is
 
-module _ (s : State) (kept : Part → ℕ → List Segment) (good : sound s ≡ true) (stands : (number : ℕ) → StandsFor number s (kept Header number) (kept Body number)) (sought : List ℕ) where
+module _ (s : State) (kept : Part → ℕ → List Segment) (good : sound s ≡ true)
+    (stands : (number : ℕ) → StandsFor number s (kept Header number) (kept Body number)) (sought : List ℕ) where
   -- a finished object of a number that has the name
   abbrev Has : ℕ → Type 0
   Has number = (f : Fits (limitOf s) (kept Header number) (kept Body number)) × Finished f × Named sought (f .header)
 
-  finished-located : (number : ℕ) → Has number → (i : ℕ) × (locating number s ≡ Located.At i) × Named sought (showing number Header s)
+  finished-located : (number : ℕ) → Has number → (i : ℕ) × (locate number s ≡ Located.At i)
+      × Named sought (show number Header s)
   finished-located number h = go (asks number s (kept Header number) (kept Body number) good (stands number))
     where
-      go : Asks number s (kept Header number) (kept Body number) good (stands number) → (i : ℕ) × (locating number s ≡ Located.At i) × Named sought (showing number Header s)
-      go (unheld e l t) = absurd (unheld-missing number s (kept Header number) (kept Body number) good (stands number) e (h .0) (h .1))
+      go : Asks number s (kept Header number) (kept Body number) good (stands number) → (i : ℕ)
+          × (locate number s ≡ Located.At i) × Named sought (show number Header s)
+      go (unheld e l t) = absurd (unheld-missing number s (kept Header number) (kept Body number) good (stands number) e
+          (h .0) (h .1))
       go (missing i e m l t) = absurd (m (h .0) (h .1))
-      go (whole i e f d l t) = (i, l, rw (shown-header number s (kept Header number) (kept Body number) good (stands number) (h .0) (h .1)) (h .2))
+      go (whole i e f d l t) = (
+        i,
+        l,
+        rw (shown-header number s (kept Header number) (kept Body number) good (stands number) (h .0) (h .1)) (h .2),
+      )
 
-  located-finished : (number i : ℕ) → locating number s ≡ Located.At i → Named sought (showing number Header s) → Has number
+  located-finished : (number i : ℕ) → locate number s ≡ Located.At i → Named sought (show number Header s) → Has number
   located-finished number i e n =
-      let x = located-exactly number s (kept Header number) (kept Body number) good (stands number) i .0 e in
-      (x .1, x .2, rw (shown-header number s (kept Header number) (kept Body number) good (stands number) (x .1) (x .2)) at n)
+      let x = located-exactly number s (kept Header number) (kept Body number) good (stands number) i .0 e in (
+        x .1,
+        x .2,
+        rw (shown-header number s (kept Header number) (kept Body number) good (stands number) (x .1) (x .2))
+            at n,
+      )
 
-  pub found-exactly : (number : ℕ) → (finding sought s ≡ Sought.Number number) ↔ (Has number × ((other : ℕ) → Has other → number ≤ other))
+  pub found-exactly : (number : ℕ) → (queries.find sought s ≡ Sought.Number number)
+      ↔ (Has number × ((other : ℕ) → Has other → number ≤ other))
   found-exactly number = (
-    λ e. let l = find-lowest sought (s .collector) (s .counts) (s .stores) good number .0 e in (located-finished number (l .slot) (l .located) (l .named), λ other h. let x = finished-located other h in l .lowest other (x .0) (x .1) (x .2)),
-    λ h. let x = finished-located number (h .0) in find-lowest sought (s .collector) (s .counts) (s .stores) good number .1 (record { slot = x .0; located = x .1; named = x .2; lowest = λ other i e n. h .1 other (located-finished other i e n) }),
+    λ e. let l = find-lowest sought s good number .0 e in (
+      located-finished number (l .slot) (l .located) (l .named),
+      λ other h. let x = finished-located other h in
+          l .lowest other (x .0) (x .1) (x .2),
+    ),
+    λ h. let x = finished-located number (h .0) in
+        find-lowest sought s good number .1
+        (record {
+          slot = x .0;
+          located = x .1;
+          named = x .2;
+          lowest =
+              λ other i e n. h .1 other (located-finished other i e n);
+        }),
   )
 
-  pub nobody-exactly : (finding sought s ≡ Sought.Refused Answer.NotFound) ↔ ((number : ℕ) → ¬ (Has number))
+  pub nobody-exactly : (queries.find sought s ≡ Sought.Denied Reason.NotFound) ↔ ((number : ℕ) → ¬ (Has number))
   nobody-exactly = (
-    λ e number h. let x = finished-located number h in find-nobody sought (s .collector) (s .counts) (s .stores) good .0 e number (x .0) (x .1) (x .2),
-    λ none. find-nobody sought (s .collector) (s .counts) (s .stores) good .1 (λ number i e n. none number (located-finished number i e n)),
+    λ e number h. let x = finished-located number h in find-nobody sought s good .0 e number (x .0) (x .1) (x .2),
+    λ none. find-nobody sought s good .1 (λ number i e n. none number (located-finished number i e n)),
   )

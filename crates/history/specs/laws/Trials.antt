@@ -7,6 +7,7 @@ use mathlib.Core.List.{List, [], _∷_}
 use Prim.Native.Nat.{ℕ, zero, suc, _*_, _<_}
 use native.Mathlib.Omega.{arith}
 use lib.ListN.{replicate}
+use Rattle.answer.specs.declared.Answer.the-variants as Answer
 use Rattle.answer.specs.declared.Part.{Part}
 use Rattle.answer.specs.declared.Part.the-variants.{Header, Body}
 use Rattle.answer.specs.Table.{numberOf}
@@ -28,16 +29,17 @@ use Rattle.collector.specs.declared.Opening.{Opening}
 use Rattle.collector.specs.declared.Opening.the-variants as Opening
 use Rattle.collector.specs.declared.Located.{Located}
 use Rattle.collector.specs.declared.Located.the-variants as Located
-use Rattle.collector.specs.Calls.{soundState}
+use Rattle.collector.specs.State.{Start, Opened, Reply, State, sound}
+use Rattle.collector.specs.Calls.{dropNumber, locate, openWith, show, takeGroup}
+use Rattle.queries.specs.Questions as queries
 use Rattle.queries.specs.declared.Asked.{Asked}
 use Rattle.queries.specs.declared.Asked.the-variants as Asked
 use Rattle.queries.specs.declared.Sought.{Sought}
 use Rattle.queries.specs.declared.Sought.the-variants as Sought
-use Rattle.history.specs.laws.Call.{State, Reply, taking, dropping, limitOf}
-use Rattle.history.specs.Asking.{locating, showing, telling, naming, finding}
+use Rattle.history.specs.Held.{limitOf}
 use Rattle.history.specs.laws.Ready.{OfBytes, slots-sound}
 use Rattle.history.specs.laws.State.{InOrder, in-order-exactly}
-use Rattle.history.specs.History.{Question, hand, drop, Begun, Collecting, Start, Allowed, begun, asking, defined}
+use Rattle.history.specs.History.{Question, hand, drop, Collecting, Allowed, asking, defined}
 use Rattle.history.specs.laws.Reached.{reached-intact}
 use Rattle.history.specs.Promise.{Run, reachedBy, Passing}
 use Rattle.history.specs.laws.Samples.{computing, small, allowed, pair, pair-allowed, bodyLast, header, readAs, oneCut, of-bytes-one}
@@ -55,7 +57,16 @@ unfolding bodySize headerSize
 fits = record {
   header = core;
   body = [];
-  object = record { headerLow = omega arith; headerHigh = omega arith; bodyHigh = omega arith; headerBytes = omega arith; bodyBytes = tt; saysBody = refl; saysHeader = refl };
+  object = record {
+    headerLow = omega arith;
+    headerHigh = omega arith;
+    bodyHigh = omega arith;
+    headerBytes =
+        omega arith;
+    bodyBytes = tt;
+    saysBody = refl;
+    saysHeader = refl;
+  };
   headerCut = 16;
   bodyCut = 16;
   headerCuts = record { low = omega arith; high = omega arith; enough = omega arith };
@@ -66,55 +77,79 @@ fits = record {
 
 done : Finished fits
 unfolding fits
-done = record { header = whole-numbers core 16 (whole ∷ []) (record { starts = omega arith; holds = refl; ends = refl }, tt) .1 number; body = whole-empty [] 16 [] refl }
+done = record {
+  header = whole-numbers core 16 (whole ∷ [])
+      (record { starts = omega arith; holds = refl; ends = refl }, tt) .1 number;
+  body = whole-empty [] 16 [] refl;
+}
   where
     number : (n : ℕ) → n * 16 < 7 → Numbered n (whole ∷ [])
     number zero h = inl refl
     number (suc n) h = absurd (omega arith)
 
 -- where its segment is stored, it is finished
-pub finished-core : (limit : ℕ) (hs bs : List Segment) → limit ≡ 1024 → hs ≡ whole ∷ [] → bs ≡ [] → (f : Fits limit hs bs) × Finished f × (f .header ≡ core)
+pub finished-core : (limit : ℕ) (hs bs : List Segment) → limit ≡ 1024 → hs ≡ whole ∷ [] → bs ≡ []
+    → (f : Fits limit hs bs) × Finished f × (f .header ≡ core)
 unfolding fits
 finished-core limit hs bs l h b = rw (l, h, b) (fits, done, refl)
 
 -- the object and its cut
 unfoldable pub single : Source 1024
 unfolding fits
-single = record { header = core; body = []; object = fits .object; headerCut = 16; bodyCut = 16; headerCuts = fits .headerCuts; bodyCuts = fits .bodyCuts; headerSent = tt; bodySent = tt }
+single = record {
+  header = core;
+  body = [];
+  object = fits .object;
+  headerCut = 16;
+  bodyCut = 16;
+  headerCuts =
+      fits .headerCuts;
+  bodyCuts = fits .bodyCuts;
+  headerSent = tt;
+  bodySent = tt;
+}
 
 -- ---- the groups
 
 -- its one group, under number 5 and under number 6
 abbrev pub five : List ℕ
-five = 0x73 ∷ 0x00 ∷ 0x80 ∷ 0x00 ∷ 0x12 ∷ 0x00 ∷ 0x05 ∷ 0x00 ∷ 0x07 ∷ 0x00 ∷ 0x00 ∷ 0x00 ∷ 0x00 ∷ 0x03 ∷ 0x84 ∷ 0x01 ∷ 0x69 ∷ 0x0F ∷ []
+five = 0x73 ∷ 0x00 ∷ 0x80 ∷ 0x00 ∷ 0x12 ∷ 0x00 ∷ 0x05 ∷ 0x00 ∷ 0x07 ∷ 0x00 ∷ 0x00 ∷ 0x00 ∷ 0x00 ∷ 0x03 ∷ 0x84 ∷ 0x01
+    ∷ 0x69 ∷ 0x0F ∷ []
 
 abbrev pub six : List ℕ
-six = 0x73 ∷ 0x00 ∷ 0x80 ∷ 0x00 ∷ 0x12 ∷ 0x00 ∷ 0x06 ∷ 0x00 ∷ 0x07 ∷ 0x00 ∷ 0x00 ∷ 0x00 ∷ 0x00 ∷ 0x03 ∷ 0x84 ∷ 0x01 ∷ 0xD8 ∷ 0xC0 ∷ []
+six = 0x73 ∷ 0x00 ∷ 0x80 ∷ 0x00 ∷ 0x12 ∷ 0x00 ∷ 0x06 ∷ 0x00 ∷ 0x07 ∷ 0x00 ∷ 0x00 ∷ 0x00 ∷ 0x00 ∷ 0x03 ∷ 0x84 ∷ 0x01
+    ∷ 0xD8 ∷ 0xC0 ∷ []
 
 -- a header segment of 6 bytes, whole
 abbrev pub short : List ℕ
-short = 0x73 ∷ 0x00 ∷ 0x80 ∷ 0x00 ∷ 0x12 ∷ 0x00 ∷ 0x05 ∷ 0x00 ∷ 0x06 ∷ 0x00 ∷ 0x00 ∷ 0x00 ∷ 0x00 ∷ 0x03 ∷ 0x84 ∷ 0xB9 ∷ 0x16 ∷ []
+short = 0x73 ∷ 0x00 ∷ 0x80 ∷ 0x00 ∷ 0x12 ∷ 0x00 ∷ 0x05 ∷ 0x00 ∷ 0x06 ∷ 0x00 ∷ 0x00 ∷ 0x00 ∷ 0x00 ∷ 0x03 ∷ 0x84 ∷ 0xB9
+    ∷ 0x16 ∷ []
 
 -- an object of no body and of the name "a", under number 5 and under number 6
 abbrev pub namedFive : List ℕ
-namedFive = 0x73 ∷ 0x00 ∷ 0x80 ∷ 0x00 ∷ 0x12 ∷ 0x00 ∷ 0x05 ∷ 0x00 ∷ 0x0B ∷ 0x00 ∷ 0x00 ∷ 0x00 ∷ 0x00 ∷ 0x05 ∷ 0x84 ∷ 0x01 ∷ 0xCC ∷ 0x02 ∷ 0x40 ∷ 0x61 ∷ 0xA9 ∷ 0x4F ∷ []
+namedFive = 0x73 ∷ 0x00 ∷ 0x80 ∷ 0x00 ∷ 0x12 ∷ 0x00 ∷ 0x05 ∷ 0x00 ∷ 0x0B ∷ 0x00 ∷ 0x00 ∷ 0x00 ∷ 0x00 ∷ 0x05 ∷ 0x84
+    ∷ 0x01 ∷ 0xCC ∷ 0x02 ∷ 0x40 ∷ 0x61 ∷ 0xA9 ∷ 0x4F ∷ []
 
 abbrev pub namedSix : List ℕ
-namedSix = 0x73 ∷ 0x00 ∷ 0x80 ∷ 0x00 ∷ 0x12 ∷ 0x00 ∷ 0x06 ∷ 0x00 ∷ 0x0B ∷ 0x00 ∷ 0x00 ∷ 0x00 ∷ 0x00 ∷ 0x05 ∷ 0x84 ∷ 0x01 ∷ 0xCC ∷ 0x02 ∷ 0x40 ∷ 0x61 ∷ 0x24 ∷ 0xEC ∷ []
+namedSix = 0x73 ∷ 0x00 ∷ 0x80 ∷ 0x00 ∷ 0x12 ∷ 0x00 ∷ 0x06 ∷ 0x00 ∷ 0x0B ∷ 0x00 ∷ 0x00 ∷ 0x00 ∷ 0x00 ∷ 0x05 ∷ 0x84 ∷ 0x01
+    ∷ 0xCC ∷ 0x02 ∷ 0x40 ∷ 0x61 ∷ 0x24 ∷ 0xEC ∷ []
 
 -- the same with a body of 20 bytes
 abbrev pub namedFirst : List ℕ
-namedFirst = 0x73 ∷ 0x00 ∷ 0x80 ∷ 0x00 ∷ 0x12 ∷ 0x00 ∷ 0x05 ∷ 0x00 ∷ 0x0B ∷ 0x00 ∷ 0x00 ∷ 0x01 ∷ 0x40 ∷ 0x05 ∷ 0x84 ∷ 0x01 ∷ 0xCC ∷ 0x02 ∷ 0x40 ∷ 0x61 ∷ 0xB4 ∷ 0xBC ∷ []
+namedFirst = 0x73 ∷ 0x00 ∷ 0x80 ∷ 0x00 ∷ 0x12 ∷ 0x00 ∷ 0x05 ∷ 0x00 ∷ 0x0B ∷ 0x00 ∷ 0x00 ∷ 0x01 ∷ 0x40 ∷ 0x05 ∷ 0x84
+    ∷ 0x01 ∷ 0xCC ∷ 0x02 ∷ 0x40 ∷ 0x61 ∷ 0xB4 ∷ 0xBC ∷ []
 
 -- an object of no body whose name runs past the end of its header
 abbrev pub broken : List ℕ
-broken = 0x73 ∷ 0x00 ∷ 0x80 ∷ 0x00 ∷ 0x12 ∷ 0x00 ∷ 0x05 ∷ 0x00 ∷ 0x0B ∷ 0x00 ∷ 0x00 ∷ 0x00 ∷ 0x00 ∷ 0x05 ∷ 0x84 ∷ 0x01 ∷ 0xCC ∷ 0x05 ∷ 0x40 ∷ 0x61 ∷ 0x2C ∷ 0xDF ∷ []
+broken = 0x73 ∷ 0x00 ∷ 0x80 ∷ 0x00 ∷ 0x12 ∷ 0x00 ∷ 0x05 ∷ 0x00 ∷ 0x0B ∷ 0x00 ∷ 0x00 ∷ 0x00 ∷ 0x00 ∷ 0x05 ∷ 0x84 ∷ 0x01
+    ∷ 0xCC ∷ 0x05 ∷ 0x40 ∷ 0x61 ∷ 0x2C ∷ 0xDF ∷ []
 
 -- a group of another kind, its check word wrong
 abbrev pub otherKind : List ℕ
 otherKind = 0x75 ∷ 0x00 ∷ 0x15 ∷ 0x5D ∷ []
 
-pub reads : (readingOf five ≡ Read (readAs 5 Header 0 true 7)) × (readingOf six ≡ Read (readAs 6 Header 0 true 7)) × (readingOf short ≡ Read (readAs 5 Header 0 true 6)) × (readingOf bodyLast ≡ Read (readAs 5 Body 1 true 4))
+pub reads : (readingOf five ≡ Read (readAs 5 Header 0 true 7)) × (readingOf six ≡ Read (readAs 6 Header 0 true 7))
+    × (readingOf short ≡ Read (readAs 5 Header 0 true 6)) × (readingOf bodyLast ≡ Read (readAs 5 Body 1 true 4))
 unfolding computing
 reads = (refl, refl, refl, refl)
 
@@ -139,14 +174,26 @@ abbrev pub one : Run
 one = record { start = small; allowed = allowed; calls = hand five ∷ []; bytes = (omega arith, tt) }
 
 abbrev pub two : Run
-two = record { start = small; allowed = allowed; calls = hand six ∷ hand five ∷ []; bytes = (omega arith, (omega arith, tt)) }
+two = record {
+  start = small;
+  allowed = allowed;
+  calls = hand six ∷ hand five ∷ [];
+  bytes =
+      (omega arith, (omega arith, tt));
+}
 
 -- a drop, and a group after it
 abbrev pub dropped : Run
 dropped = record { start = small; allowed = allowed; calls = drop 5 ∷ hand five ∷ []; bytes = (tt, (omega arith, tt)) }
 
 abbrev pub again : Run
-again = record { start = small; allowed = allowed; calls = hand six ∷ drop 5 ∷ hand five ∷ []; bytes = (omega arith, (tt, (omega arith, tt))) }
+again = record {
+  start = small;
+  allowed = allowed;
+  calls = hand six ∷ drop 5 ∷ hand five ∷ [];
+  bytes =
+      (omega arith, (tt, (omega arith, tt)));
+}
 
 -- document 01's example
 abbrev pub many : Run
@@ -168,10 +215,21 @@ spoilt = record { start = small; allowed = allowed; calls = hand broken ∷ []; 
 
 -- an opening with counts from before
 abbrev used : Start
-used = record { limit = small .limit; count = small .count; counts = record { taken = 3; repeated = 0; refused = 0; completed = 0; dropped = 0 }; stores = small .stores }
+used = record {
+  limit = small .limit;
+  count = small .count;
+  counts =
+      record { taken = 3; repeated = 0; refused = 0; completed = 0; dropped = 0 };
+  stores = small .stores;
+}
 
 abbrev pub later : Run
-later = record { start = used; allowed = record { limits = allowed .limits; bytes = allowed .bytes }; calls = []; bytes = tt }
+later = record {
+  start = used;
+  allowed = record { limits = allowed .limits; bytes = allowed .bytes };
+  calls = [];
+  bytes = tt;
+}
 
 -- an opening with bytes from before in its stores
 unfoldable pub worn : Start
@@ -189,7 +247,16 @@ bytes-sevens (suc n) = (omega arith, bytes-sevens n)
 pub worn-allowed : Allowed worn
 unfolding worn
 worn-allowed = record {
-  limits = record { header = refl; body = refl; marks = refl; least = omega arith; most = omega arith; some = omega arith; slots = omega arith };
+  limits = record {
+    header = refl;
+    body = refl;
+    marks = refl;
+    least = omega arith;
+    most = omega arith;
+    some =
+        omega arith;
+    slots = omega arith;
+  };
   bytes = record { header = bytes-sevens 1024; body = bytes-sevens 1024 };
 }
 
@@ -202,11 +269,23 @@ abbrev pub empty : Run
 empty = record { start = pair; allowed = pair-allowed; calls = []; bytes = tt }
 
 abbrev pub twice : Run
-twice = record { start = pair; allowed = pair-allowed; calls = hand five ∷ hand five ∷ []; bytes = (omega arith, (omega arith, tt)) }
+twice = record {
+  start = pair;
+  allowed = pair-allowed;
+  calls = hand five ∷ hand five ∷ [];
+  bytes =
+      (omega arith, (omega arith, tt));
+}
 
 -- one name twice, the higher number in the first slot
 abbrev pub crossed : Run
-crossed = record { start = pair; allowed = pair-allowed; calls = hand namedFive ∷ hand namedSix ∷ []; bytes = (omega arith, (omega arith, tt)) }
+crossed = record {
+  start = pair;
+  allowed = pair-allowed;
+  calls = hand namedFive ∷ hand namedSix ∷ [];
+  bytes =
+      (omega arith, (omega arith, tt));
+}
 
 -- ---- a state, or what is lent, with one thing replaced
 
@@ -232,7 +311,7 @@ recounted-bytes r = reached-intact (r .start) (r .allowed) (r .calls) (r .bytes)
 
 -- a state with any counts within the bounds is not damaged
 pub recounted : (r : Run) (counts : Counts) → within counts ≡ true → InOrder (withCounts counts (reachedBy defined r))
-unfolding soundState
+unfolding sound
 recounted r counts w =
     let s : State = reachedBy defined r in
     let slots = slots-sound s (reached-intact (r .start) (r .allowed) (r .calls) (r .bytes) .undamaged) in
@@ -241,7 +320,8 @@ recounted r counts w =
 
 -- a finished object, with a count above the ceiling: damaged
 abbrev pub damaged : State
-damaged = withCounts (record { taken = suc ceiling; repeated = 0; refused = 0; completed = 0; dropped = 0 }) (reachedBy defined one)
+damaged = withCounts (record { taken = suc ceiling; repeated = 0; refused = 0; completed = 0; dropped = 0 })
+    (reachedBy defined one)
 
 pub is-damaged : ¬ (InOrder damaged)
 is-damaged w = absurd (omega (arith, w .counts .taken))
@@ -257,19 +337,19 @@ doubted = withCounts uneven (reachedBy defined one)
 
 abbrev pub openingNumber : Opening → ℕ
 openingNumber Opening.Open = 0
-openingNumber (Opening.Refused why) = numberOf why
+openingNumber (Opening.Denied why) = numberOf (Answer.Denied why)
 
 abbrev pub locatedNumber : Located → ℕ
 locatedNumber (Located.At i) = 0
-locatedNumber (Located.Refused why) = numberOf why
+locatedNumber (Located.Denied why) = numberOf (Answer.Denied why)
 
 abbrev pub askedNumber : Asked → ℕ
 askedNumber (Asked.Fields fields) = 0
-askedNumber (Asked.Refused why) = numberOf why
+askedNumber (Asked.Denied why) = numberOf (Answer.Denied why)
 
 abbrev pub soughtNumber : Sought → ℕ
 soughtNumber (Sought.Number number) = 0
-soughtNumber (Sought.Refused why) = numberOf why
+soughtNumber (Sought.Denied why) = numberOf (Answer.Denied why)
 
 abbrev pub foundSlot : Found → ℕ
 foundSlot Nothing = slotsMost
@@ -277,29 +357,58 @@ foundSlot (At i) = i
 
 -- ---- the collector's own definitions with one piece replaced
 
-abbrev pub openingBy : (Start → Begun) → Collecting
-openingBy opens = record { opens = opens; takes = taking; drops = dropping; locates = locating; shows = showing; tells = telling; names = naming; finds = finding; asks = asking }
+-- a call
+abbrev calling : (Start → Opened) → (List ℕ → State → Reply) → (ℕ → State → Reply) → Collecting
+calling opens takes drops = record {
+  opens = opens;
+  takes = takes;
+  drops = drops;
+  locates = locate;
+  shows = show;
+  tells = queries.parameters;
+  names = queries.name;
+  finds = queries.find;
+  asks = asking;
+}
+
+abbrev pub openingBy : (Start → Opened) → Collecting
+openingBy opens = calling opens takeGroup dropNumber
 
 abbrev pub takingBy : (List ℕ → State → Reply) → Collecting
-takingBy takes = record { opens = begun; takes = takes; drops = dropping; locates = locating; shows = showing; tells = telling; names = naming; finds = finding; asks = asking }
+takingBy takes = calling openWith takes dropNumber
 
 abbrev pub droppingBy : (ℕ → State → Reply) → Collecting
-droppingBy drops = record { opens = begun; takes = taking; drops = drops; locates = locating; shows = showing; tells = telling; names = naming; finds = finding; asks = asking }
+droppingBy drops = calling openWith takeGroup drops
+
+-- a question
+abbrev questioning : (ℕ → State → Located) → (ℕ → Part → State → List ℕ) → (ℕ → State → Asked) → (ℕ → State → List ℕ)
+    → (List ℕ → State → Sought) → (Question → State → State) → Collecting
+questioning locates shows tells names finds asks = record {
+  opens = openWith;
+  takes = takeGroup;
+  drops = dropNumber;
+  locates = locates;
+  shows = shows;
+  tells = tells;
+  names = names;
+  finds = finds;
+  asks = asks;
+}
 
 abbrev pub locatingBy : (ℕ → State → Located) → Collecting
-locatingBy locates = record { opens = begun; takes = taking; drops = dropping; locates = locates; shows = showing; tells = telling; names = naming; finds = finding; asks = asking }
+locatingBy locates = questioning locates show queries.parameters queries.name queries.find asking
 
 abbrev pub showingBy : (ℕ → Part → State → List ℕ) → Collecting
-showingBy shows = record { opens = begun; takes = taking; drops = dropping; locates = locating; shows = shows; tells = telling; names = naming; finds = finding; asks = asking }
+showingBy shows = questioning locate shows queries.parameters queries.name queries.find asking
 
 abbrev pub tellingBy : (ℕ → State → Asked) → Collecting
-tellingBy tells = record { opens = begun; takes = taking; drops = dropping; locates = locating; shows = showing; tells = tells; names = naming; finds = finding; asks = asking }
+tellingBy tells = questioning locate show tells queries.name queries.find asking
 
 abbrev pub namingBy : (ℕ → State → List ℕ) → Collecting
-namingBy names = record { opens = begun; takes = taking; drops = dropping; locates = locating; shows = showing; tells = telling; names = names; finds = finding; asks = asking }
+namingBy names = questioning locate show queries.parameters names queries.find asking
 
 abbrev pub findingBy : (List ℕ → State → Sought) → Collecting
-findingBy finds = record { opens = begun; takes = taking; drops = dropping; locates = locating; shows = showing; tells = telling; names = naming; finds = finds; asks = asking }
+findingBy finds = questioning locate show queries.parameters queries.name finds asking
 
 abbrev pub askingBy : (Question → State → State) → Collecting
-askingBy asks = record { opens = begun; takes = taking; drops = dropping; locates = locating; shows = showing; tells = telling; names = naming; finds = finding; asks = asks }
+askingBy asks = questioning locate show queries.parameters queries.name queries.find asks

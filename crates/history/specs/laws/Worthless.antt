@@ -16,12 +16,13 @@ use Rattle.answer.specs.declared.Part.{Part}
 use Rattle.answer.specs.declared.Part.the-variants.{Header, Body}
 use Rattle.answer.specs.Table.{numberOf}
 use Rattle.answer.specs.declared.Answer.the-variants as Answer
+use Rattle.answer.specs.declared.Reason.the-variants as Reason
 use Rattle.answer.specs.declared.Refusal.the-variants as Refusal
 use Rattle.counts.specs.declared.Counts.{Counts}
 use Rattle.counts.specs.Counted.{ceiling, noneYet, counted}
 use Rattle.wire.specs.declared.Kind.{Kind}
 use Rattle.wire.specs.declared.Kind.the-variants.{Carries, Other}
-use Rattle.wire.specs.declared.Segment.{Segment as Carried}
+use Rattle.wire.specs.declared.Carried.{Carried}
 use Rattle.wire.specs.declared.Reading.the-variants.{Read, Refused}
 use Rattle.wire.specs.Wire.{typeNumber}
 use Rattle.wire.specs.Reading.{kindOf, readingOf}
@@ -40,11 +41,10 @@ use Rattle.slots.specs.declared.Found.the-variants.{Nothing, At}
 use Rattle.slots.specs.Find.{isFree}
 use Rattle.slots.specs.Alone.{fitsAlone}
 use Rattle.collector.specs.declared.Located.the-variants as Located
-use Rattle.collector.specs.Calls.{withSlots, segmentIn, heardAs, intoFree, allFree}
-use Rattle.history.specs.laws.Call.{State, find, Reply, replied, taking, dropping, sound, limitOf, slotOf, free, answering}
-use Rattle.history.specs.History.{Question, drop, ask, Begun, Collecting, Start, told, under, begun, defined}
-use Rattle.history.specs.Asking.{locating}
-use Rattle.history.specs.Held.{stageFor}
+use Rattle.collector.specs.State.{Start, Opened, Reply, State, answering, sound, withSlots}
+use Rattle.collector.specs.Calls.{allFree, arrivalIn, dropNumber, find, free, heardAs, heardIn, intoFree, locate, openWith, segmentIn, takeGroup}
+use Rattle.history.specs.Held.{limitOf, slotOf, stageFor}
+use Rattle.history.specs.History.{Question, drop, ask, Collecting, told, under, defined}
 use Rattle.history.specs.laws.Stage.{none-finished}
 use Rattle.history.specs.laws.Demands.{run-answered, finished-lengths}
 use Rattle.history.specs.Promise.{Run, reachedBy, toldBy, stored, heardOf, since, StoredFrom, cameUnder, between, answersFrom, RefusedLeaves, NeverState, OthersLeave, ShownJoined, UnfinishedUnshown, CountsTold, ConflictExactly, FullExactly, RepeatExactly, CompleteExactly, StoredExactly, LowestFreeTaken, UnreadRefused, DropExactly, UnheldExactly, NoneFreeExactly, FinishedExactly, FinishedLengths, OneCutAgrees, OneCutFinishes}
@@ -67,8 +67,13 @@ gathering-unfinished header body e = let z : _≡_ {A = ℕ} 0 1 = cc in absurd 
 -- a drop that leaves the marks of its slot
 abbrev pub keepsMarks : ℕ → State → Reply
 keepsMarks number s = record {
-  answer = dropping number s .answer;
-  left = record { collector = dropping number s .left .collector; counts = dropping number s .left .counts; stores = s .stores };
+  answer = dropNumber number s .answer;
+  left = record {
+    collector = dropNumber number s .left .collector;
+    counts = dropNumber number s .left .counts;
+    stores =
+        s .stores;
+  };
 }
 
 -- a free slot with a mark is damaged, so the next group meets STATE
@@ -79,8 +84,9 @@ keeps-marks-breaks p = p again .0 refl
 -- a group that is FULL drops the object in the first slot, to make room
 abbrev pub makesRoom : List ℕ → State → Reply
 makesRoom bytes s = record {
-  answer = taking bytes s .answer;
-  left = pick (eqb (numberOf (taking bytes s .answer)) 18) (dropping (slotOf 0 s .number) (taking bytes s .left) .left) (taking bytes s .left);
+  answer = takeGroup bytes s .answer;
+  left = pick (eqb (numberOf (takeGroup bytes s .answer)) 18)
+      (dropNumber (slotOf 0 s .number) (takeGroup bytes s .left) .left) (takeGroup bytes s .left);
 }
 
 -- a refusal leaves every slot's record
@@ -88,15 +94,16 @@ pub makes-room-breaks : ¬ (RefusedLeaves (takingBy makesRoom))
 unfolding computing small
 makes-room-breaks p =
     let s : State = reachedBy (takingBy makesRoom) one in
-    different (find 5 (makesRoom six s .left)) (find 5 s) (ap (λ (t : State). find 5 t) (p six s (omega arith) (omega arith))) refl refl
+    different (find 5 (makesRoom six s .left)) (find 5 s)
+    (ap (λ (t : State). find 5 t) (p six s (omega arith) (omega arith))) refl refl
 
 -- a drop that frees every slot
 abbrev pub dropsAll : ℕ → State → Reply
 dropsAll number s = record {
-  answer = dropping number s .answer;
+  answer = dropNumber number s .answer;
   left = record {
     collector = allFree (limitOf s) (s .collector .count);
-    counts = dropping number s .left .counts;
+    counts = dropNumber number s .left .counts;
     stores = record { header = s .stores .header; body = s .stores .body; marks = zeros (length (s .stores .marks)) };
   };
 }
@@ -106,13 +113,14 @@ pub drops-all-breaks : ¬ (OthersLeave (droppingBy dropsAll))
 unfolding computing small
 drops-all-breaks p =
     let s : State = reachedBy (droppingBy dropsAll) one in
-    different (find 5 (dropsAll 6 s .left)) (find 5 s) (p one 5 (drop 6 ∷ []) (tt, tt) ((λ e. absurd (omega arith)), tt) .0 .found) refl refl
+    different (find 5 (dropsAll 6 s .left)) (find 5 s)
+    (p one 5 (drop 6 ∷ []) (tt, tt) ((λ e. absurd (omega arith)), tt) .0 .found) refl refl
 
 -- a question that drops what it asks for
 abbrev pub dropsAsked : Question → State → State
-dropsAsked (Question.show number part) s = dropping number s .left
-dropsAsked (Question.parameters number) s = dropping number s .left
-dropsAsked (Question.name number) s = dropping number s .left
+dropsAsked (Question.show number part) s = dropNumber number s .left
+dropsAsked (Question.parameters number) s = dropNumber number s .left
+dropsAsked (Question.name number) s = dropNumber number s .left
 dropsAsked (Question.find sought) s = s
 
 -- nor does a question change anything
@@ -120,12 +128,15 @@ pub drops-asked-breaks : ¬ (OthersLeave (askingBy dropsAsked))
 unfolding computing small
 drops-asked-breaks p =
     let s : State = reachedBy (askingBy dropsAsked) one in
-    different (find 5 (dropsAsked (Question.show 5 Header) s)) (find 5 s) (p one 5 (ask (Question.show 5 Header) ∷ []) (tt, tt) (tt, tt) .0 .found) refl refl
+    different (find 5 (dropsAsked (Question.show 5 Header) s)) (find 5 s)
+    (p one 5 (ask (Question.show 5 Header) ∷ []) (tt, tt) (tt, tt) .0 .found) refl refl
 
 -- ---- demand 2
 
 -- by the joined bytes: what was answered STORED or COMPLETE is shown
-shown-breaks : (k : Collecting) (r : Run) (number : ℕ) → r .start .limit ≡ 1024 → (stored k r Header number ≡ whole ∷ []) × (stored k r Body number ≡ []) × (k .shows number Header (reachedBy k r) ≡ []) → ¬ (ShownJoined k)
+shown-breaks : (k : Collecting) (r : Run) (number : ℕ) → r .start .limit ≡ 1024
+    → (stored k r Header number ≡ whole ∷ []) × (stored k r Body number ≡ [])
+    × (k .shows number Header (reachedBy k r) ≡ []) → ¬ (ShownJoined k)
 shown-breaks k r number l c p =
     let object = finished-core (r .start .limit) (stored k r Header number) (stored k r Body number) l (c .0) (c .1) in
     let e : _≡_ {A = List ℕ} [] core = sym (c .2) ∙ p r number (object .0) (object .1) .0 ∙ object .2 in
@@ -135,11 +146,16 @@ shown-breaks k r number l c p =
 -- answers, records, marks and counts as they should be, and no store byte is written
 abbrev pub writesNothing : List ℕ → State → Reply
 writesNothing bytes s = record {
-  answer = taking bytes s .answer;
+  answer = takeGroup bytes s .answer;
   left = record {
-    collector = taking bytes s .left .collector;
-    counts = taking bytes s .left .counts;
-    stores = record { header = s .stores .header; body = s .stores .body; marks = taking bytes s .left .stores .marks };
+    collector = takeGroup bytes s .left .collector;
+    counts = takeGroup bytes s .left .counts;
+    stores = record {
+      header = s .stores .header;
+      body = s .stores .body;
+      marks =
+          takeGroup bytes s .left .stores .marks;
+    };
   };
 }
 
@@ -160,14 +176,20 @@ shows-store-breaks p =
     absurd (omega arith)
 
 -- by the history: a count is the number of such answers
-taken-breaks : (k : Collecting) (r : Run) (counted told : ℕ) → reachedBy k r .counts .taken ≡ counted → answersFrom 0 1 (toldBy k r) ≡ told → counted ≢ min told ceiling → ¬ (CountsTold k)
+taken-breaks : (k : Collecting) (r : Run) (counted told : ℕ) → reachedBy k r .counts .taken ≡ counted
+    → answersFrom 0 1 (toldBy k r) ≡ told → counted ≢ min told ceiling → ¬ (CountsTold k)
 taken-breaks k r counted told c t n p = n (rw (c, t) at (ap (λ (x : Counts). x .taken) (p r)))
 
 -- counts that are made up
 abbrev pub inventsCounts : List ℕ → State → Reply
 inventsCounts bytes s = record {
-  answer = taking bytes s .answer;
-  left = record { collector = taking bytes s .left .collector; counts = noneYet; stores = taking bytes s .left .stores };
+  answer = takeGroup bytes s .answer;
+  left = record {
+    collector = takeGroup bytes s .left .collector;
+    counts = noneYet;
+    stores =
+        takeGroup bytes s .left .stores;
+  };
 }
 
 pub invents-counts-breaks : ¬ (CountsTold (takingBy inventsCounts))
@@ -175,8 +197,17 @@ unfolding computing small answersFrom
 invents-counts-breaks = taken-breaks (takingBy inventsCounts) one 0 1 refl refl (λ e. absurd (omega arith))
 
 -- an opening that leaves the counts as they were
-abbrev pub keepsCounts : Start → Begun
-keepsCounts start = record { opening = begun start .opening; left = record { collector = begun start .left .collector; counts = start .counts; stores = begun start .left .stores } }
+abbrev pub keepsCounts : Start → Opened
+keepsCounts start = record {
+  opening = openWith start .opening;
+  left =
+      record {
+        collector = openWith start .left .collector;
+        counts = start .counts;
+        stores =
+            openWith start .left .stores;
+      };
+}
 
 -- an opening sets them to 0
 pub keeps-counts-breaks : ¬ (CountsTold (openingBy keepsCounts))
@@ -193,8 +224,11 @@ too-short : ¬ (Fits 1024 (sixBytes ∷ []) [])
 too-short f =
     let sent = f .headerSent .0 in
     let low : 0 < f .headerCut = omega (arith, f .headerCuts .low) in
-    let long : 6 ≡ min (f .headerCut) (length (f .header) - 0 * f .headerCut) = inside (f .headerCut) (length (f .header)) sixBytes low (sends-sits (f .header) (f .headerCut) sixBytes sent) .long in
-    let ends : length (f .header) ≤ 1 * f .headerCut = leb-true (length (f .header)) (1 * f .headerCut) (sym (sent .ends)) in
+    let long : 6 ≡ min (f .headerCut) (length (f .header) - 0 * f .headerCut) =
+    inside (f .headerCut) (length (f .header)) sixBytes low
+    (sends-sits (f .header) (f .headerCut) sixBytes sent) .long in
+    let ends : length (f .header) ≤ 1 * f .headerCut =
+    leb-true (length (f .header)) (1 * f .headerCut) (sym (sent .ends)) in
     omega (arith, f .object .headerLow)
 
 -- LENGTH for every group
@@ -203,7 +237,7 @@ refusesEvery bytes s = answering (Answer.Refused Refusal.Length) s
 
 -- a group that no object and cut send is CONFLICT, whatever else is refused
 pub refuses-every-breaks : ¬ (ConflictExactly (takingBy refusesEvery))
-unfolding under segmentIn small groupShort
+unfolding under small groupShort
 refuses-every-breaks p =
     let e : Answer.Refused Refusal.Length ≡ Answer.Conflict (heardOf groupShort) = p none groupShort .1 too-short in
     let z : _≡_ {A = ℕ} 0 1 = cc in
@@ -211,9 +245,9 @@ refuses-every-breaks p =
 
 -- FULL where no slot is free, though the number holds one
 abbrev fullAs : Found → Reading → List ℕ → State → Reply
-fullAs Nothing (Read carried) bytes s = answering (Answer.Full (heardAs carried)) s
-fullAs Nothing (Refused why) bytes s = taking bytes s
-fullAs (At i) reading bytes s = taking bytes s
+fullAs Nothing (Read carried) bytes s = answering (Answer.Full (heardIn carried)) s
+fullAs Nothing (Refused why) bytes s = takeGroup bytes s
+fullAs (At i) reading bytes s = takeGroup bytes s
 
 abbrev pub fullUnlessFree : List ℕ → State → Reply
 fullUnlessFree bytes s = fullAs (free s) (readingOf bytes) bytes s
@@ -227,7 +261,7 @@ full-unless-free-breaks p =
 
 -- STORED for every group that can be read, and nothing is stored
 abbrev storedAs : Reading → Answer
-storedAs (Read carried) = Answer.Stored (heardAs carried)
+storedAs (Read carried) = Answer.Stored (heardIn carried)
 storedAs (Refused why) = Answer.Refused why
 
 abbrev pub storesEvery : List ℕ → State → Reply
@@ -250,16 +284,22 @@ stores-every-unshown = shown-breaks (takingBy storesEvery) one 5 refl (refl, ref
 abbrev renamed : Answer → List ℕ → State → Reply
 renamed answer bytes s = record {
   answer = answer;
-  left = record { collector = taking bytes s .left .collector; counts = counted answer (s .counts); stores = taking bytes s .left .stores };
+  left = record {
+    collector = takeGroup bytes s .left .collector;
+    counts = counted answer (s .counts);
+    stores =
+        takeGroup bytes s .left .stores;
+  };
 }
 
 -- COMPLETE as soon as a last segment is stored
 abbrev completeAs : Reading → Answer → Answer
-completeAs (Read carried) answer = pick (both (carried .last) (eqb (numberOf answer) 0)) (Answer.Complete (heardAs carried)) answer
+completeAs (Read carried) answer =
+    pick (both (carried .last) (eqb (numberOf answer) 0)) (Answer.Complete (heardIn carried)) answer
 completeAs (Refused why) answer = answer
 
 abbrev pub completesByLast : List ℕ → State → Reply
-completesByLast bytes s = renamed (completeAs (readingOf bytes) (taking bytes s .answer)) bytes s
+completesByLast bytes s = renamed (completeAs (readingOf bytes) (takeGroup bytes s .answer)) bytes s
 
 -- nothing is COMPLETE without a header
 pub completes-by-last-breaks : ¬ (CompleteExactly (takingBy completesByLast))
@@ -272,7 +312,12 @@ completes-by-last-breaks p =
 abbrev pub dropsUnheld : ℕ → State → Reply
 dropsUnheld number s = record {
   answer = Answer.Dropped number;
-  left = record { collector = dropping number s .left .collector; counts = counted (Answer.Dropped number) (s .counts); stores = dropping number s .left .stores };
+  left = record {
+    collector = dropNumber number s .left .collector;
+    counts =
+        counted (Answer.Dropped number) (s .counts);
+    stores = dropNumber number s .left .stores;
+  };
 }
 
 -- a drop is DROPPED only where the number holds a slot
@@ -282,20 +327,24 @@ drops-unheld-breaks p = p none 5 .0 .0 refl refl
 
 -- a segment that completes its object is answered and counted, and not taken in
 abbrev pub neverFinishes : List ℕ → State → Reply
-neverFinishes bytes s = pick (eqb (numberOf (taking bytes s .answer)) 1) (answering (taking bytes s .answer) s) (taking bytes s)
+neverFinishes bytes s = pick (eqb (numberOf (takeGroup bytes s .answer)) 1) (answering (takeGroup bytes s .answer) s)
+    (takeGroup bytes s)
 
 -- an object is finished once every segment is stored
 pub never-finishes-breaks : ¬ (FinishedExactly (takingBy neverFinishes))
 unfolding computing small
 never-finishes-breaks p =
-    let object = finished-core 1024 (stored (takingBy neverFinishes) one Header 5) (stored (takingBy neverFinishes) one Body 5) refl refl refl in
+    let object = finished-core 1024 (stored (takingBy neverFinishes) one Header 5)
+    (stored (takingBy neverFinishes) one Body 5) refl refl refl in
     let stage = p one 5 .1 (object .0, object .1) in
     free-unfinished (stage .0) (stage .1) (stage .2)
 
 -- CONFLICT for a segment that comes again
 abbrev conflictAs : Reading → List ℕ → State → Reply
-conflictAs (Read carried) bytes s = pick (eqb (numberOf (taking bytes s .answer)) 2) (answering (Answer.Conflict (heardAs carried)) s) (taking bytes s)
-conflictAs (Refused why) bytes s = taking bytes s
+conflictAs (Read carried) bytes s =
+    pick (eqb (numberOf (takeGroup bytes s .answer)) 2) (answering (Answer.Conflict (heardIn carried)) s)
+    (takeGroup bytes s)
+conflictAs (Refused why) bytes s = takeGroup bytes s
 
 abbrev pub repeatConflicts : List ℕ → State → Reply
 repeatConflicts bytes s = conflictAs (readingOf bytes) bytes s
@@ -303,7 +352,8 @@ repeatConflicts bytes s = conflictAs (readingOf bytes) bytes s
 -- a group that comes again from the same cut does not conflict
 pub repeat-conflicts-breaks : ¬ (OneCutAgrees (takingBy repeatConflicts))
 unfolding computing small groupFive single
-repeat-conflicts-breaks p = p one single 5 from groupFive refl (record { starts = omega arith; holds = refl; ends = refl }) refl
+repeat-conflicts-breaks p = p one single 5 from groupFive refl
+    (record { starts = omega arith; holds = refl; ends = refl }) refl
   where
     from : StoredFrom single 5 (since (takingBy repeatConflicts) one)
     from Header = (record { starts = omega arith; holds = refl; ends = refl }, tt)
@@ -311,18 +361,20 @@ repeat-conflicts-breaks p = p one single 5 from groupFive refl (record { starts 
 
 -- it stores the first group, and afterwards only says so
 abbrev pub storesFirst : List ℕ → State → Reply
-storesFirst bytes s = pick (eqb (s .counts .taken) 0) (taking bytes s) (answering (storedAs (readingOf bytes)) s)
+storesFirst bytes s = pick (eqb (s .counts .taken) 0) (takeGroup bytes s) (answering (storedAs (readingOf bytes)) s)
 
 -- once all groups of a cut have come, the object is finished
 pub stores-first-breaks : ¬ (OneCutFinishes (takingBy storesFirst))
 unfolding computing small
-stores-first-breaks p = gathering-unfinished (length (object .header)) (length (object .body)) (p many object 5 from all-come .0)
+stores-first-breaks p = gathering-unfinished (length (object .header)) (length (object .body))
+    (p many object 5 from all-come .0)
   where
     from : StoredFrom object 5 (since (takingBy storesFirst) many)
     from Header = (sent-one .0, tt)
     from Body = (sent-one .1, (sent-one .2, (sent-one .2, tt)))
 
-    all-come : (part : Part) (s : Segment) → SentBy object part s → Among s (cameUnder part 5 (told (takingBy storesFirst) small oneCut))
+    all-come : (part : Part) (s : Segment) → SentBy object part s
+        → Among s (cameUnder part 5 (told (takingBy storesFirst) small oneCut))
     all-come Header = all-sent Header
     all-come Body = all-sent Body
 
@@ -335,15 +387,15 @@ stores-first-unshown = shown-breaks (takingBy storesFirst) two 6 refl (refl, ref
 
 -- a segment whose number holds no slot is offered to slot `chosen`
 abbrev pub placedIn : Found → Found → Carried → List ℕ → State → Reply
-placedIn (At i) chosen carried bytes s = taking bytes s
+placedIn (At i) chosen carried bytes s = takeGroup bytes s
 placedIn Nothing chosen carried bytes s =
     pick (both (sound s) (fitsAlone (carried .part) (limitOf s) (segmentIn bytes carried)))
-    (replied (intoFree chosen carried (segmentIn bytes carried) (s .collector) (s .counts) (s .stores)))
-    (taking bytes s)
+    (intoFree chosen (arrivalIn bytes carried) s)
+    (takeGroup bytes s)
 
 abbrev pub choosing : (Carried → State → Found) → Reading → List ℕ → State → Reply
 choosing choose (Read carried) bytes s = placedIn (find (carried .number) s) (choose carried s) carried bytes s
-choosing choose (Refused why) bytes s = taking bytes s
+choosing choose (Refused why) bytes s = takeGroup bytes s
 
 -- the highest free slot
 abbrev highestFree : ℕ → State → Found
@@ -379,7 +431,7 @@ takes-by-number-breaks p =
 -- every group takes a slot of its own
 abbrev anotherAs : Reading → List ℕ → State → Reply
 anotherAs (Read carried) bytes s = placedIn Nothing (free s) carried bytes s
-anotherAs (Refused why) bytes s = taking bytes s
+anotherAs (Refused why) bytes s = takeGroup bytes s
 
 abbrev pub takesAnother : List ℕ → State → Reply
 takesAnother bytes s = anotherAs (readingOf bytes) bytes s
@@ -395,7 +447,7 @@ takes-another-breaks p = let m = p twice .0 refl 1 (omega arith) in never (eqb 5
 
 -- DROPPED, and the slot stays as it was
 abbrev pub keepsSlot : ℕ → State → Reply
-keepsSlot number s = answering (dropping number s .answer) s
+keepsSlot number s = answering (dropNumber number s .answer) s
 
 -- a number under which nothing is stored holds no slot
 pub keeps-slot-breaks : ¬ (UnheldExactly (droppingBy keepsSlot))
@@ -407,8 +459,8 @@ keeps-slot-breaks p =
 -- NOTHELD for every number, and it is dropped
 abbrev pub dropsUnsaid : ℕ → State → Reply
 dropsUnsaid number s = record {
-  answer = pick (sound s) Answer.NotHeld Answer.State;
-  left = withCounts (s .counts) (dropping number s .left);
+  answer = pick (sound s) (Answer.Denied Reason.NotHeld) (Answer.Denied Reason.State);
+  left = withCounts (s .counts) (dropNumber number s .left);
 }
 
 -- and one under which something is stored does
@@ -430,14 +482,14 @@ changedIn change (At i) s = record {
 }
 
 abbrev changing : (Slot → Slot) → Reading → List ℕ → State → Reply
-changing change (Refused why) bytes s = taking bytes s
+changing change (Refused why) bytes s = takeGroup bytes s
 changing change (Read carried) bytes s =
-    pick (eqb (numberOf (taking bytes s .answer)) 1)
+    pick (eqb (numberOf (takeGroup bytes s .answer)) 1)
     (record {
-      answer = taking bytes s .answer;
-      left = changedIn change (find (carried .number) (taking bytes s .left)) (taking bytes s .left);
+      answer = takeGroup bytes s .answer;
+      left = changedIn change (find (carried .number) (takeGroup bytes s .left)) (takeGroup bytes s .left);
     })
-    (taking bytes s)
+    (takeGroup bytes s)
 
 abbrev withStage : (ℕ → ℕ → Stage) → Stage → Slot → Slot
 withStage lengths Stage.Free slot = slot
@@ -462,8 +514,11 @@ bodyLength Stage.Gathering = 0
 bodyLength (Stage.Finished header body) = body
 
 -- by the lengths of the object that our collector finishes with the same segments
-lengths-break : (k : Collecting) (r : Run) (number slot : ℕ) (hs bs : List Segment) → (stored k r Header number ≡ hs) × (stored k r Body number ≡ bs) → (stored defined r Header number ≡ hs) × (stored defined r Body number ≡ bs)
-    → locating number (reachedBy defined r) ≡ Located.At slot → bodyLength (stageFor number (reachedBy k r)) ≢ bodyLength (stageFor number (reachedBy defined r)) → ¬ (FinishedLengths k)
+lengths-break : (k : Collecting) (r : Run) (number slot : ℕ) (hs bs : List Segment) → (stored k r Header number ≡ hs)
+    × (stored k r Body number ≡ bs) → (stored defined r Header number ≡ hs) × (stored defined r Body number ≡ bs)
+    → locate number (reachedBy defined r) ≡ Located.At slot
+    → bodyLength (stageFor number (reachedBy k r)) ≢ bodyLength (stageFor number (reachedBy defined r))
+    → ¬ (FinishedLengths k)
 lengths-break k r number slot hs bs c d l n p =
     let m = run-answered r .located number slot .0 l in
     let e = rw (c .0 ∙ sym (d .0), c .1 ∙ sym (d .1)) at (p r number) in
@@ -472,7 +527,8 @@ lengths-break k r number slot hs bs c d l n p =
 pub swaps-lengths-breaks : ¬ (FinishedLengths (takingBy swapsLengths))
 unfolding computing small
 swaps-lengths-breaks =
-    lengths-break (takingBy swapsLengths) one 5 0 (whole ∷ []) [] (refl, refl) (refl, refl) refl (λ e. absurd (omega arith))
+    lengths-break (takingBy swapsLengths) one 5 0 (whole ∷ []) [] (refl, refl) (refl, refl) refl
+    (λ e. absurd (omega arith))
 
 -- the body's length in whole segments
 abbrev roundedTo : ℕ → ℕ → ℕ
@@ -495,14 +551,16 @@ roundsLength bytes s = changing rounded (readingOf bytes) bytes s
 pub rounds-length-breaks : ¬ (FinishedLengths (takingBy roundsLength))
 unfolding computing small
 rounds-length-breaks =
-    lengths-break (takingBy roundsLength) many 5 0 manyHeaders manyBodies (refl, refl) (refl, refl) refl (λ e. absurd (omega arith))
+    lengths-break (takingBy roundsLength) many 5 0 manyHeaders manyBodies (refl, refl) (refl, refl) refl
+    (λ e. absurd (omega arith))
 
 -- ---- STORED, and groups that are not read
 
 -- STORED where with it every segment is in
 abbrev pub neverCompletes : List ℕ → State → Reply
 neverCompletes bytes s =
-    pick (eqb (numberOf (taking bytes s .answer)) 1) (renamed (storedAs (readingOf bytes)) bytes s) (taking bytes s)
+    pick (eqb (numberOf (takeGroup bytes s .answer)) 1) (renamed (storedAs (readingOf bytes)) bytes s)
+    (takeGroup bytes s)
 
 -- with STORED some segment is missing
 pub never-completes-breaks : ¬ (StoredExactly (takingBy neverCompletes))
@@ -514,7 +572,8 @@ never-completes-breaks p =
 -- STORED where no slot is there
 abbrev pub storesFull : List ℕ → State → Reply
 storesFull bytes s =
-    pick (eqb (numberOf (taking bytes s .answer)) 18) (renamed (storedAs (readingOf bytes)) bytes s) (taking bytes s)
+    pick (eqb (numberOf (takeGroup bytes s .answer)) 18) (renamed (storedAs (readingOf bytes)) bytes s)
+    (takeGroup bytes s)
 
 -- with STORED a slot is there
 pub stores-full-breaks : ¬ (StoredExactly (takingBy storesFull))
@@ -525,12 +584,13 @@ stores-full-breaks p =
 
 -- a group of another kind is KIND, and its check word is not asked for
 abbrev kindAs : Kind → List ℕ → State → Reply
-kindAs (Carries part) bytes s = taking bytes s
+kindAs (Carries part) bytes s = takeGroup bytes s
 kindAs Other bytes s = renamed (Answer.Refused Refusal.Kind) bytes s
 
 abbrev pub kindFirst : List ℕ → State → Reply
 kindFirst bytes s =
-    pick (eqb (numberOf (taking bytes s .answer)) 12) (kindAs (kindOf (typeNumber bytes)) bytes s) (taking bytes s)
+    pick (eqb (numberOf (takeGroup bytes s .answer)) 12) (kindAs (kindOf (typeNumber bytes)) bytes s)
+    (takeGroup bytes s)
 
 -- the first check that fails is answered
 pub kind-first-breaks : ¬ (UnreadRefused (takingBy kindFirst))
@@ -542,7 +602,8 @@ kind-first-breaks p =
 -- LENGTH for every group that is not read
 abbrev pub lengthForAll : List ℕ → State → Reply
 lengthForAll bytes s =
-    pick (between 10 16 (taking bytes s .answer)) (renamed (Answer.Refused Refusal.Length) bytes s) (taking bytes s)
+    pick (between 10 16 (takeGroup bytes s .answer)) (renamed (Answer.Refused Refusal.Length) bytes s)
+    (takeGroup bytes s)
 
 pub length-for-all-breaks : ¬ (UnreadRefused (takingBy lengthForAll))
 unfolding computing small

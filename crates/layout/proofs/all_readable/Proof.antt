@@ -11,13 +11,19 @@ use Rattle.layout.proofs.all_readable.Statement.{statement}
 use Rattle.layout.proofs.all_readable.Tie as tie
 
 abbrev Inv-loop : tie.InvT-loop
-Inv-loop words count i₀ at₀ i at = (i ≤ count) × (at ≡ 2 + i * 10) × (readableFrom words count 2 ≡ readableFrom words (count - i) at)
+Inv-loop words count i₀ at₀ i at =
+    (i ≤ count) × (at ≡ 2 + i * 10) × (readableFrom words count 2 ≡ readableFrom words (count - i) at)
 
 abbrev μ-loop : tie.MeasureT-loop
 μ-loop words count i₀ at₀ i at = count - i
 
 loop-holds : tie.Need-loop-holds Inv-loop μ-loop
-loop-holds c = (omega arith, refl, let e : c .before .args .count - 0 ≡ c .before .args .count = omega arith in rw e refl)
+loop-holds c = (
+  omega arith,
+  refl,
+  let e : c .before .args .count - 0 ≡ c .before .args .count = omega arith in
+      rw e refl,
+)
 
 slot-readable-requires : tie.Need-slot-readable-requires Inv-loop μ-loop
 slot-readable-requires c κs = search needs
@@ -26,7 +32,8 @@ returns : tie.Need-returns Inv-loop μ-loop
 returns c =
     let k = c .before .before .before in
     let a = k .before .before .args in
-    sym (k .loop .inv .2 ∙ readable-more (a .words .now) (a .count) (k .loop .i) (k .loop .at) (omega arith) ∙ rw (sym (c .before .slot-readable .ensures) ∙ not-true _ (c .if1 .taken)) refl)
+    sym (k .loop .inv .2 ∙ readable-more (a .words .now) (a .count) (k .loop .i) (k .loop .at)
+    (omega arith) ∙ rw (sym (c .before .slot-readable .ensures) ∙ not-true _ (c .if1 .taken)) refl)
 
 add-at : tie.Need-add-at Inv-loop μ-loop
 add-at c = search needs
@@ -40,13 +47,18 @@ loop-less c = search needs
 loop-again : tie.Need-loop-again Inv-loop μ-loop
 loop-again c =
     let k = c .before .before .before in
-    let a = k .before .before .args in
-    (omega arith, omega arith, k .loop .inv .2 ∙ readable-more (a .words .now) (a .count) (k .loop .i) (k .loop .at) (omega arith) ∙ rw (sym (c .before .slot-readable .ensures) ∙ not-false _ (c .if1 .left)) refl)
+    let a = k .before .before .args in (
+      omega arith,
+      omega arith,
+      k .loop .inv .2 ∙ readable-more (a .words .now) (a .count) (k .loop .i) (k .loop .at)
+          (omega arith) ∙ rw (sym (c .before .slot-readable .ensures) ∙ not-false _ (c .if1 .left)) refl,
+    )
 
 returns-2 : tie.Need-returns-2 Inv-loop μ-loop
 returns-2 c =
     let a = c .before .before .before .args in
-    sym (c .before .loop .inv .2 ∙ readable-none (a .words .now) (a .count) (c .before .loop .i) (c .before .loop .at) (omega arith))
+    sym (c .before .loop .inv .2 ∙ readable-none (a .words .now) (a .count) (c .before .loop .i) (c .before .loop .at)
+    (omega arith))
 
 pub all-readable-spec : {M : Type 1} → statement M
 all-readable-spec =

@@ -25,7 +25,8 @@ unfolding wordsOf
 returns c =
     let k = c .before .before in
     let a = k .before .before .before .before .args in
-    k .put-slots .ensures ∙ rw (two-put (a .words .now) (a .collector .limit) (a .collector .count) (k .before .before .before .before .pre)) refl
+    k .put-slots .ensures ∙ rw (two-put (a .words .now) (a .collector .limit) (a .collector .count)
+    (k .before .before .before .before .pre)) refl
 
 pub put-collector-spec : {M : Type 1} → statement M
 put-collector-spec =

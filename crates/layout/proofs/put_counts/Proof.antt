@@ -24,7 +24,8 @@ same-length : tie.Need-same-length
 same-length c = search needs
 
 returns : tie.Need-returns
-returns c = five-put (c .args .words .now) (c .args .counts .taken) (c .args .counts .repeated) (c .args .counts .refused) (c .args .counts .completed) (c .args .counts .dropped) (c .pre)
+returns c = five-put (c .args .words .now) (c .args .counts .taken) (c .args .counts .repeated)
+    (c .args .counts .refused) (c .args .counts .completed) (c .args .counts .dropped) (c .pre)
 
 pub put-counts-spec : {M : Type 1} → statement M
 put-counts-spec =

@@ -47,10 +47,20 @@ same-length c = search needs
 
 returns : tie.Need-returns
 returns c =
-    let k = c .before .before .before .before .before .before in
+    let at-before = c .before .before .before .before .before in
+    let k = at-before .before in
     let a = k .before .before .before .before .before .before .before .before .before .args in
-    rw (k .put-five .ensures, c .before .before .put-five2 .ensures, k .before .before .before .stage-tag .ensures, k .before .before .header-word .ensures, k .before .body-word .ensures)
-    (ten-put (a .words .now) (a .slot .number) (stageTag (a .slot .stage)) (headerWord (a .slot .stage)) (bodyWord (a .slot .stage)) (a .slot .header .size) (a .slot .header .end) (a .slot .header .tail) (a .slot .body .size) (a .slot .body .end) (a .slot .body .tail) (k .before .before .before .before .before .before .before .before .before .pre))
+    rw (
+      k .put-five .ensures,
+      c .before .before .put-five2 .ensures,
+      k .before .before .before .stage-tag .ensures,
+      k .before .before .header-word .ensures,
+      k .before .body-word .ensures,
+    )
+    (ten-put (a .words .now) (a .slot .number) (stageTag (a .slot .stage)) (headerWord (a .slot .stage))
+    (bodyWord (a .slot .stage)) (a .slot .header .size) (a .slot .header .end) (a .slot .header .tail)
+    (a .slot .body .size) (a .slot .body .end) (a .slot .body .tail)
+    (k .before .before .before .before .before .before .before .before .before .pre))
 
 pub put-slot-spec : {M : Type 1} → statement M
 put-slot-spec =

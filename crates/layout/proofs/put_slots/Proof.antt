@@ -14,7 +14,9 @@ use Rattle.layout.proofs.put_slots.Statement.{statement}
 use Rattle.layout.proofs.put_slots.Tie as tie
 
 abbrev Inv-loop : tie.InvT-loop
-Inv-loop words₀ slots i₀ at₀ words i at = (i ≤ 16) × (at ≡ 2 + i * 10) × (length words ≡ 162) × (take 2 words₀ ++ slotsWords slots ≡ take at words ++ slotsWords (drop i slots))
+Inv-loop words₀ slots i₀ at₀ words i at =
+    (i ≤ 16) × (at ≡ 2 + i * 10) × (length words ≡ 162)
+    × (take 2 words₀ ++ slotsWords slots ≡ take at words ++ slotsWords (drop i slots))
 
 abbrev μ-loop : tie.MeasureT-loop
 μ-loop words₀ slots i₀ at₀ words i at = 16 - i
@@ -60,8 +62,10 @@ loop-again c =
     let e : length (c .before .before .put-slot .last .0) ≡ 10 = rw (c .before .before .put-slot .ensures) refl in (
       omega arith,
       omega arith,
-      put-length (k .loop .words) (k .loop .at) (k .loop .at + 10) (c .before .before .put-slot .last .0) (omega arith) (omega arith) ∙ k .loop .inv .2,
-      k .loop .inv .3 ∙ rw (c .before .before .put-slot .ensures) (put-turn (k .loop .words) (a .t2) (k .loop .i) (k .loop .at) freeSlot (omega arith) (omega arith)),
+      put-length (k .loop .words) (k .loop .at) (k .loop .at + 10) (c .before .before .put-slot .last .0) (omega arith)
+          (omega arith) ∙ k .loop .inv .2,
+      k .loop .inv .3 ∙ rw (c .before .before .put-slot .ensures)
+          (put-turn (k .loop .words) (a .t2) (k .loop .i) (k .loop .at) freeSlot (omega arith) (omega arith)),
     )
 
 same-length : tie.Need-same-length Inv-loop μ-loop
@@ -73,7 +77,8 @@ returns c =
     let a = c .before .before .before .args in
     let e : k .at ≡ length (k .words) = omega arith in
     let n : k .i ≡ 16 = omega arith in
-    sym (k .inv .3 ∙ rw (e, take-length, n) (put-end (k .words) (a .t2) (c .before .before .before .good .1 .0 .1 .0 .1)))
+    sym (k .inv .3 ∙ rw (e, take-length, n)
+    (put-end (k .words) (a .t2) (c .before .before .before .good .1 .0 .1 .0 .1)))
 
 pub put-slots-spec : {M : Type 1} → statement M
 put-slots-spec =

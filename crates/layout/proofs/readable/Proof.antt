@@ -23,7 +23,8 @@ all-readable-requires c κs = search needs
 
 returns-3 : tie.Need-returns-3
 unfolding readable
-returns-3 c = rw (eq-eqb _ _ (c .before .before .before .if1 .left), le-leb _ _ (c .before .if2 .left)) (c .all-readable .ensures)
+returns-3 c = rw (eq-eqb _ _ (c .before .before .before .if1 .left), le-leb _ _ (c .before .if2 .left))
+    (c .all-readable .ensures)
 
 pub readable-spec : {M : Type 1} → statement M
 readable-spec =

@@ -35,7 +35,12 @@ record-at-requires-2 c κs = search needs
 
 returns : tie.Need-returns
 unfolding slotIn
-returns c = rw (c .before .before .before .number-from .ensures, c .before .before .stage-at .ensures, c .before .record-at .ensures, c .record-at2 .ensures) refl
+returns c = rw (
+  c .before .before .before .number-from .ensures,
+  c .before .before .stage-at .ensures,
+  c .before .record-at .ensures,
+  c .record-at2 .ensures,
+) refl
 
 pub slot-at-spec : {M : Type 1} → statement M
 slot-at-spec =

@@ -13,7 +13,9 @@ use Rattle.layout.proofs.slots_from.Statement.{statement}
 use Rattle.layout.proofs.slots_from.Tie as tie
 
 abbrev Inv-loop : tie.InvT-loop
-Inv-loop words slots₀ i₀ at₀ slots i at = (i ≤ 16) × (at ≡ 2 + i * 10) × (length slots ≡ 16) × (slotsFrom words 16 2 ≡ take i slots ++ slotsFrom words (16 - i) at)
+Inv-loop words slots₀ i₀ at₀ slots i at =
+    (i ≤ 16) × (at ≡ 2 + i * 10) × (length slots ≡ 16)
+    × (slotsFrom words 16 2 ≡ take i slots ++ slotsFrom words (16 - i) at)
 
 abbrev μ-loop : tie.MeasureT-loop
 μ-loop words slots₀ i₀ at₀ slots i at = 16 - i
@@ -45,8 +47,13 @@ loop-less c = search needs
 loop-again : tie.Need-loop-again Inv-loop μ-loop
 loop-again c =
     let k = c .before .before in
-    let w = k .before .before .before .args .words .now in
-    (omega arith, omega arith, simp length-set (k .loop .inv .2), k .loop .inv .3 ∙ rw (c .slot-at .ensures) (from-turn w (k .loop .slots) (k .loop .i) (k .loop .at) (omega arith) (omega arith)))
+    let w = k .before .before .before .args .words .now in (
+      omega arith,
+      omega arith,
+      simp length-set (k .loop .inv .2),
+      k .loop .inv .3 ∙ rw (c .slot-at .ensures)
+          (from-turn w (k .loop .slots) (k .loop .i) (k .loop .at) (omega arith) (omega arith)),
+    )
 
 returns : tie.Need-returns Inv-loop μ-loop
 unfolding slotsFrom

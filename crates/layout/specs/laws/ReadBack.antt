@@ -46,20 +46,23 @@ module _ (words : List ℕ) (at : ℕ) (slot : Slot) (rest : List ℕ) (here : d
       three Gathering = refl
       three (Finished header body) = refl
 
-pub slots-back : (words : List ℕ) (at : ℕ) (slots : List Slot) → drop at words ≡ slotsWords slots → Numbered slots → slotsFrom words (length slots) at ≡ slots
+pub slots-back : (words : List ℕ) (at : ℕ) (slots : List Slot) → drop at words ≡ slotsWords slots → Numbered slots
+    → slotsFrom words (length slots) at ≡ slots
 unfolding slotsFrom slotsWords
 slots-back words at [] e n = refl
 slots-back words at (slot ∷ slots) e n =
     let next : drop (at + 10) words ≡ slotsWords slots = sym (drop-drop 10 at words) ∙ ap (drop 10) e in
     rw (slot-back words at slot (slotsWords slots) e (n .0), slots-back words (at + 10) slots next (n .1)) refl
 
-slots-read : (words : List ℕ) (at count : ℕ) (slots : List Slot) → drop at words ≡ slotsWords slots → Numbered slots → count ≤ length slots → readableFrom words count at ≡ true
+slots-read : (words : List ℕ) (at count : ℕ) (slots : List Slot) → drop at words ≡ slotsWords slots → Numbered slots
+    → count ≤ length slots → readableFrom words count at ≡ true
 unfolding readableFrom slotsWords
 slots-read words at zero slots e n h = refl
 slots-read words at (suc count) [] e n h = absurd (omega (arith, h))
 slots-read words at (suc count) (slot ∷ slots) e n h =
     let next : drop (at + 10) words ≡ slotsWords slots = sym (drop-drop 10 at words) ∙ ap (drop 10) e in
-    rw (slot-reads words at slot (slotsWords slots) e (n .0)) (slots-read words (at + 10) count slots next (n .1) (omega (arith, h)))
+    rw (slot-reads words at slot (slotsWords slots) e (n .0))
+    (slots-read words (at + 10) count slots next (n .1) (omega (arith, h)))
 
 slots-length : (slots : List Slot) → length (slotsWords slots) ≡ length slots * 10
 unfolding slotsWords
@@ -71,7 +74,8 @@ module _ (c : Collector) (sixteen : length (c .slots) ≡ 16) (numbered : Number
   pub written-back : collectorFrom (wordsOf c) ≡ c
   unfolding collectorFrom wordsOf
   written-back =
-      let e : slotsFrom (wordsOf c) 16 2 ≡ c .slots = ap (λ (n : ℕ). slotsFrom (wordsOf c) n 2) (sym sixteen) ∙ slots-back (wordsOf c) 2 (c .slots) refl numbered in
+      let e : slotsFrom (wordsOf c) 16 2 ≡ c .slots =
+      ap (λ (n : ℕ). slotsFrom (wordsOf c) n 2) (sym sixteen) ∙ slots-back (wordsOf c) 2 (c .slots) refl numbered in
       rw e refl
 
   -- and holds a state
@@ -79,4 +83,5 @@ module _ (c : Collector) (sixteen : length (c .slots) ≡ 16) (numbered : Number
   unfolding readable wordsOf
   written-reads h =
       let n : length (wordsOf c) ≡ 162 = omega (arith, slots-length (c .slots), sixteen) in
-      rw (eq-eqb (length (wordsOf c)) 162 n, le-leb (c .count) 16 h) (slots-read (wordsOf c) 2 (c .count) (c .slots) refl numbered (omega (arith, sixteen)))
+      rw (eq-eqb (length (wordsOf c)) 162 n, le-leb (c .count) 16 h)
+      (slots-read (wordsOf c) 2 (c .count) (c .slots) refl numbered (omega (arith, sixteen)))

@@ -1,5 +1,8 @@
--- `lent_calls::take` meets its contract: a walk of its MIR, by hand. The borrow of the record is opened and read whole, `Collector.taken` is called on that and on the other parameters, the record that it returns is stored, and the borrow is closed at it; the rest is returned.
--- Each `&mut` goes to the callee at its own lifetime, share and ghost name, and is given up for good; of a `&` a copy goes. All that the proof knows of `Collector.taken` is that it meets its contract.
+-- `lent_calls::take` meets its contract: a walk of its code. The borrow of the record is opened and read whole,
+-- `take_counted` is called on that and on the other parameters, the record that it returns is stored, and the borrow is
+-- closed at it; the rest is returned.
+-- Each `&mut` goes to the callee at its own lifetime, share and ghost name, and is given up for good; of a `&` a copy
+-- goes. All that the proof knows of `take_counted` is that it meets its contract.
 -- Assumes nothing.
 use mathlib.Core.Path.{_≡_, refl, ap}
 use Prim.Native.Nat.{ℕ}
@@ -44,30 +47,52 @@ use denote.Exit.{yes}
 use Rattle.counts.specs.declared.Counts.{Counts}
 use Rattle.counts.proofs.Counts as T0
 use Rattle.counts.proofs.Counts.Laws as T0′
-use Rattle.collector.specs.declared.CountedAnswer.{CountedAnswer}
-use Rattle.collector.proofs.CountedAnswer as T1
-use Rattle.collector.proofs.CountedAnswer.Laws as T1′
-use Rattle.collector.specs.declared.Answered.{Answered}
-use Rattle.collector.proofs.Answered as T2
-use Rattle.collector.proofs.Answered.Laws as T2′
+use Rattle.lent_calls.specs.declared.CountedAnswer.{CountedAnswer}
+use Rattle.lent_calls.proofs.CountedAnswer as T1
+use Rattle.lent_calls.proofs.CountedAnswer.Laws as T1′
+use Rattle.lent_calls.specs.declared.Answered.{Answered}
+use Rattle.lent_calls.proofs.Answered as T2
+use Rattle.lent_calls.proofs.Answered.Laws as T2′
 use Rattle.collector.specs.declared.Collector.{Collector}
 use Rattle.collector.proofs.Collector as T3
 use Rattle.collector.proofs.Collector.Laws as T3′
-use Rattle.collector.proofs.Collector.taken as core
-use Rattle.collector.proofs.Collector.taken.Symbol as core-def
-use Rattle.collector.proofs.Collector.taken.Symbol.{name as #core}
-use Rattle.collector.proofs.Collector.taken.Met as core-thm
+use Rattle.lent_calls.proofs.take_counted as core
+use Rattle.lent_calls.proofs.take_counted.Symbol as core-def
+use Rattle.lent_calls.proofs.take_counted.Symbol.{name as #core}
+use Rattle.lent_calls.proofs.take_counted.Met as core-thm
 use Rattle.lent_calls.proofs.take.Key.{name as #f}
 use Rattle.lent_calls.proofs.take as f
 use Rattle.lent_calls.proofs.take.Statement as stated
 use Rattle.lent_calls.proofs.take.Code as code
+use Rattle.collector.specs.State.{state}
 use Rattle.collector.specs.Calls.{takeGroup}
+use Rattle.lent_calls.specs.Lent.{answered}
 
 abbrev R : RattleType
 R = T0.the-row
 
 abbrev stayed : Stays (f.ended .signature .params) (f.ended .kept)
-stayed = (stay-none (λ _. T3.the-row) yes, (stay-ref (0 ∷ []) tt (plain (λ _. R)), (stay-none-slice (1 ∷ []) tt (plain (λ _. u8)) yes, (gave-slice (2 ∷ []) tt (plain (λ _. u8)), (gave-slice (3 ∷ []) tt (plain (λ _. u8)), (gave-slice (4 ∷ []) tt (plain (λ _. u8)), tt))))))
+stayed = (
+  stay-none (λ _. T3.the-row) yes,
+  (
+    stay-ref (0 ∷ []) tt (plain (λ _. R)),
+    (
+      stay-none-slice (1 ∷ []) tt (plain
+          (λ _. u8)) yes,
+      (
+        gave-slice (2 ∷ []) tt (plain (λ _. u8)),
+        (
+          gave-slice (3 ∷ []) tt (plain (λ _. u8)),
+          (
+            gave-slice (4
+                ∷ []) tt (plain (λ _. u8)),
+            tt,
+          ),
+        ),
+      ),
+    ),
+  ),
+)
 
 -- the machine value of the record, and of what is returned beside it
 abbrev machC : Counts → Val
@@ -77,12 +102,25 @@ abbrev machP : Answered → Val
 machP r = LL.val T2.the-type T2′.the-laws r
 
 -- the contract that the proof cites
-abbrev Callee : {M : Type 1} (𝓤 : URA M) (H : Heap 𝓤) (A : Atoms 𝓤) (at-mem : Memory → SProp 𝓤) (run : Routine → Fun 𝓤) → Contract 𝓤
+abbrev Callee : {M : Type 1} (𝓤 : URA M) (H : Heap 𝓤) (A : Atoms 𝓤) (at-mem : Memory → SProp 𝓤) (run : Routine → Fun 𝓤)
+    → Contract 𝓤
 Callee 𝓤 H A at-mem run = tripleOf 𝓤 H A core.signature (core.spec 𝓤 H A at-mem run)
 
-module _ {M : Type 1} (𝓤 : URA M) (H : Heap 𝓤) (A : Atoms 𝓤) (W : Given 𝓤 H A) (at-mem : Memory → SProp 𝓤) (run : Routine → Fun 𝓤) (κ-rec κ-group κ-header κ-body κ-marks : Lft) (q-rec q-group q-header q-body q-marks : Share) (state : Collector) (b o : ℕ) (γ : GName) (h : Counts) (group : RefT (List ℕ)) (b-header o-header : ℕ) (γ-header : GName) (header : List ℕ) (b-body o-body : ℕ) (γ-body : GName) (body : List ℕ) (b-marks o-marks : ℕ) (γ-marks : GName) (marks : List ℕ) (is-state : Is T3.the-row state (LL.val T3.the-type T3′.the-laws state ∷ [])) (is-group : Is (ShrSlice (named 1) κ-group u8) group (sliceVal (group .ptr) (length (group .now)) ∷ [])) (is-header : Is (MutSlice (named 2) κ-header u8) (record { ptr = (b-header, o-header); name = γ-header; now = header }) (sliceVal (b-header, o-header) (length header) ∷ [])) (is-body : Is (MutSlice (named 3) κ-body u8) (record { ptr = (b-body, o-body); name = γ-body; now = body }) (sliceVal (b-body, o-body) (length body) ∷ [])) (is-marks : Is (MutSlice (named 4) κ-marks u8) (record { ptr = (b-marks, o-marks); name = γ-marks; now = marks }) (sliceVal (b-marks, o-marks) (length marks) ∷ [])) where
-  abbrev v-state : Val
-  v-state = LL.val T3.the-type T3′.the-laws state
+module _ {M : Type 1} (𝓤 : URA M) (H : Heap 𝓤) (A : Atoms 𝓤) (W : Given 𝓤 H A) (at-mem : Memory → SProp 𝓤) (run :
+    Routine → Fun 𝓤) (κ-rec κ-group κ-header κ-body κ-marks : Lft) (q-rec q-group q-header q-body q-marks : Share) (held
+    : Collector) (b o : ℕ) (γ : GName) (h : Counts) (group : RefT (List ℕ)) (b-header o-header : ℕ) (γ-header : GName)
+    (header : List ℕ) (b-body o-body : ℕ) (γ-body : GName) (body : List ℕ) (b-marks o-marks : ℕ) (γ-marks : GName)
+    (marks : List ℕ) (is-held : Is T3.the-row held (LL.val T3.the-type T3′.the-laws held ∷ [])) (is-group : Is (ShrSlice
+    (named 1) κ-group u8) group (sliceVal (group .ptr) (length (group .now)) ∷ [])) (is-header : Is (MutSlice (named 2)
+    κ-header u8) (record { ptr = (b-header, o-header); name = γ-header; now = header }) (sliceVal (b-header, o-header)
+    (length header) ∷ [])) (is-body : Is (MutSlice (named 3) κ-body u8) (record {
+      ptr = (b-body, o-body);
+      name = γ-body;
+      now = body;
+    }) (sliceVal (b-body, o-body) (length body) ∷ [])) (is-marks : Is (MutSlice (named 4) κ-marks u8) (record
+    { ptr = (b-marks, o-marks); name = γ-marks; now = marks }) (sliceVal (b-marks, o-marks) (length marks) ∷ [])) where
+  abbrev v-held : Val
+  v-held = LL.val T3.the-type T3′.the-laws held
 
   abbrev s-group : Val
   s-group = sliceVal (group .ptr) (length (group .now))
@@ -109,10 +147,10 @@ module _ {M : Type 1} (𝓤 : URA M) (H : Heap 𝓤) (A : Atoms 𝓤) (W : Given
   Arg = Collector × (RefT Counts × (RefT (List ℕ) × (RefT (List ℕ) × (RefT (List ℕ) × (RefT (List ℕ) × Unit {0})))))
 
   abbrev a : Arg
-  a = (state, (record { ptr = (b, o); name = γ; now = h }, (group, (x-header, (x-body, (x-marks, tt))))))
+  a = (held, (record { ptr = (b, o); name = γ; now = h }, (group, (x-header, (x-body, (x-marks, tt))))))
 
   abbrev vals : List Val × (List Val × (List Val × (List Val × (List Val × (List Val × Unit {0})))))
-  vals = (v-state ∷ [], (vptr b o ∷ [], (s-group ∷ [], (s-header ∷ [], (s-body ∷ [], (s-marks ∷ [], tt))))))
+  vals = (v-held ∷ [], (vptr b o ∷ [], (s-group ∷ [], (s-header ∷ [], (s-body ∷ [], (s-marks ∷ [], tt))))))
 
   abbrev κs : Lft × (Lft × (Lft × (Lft × (Lft × Unit {0}))))
   κs = (κ-rec, (κ-group, (κ-header, (κ-body, (κ-marks, tt)))))
@@ -130,45 +168,103 @@ module _ {M : Type 1} (𝓤 : URA M) (H : Heap 𝓤) (A : Atoms 𝓤) (W : Given
   is-rec : (r : CountedAnswer) (w : Val) → Is T1.the-row r (w ∷ []) → Is R (r .counts) (machC (r .counts) ∷ [])
   is-rec r w is = LL.owed T1.the-type T1′.the-laws r _ is .0
 
-  is-rest : (r : CountedAnswer) (w : Val) → Is T1.the-row r (w ∷ []) → Is T2.the-row (r .answered) (machP (r .answered) ∷ [])
+  is-rest : (r : CountedAnswer) (w : Val) → Is T1.the-row r (w ∷ []) → Is T2.the-row (r .answered) (machP (r .answered)
+      ∷ [])
   is-rest r w is = LL.owed T1.the-type T1′.the-laws r _ is .1 .0
 
   abbrev CalleeArg : Type 0
   CalleeArg = Collector × (Counts × (RefT (List ℕ) × (RefT (List ℕ) × (RefT (List ℕ) × (RefT (List ℕ) × Unit {0})))))
 
   abbrev ca : CalleeArg
-  ca = (state, (h, (group, (x-header, (x-body, (x-marks, tt))))))
+  ca = (held, (h, (group, (x-header, (x-body, (x-marks, tt))))))
 
   abbrev to : Callee 𝓤 H A at-mem run .Ghost
-  to = (((κ-group, (κ-header, (κ-body, (κ-marks, tt)))), (q-group, (q-header, (q-body, (q-marks, tt)))), tt, ca, (v-state ∷ [], (machC h ∷ [], (s-group ∷ [], (s-header ∷ [], (s-body ∷ [], (s-marks ∷ [], tt))))))), tt)
+  to = (
+    (
+      (κ-group, (κ-header, (κ-body, (κ-marks, tt)))),
+      (q-group, (q-header, (q-body, (q-marks, tt)))),
+      tt,
+      ca,
+      (
+        v-held
+            ∷ [],
+        (machC h ∷ [], (s-group ∷ [], (s-header ∷ [], (s-body ∷ [], (s-marks ∷ [], tt))))),
+      ),
+    ),
+    tt,
+  )
 
   abbrev tokens : Item 𝓤
-  tokens = ‵ (flft κ-group q-group) ⊛ ‵ (flft κ-header q-header) ⊛ ‵ (flft κ-body q-body) ⊛ ‵ (flft κ-marks q-marks) ⊛ ‵ ftrue
+  tokens = ‵ (flft κ-group q-group) ⊛ ‵ (flft κ-header q-header) ⊛ ‵ (flft κ-body q-body) ⊛ ‵ (flft κ-marks q-marks) ⊛ ‵
+      ftrue
 
   abbrev caller-tokens : Item 𝓤
-  caller-tokens = ‵ (flft κ-rec q-rec) ⊛ ‵ (flft κ-group q-group) ⊛ ‵ (flft κ-header q-header) ⊛ ‵ (flft κ-body q-body) ⊛ ‵ (flft κ-marks q-marks) ⊛ ‵ ftrue
+  caller-tokens = ‵ (flft κ-rec q-rec) ⊛ ‵ (flft κ-group q-group) ⊛ ‵ (flft κ-header q-header) ⊛ ‵ (flft κ-body q-body)
+      ⊛ ‵ (flft κ-marks q-marks) ⊛ ‵ ftrue
 
-  goes : Is R h (machC h ∷ []) → ent 𝓤 (⋆ 𝓤 H A (tokens ∷ ‵ (ShrSlice (named 1) κ-group u8 .own group (s-group ∷ [])) ∷ ‵ (MutSlice (named 2) κ-header u8 .own x-header (s-header ∷ [])) ∷ ‵ (MutSlice (named 3) κ-body u8 .own x-body (s-body ∷ [])) ∷ ‵ (MutSlice (named 4) κ-marks u8 .own x-marks (s-marks ∷ [])) ∷ [])) (Callee 𝓤 H A at-mem run .pre to)
+  goes : Is R h (machC h ∷ []) → ent 𝓤 (⋆ 𝓤 H A (tokens ∷ ‵ (ShrSlice (named 1) κ-group u8 .own group (s-group ∷ [])) ∷
+      ‵ (MutSlice (named 2) κ-header u8 .own x-header (s-header ∷ [])) ∷ ‵ (MutSlice (named 3) κ-body u8 .own x-body
+      (s-body ∷ [])) ∷ ‵ (MutSlice (named 4) κ-marks u8 .own x-marks (s-marks ∷ [])) ∷ [])) (Callee 𝓤 H A at-mem
+      run .pre to)
   goes g =
-      qed W (tokens ∷ ‵ (ShrSlice (named 1) κ-group u8 .own group (s-group ∷ [])) ∷ ‵ (MutSlice (named 2) κ-header u8 .own x-header (s-header ∷ [])) ∷ ‵ (MutSlice (named 3) κ-body u8 .own x-body (s-body ∷ [])) ∷ ‵ (MutSlice (named 4) κ-marks u8 .own x-marks (s-marks ∷ [])) ∷ []) ∵ nothing ! $ move ! (5 ∷ 0 ∷ []) $ fjoin ! $ move ! (4 ∷ 0 ∷ []) $ fjoin ! $ move ! (3 ∷ 0 ∷ []) $ fjoin ! $ move ! (2 ∷ 0 ∷ []) $ fjoin ! $ owned ! R (Is R) (LL.makes T0.the-type T0′.the-plain 𝓤 H A) h _ g $ fjoin ! $ owned ! T3.the-row (Is T3.the-row) (LL.makes T3.the-type T3′.the-plain 𝓤 H A) state _ is-state $ fjoin ! $ move ! (1 ∷ 0 ∷ []) $ join ! $ frame ! $ done !
+      qed W (tokens ∷ ‵ (ShrSlice (named 1) κ-group u8 .own group (s-group ∷ [])) ∷ ‵ (MutSlice (named 2) κ-header
+      u8 .own x-header (s-header ∷ [])) ∷ ‵ (MutSlice (named 3) κ-body u8 .own x-body (s-body ∷ [])) ∷ ‵ (MutSlice
+      (named 4) κ-marks u8 .own x-marks (s-marks ∷ [])) ∷ []) ∵ nothing ! $ move ! (5 ∷ 0 ∷ []) $ fjoin ! $ move !
+      (4 ∷ 0 ∷ []) $ fjoin ! $ move ! (3 ∷ 0 ∷ []) $ fjoin ! $ move ! (2 ∷ 0 ∷ []) $ fjoin ! $ owned ! R (Is R)
+      (LL.makes T0.the-type T0′.the-plain 𝓤 H A) h _ g $ fjoin ! $ owned ! T3.the-row (Is T3.the-row) (LL.makes
+      T3.the-type T3′.the-plain 𝓤 H A) held _ is-held $ fjoin ! $ move ! (1 ∷ 0 ∷ []) $ join ! $ frame ! $ done !
 
-  -- what `Collector.taken` ensures, at what it leaves
+  -- what `take_counted` ensures, at what it leaves
   abbrev Said : CountedAnswer → List ℕ → List ℕ → List ℕ → Type 0
-  Said r z-header z-body z-marks = record { answer = r .answered .answer; collector = r .answered .collector; counts = r .counts; stores = record { header = z-header; body = z-body; marks = z-marks } } ≡ takeGroup (group .now) state h (record { header = header; body = body; marks = marks })
+  Said r z-header z-body z-marks = answered (r .answered) (r .counts) (record {
+    header = z-header;
+    body = z-body;
+    marks
+        = z-marks;
+  }) ≡ takeGroup (group .now) (state held h (record { header = header; body = body; marks = marks }))
 
-  exits : (r : CountedAnswer) (z-header : List ℕ) (z-body : List ℕ) (z-marks : List ℕ) → Said r z-header z-body z-marks → length z-header ≡ length header → length z-body ≡ length body → length z-marks ≡ length marks → Is T2.the-row (r .answered) (machP (r .answered) ∷ [])
-      → ent 𝓤 (⋆ 𝓤 H A (‵ (fobs γ (R .coded .code (r .counts))) ∷ ‵ (fbor κ-rec (Body (mem R) b o γ)) ∷ ‵ (flft κ-rec q-rec) ∷ tokens ∷ ‵ (finally u8 γ-header z-header) ∷ ‵ (finally u8 γ-body z-body) ∷ ‵ (finally u8 γ-marks z-marks) ∷ ‵ (ShrSlice (named 1) κ-group u8 .own group (s-group ∷ [])) ∷ [])) (Post (machP (r .answered)))
+  exits : (r : CountedAnswer) (z-header : List ℕ) (z-body : List ℕ) (z-marks : List ℕ) → Said r z-header z-body z-marks
+      → length z-header ≡ length header → length z-body ≡ length body → length z-marks ≡ length marks → Is T2.the-row
+      (r .answered) (machP (r .answered) ∷ [])
+      → ent 𝓤 (⋆ 𝓤 H A (‵ (fobs γ (R .coded .code (r .counts))) ∷ ‵ (fbor κ-rec (Body (mem R) b o γ)) ∷ ‵ (flft κ-rec
+      q-rec) ∷ tokens ∷ ‵ (finally u8 γ-header z-header) ∷ ‵ (finally u8 γ-body z-body) ∷ ‵ (finally u8 γ-marks
+      z-marks) ∷ ‵ (ShrSlice (named 1) κ-group u8 .own group (s-group ∷ [])) ∷ [])) (Post (machP (r .answered)))
   exits r z-header z-body z-marks e l-header l-body l-marks is =
-      qed W (‵ (fobs γ (R .coded .code (r .counts))) ∷ ‵ (fbor κ-rec (Body (mem R) b o γ)) ∷ ‵ (flft κ-rec q-rec) ∷ tokens ∷ ‵ (finally u8 γ-header z-header) ∷ ‵ (finally u8 γ-body z-body) ∷ ‵ (finally u8 γ-marks z-marks) ∷ ‵ (ShrSlice (named 1) κ-group u8 .own group (s-group ∷ [])) ∷ []) ∵
-      suffices ! _ (ends-at 𝓤 H A f.ended stayed (f.clauses 𝓤 H A at-mem run) W ((κs, qs, tt, a, vals), tt) (machP (r .answered)) (r .answered) (tt, (r .counts, (tt, (z-header, (z-body, (z-marks, tt)))))) (tt, (tt, (tt, (l-header, (l-body, (l-marks, tt))))))) $
-      says ! e $ move ! (3 ∷ []) $ split ! $ move ! (1 ∷ []) $ split ! $ move ! (1 ∷ []) $ split ! $ move ! (1 ∷ []) $ split ! $ move ! (1 ∷ []) $ move ! (1 ∷ 0 ∷ []) $ join ! $ move ! (1 ∷ 0 ∷ []) $ join ! $ move ! (1 ∷ 0 ∷ []) $ join ! $ move ! (1 ∷ 0 ∷ []) $ join ! $ move ! (3 ∷ 0 ∷ []) $ join ! $ frame ! $ feqI ! (List Val) (vptr b o ∷ []) (vptr b o ∷ []) refl $ fjoin3 ! $ nothing ! $ move ! (4 ∷ 0 ∷ []) $ fjoin ! $ move ! (3 ∷ 0 ∷ []) $ fjoin ! $ move ! (2 ∷ 0 ∷ []) $ fjoin ! $ move ! (2 ∷ 0 ∷ []) $ fjoin ! $ move ! (1 ∷ 0 ∷ []) $ fjoin ! $ owned ! T3.the-row (Is T3.the-row) (LL.makes T3.the-type T3′.the-plain 𝓤 H A) state _ is-state $ fjoin ! $ owned ! T2.the-row (Is T2.the-row) (LL.makes T2.the-type T2′.the-plain 𝓤 H A) (r .answered) _ is $ move ! (1 ∷ 0 ∷ []) $ done !
+      qed W (‵ (fobs γ (R .coded .code (r .counts))) ∷ ‵ (fbor κ-rec (Body (mem R) b o γ)) ∷ ‵ (flft κ-rec q-rec) ∷
+      tokens ∷ ‵ (finally u8 γ-header z-header) ∷ ‵ (finally u8 γ-body z-body) ∷ ‵ (finally u8 γ-marks z-marks) ∷ ‵
+      (ShrSlice (named 1) κ-group u8 .own group (s-group ∷ [])) ∷ []) ∵
+      suffices ! _ (ends-at 𝓤 H A f.ended stayed (f.clauses 𝓤 H A at-mem run) W ((κs, qs, tt, a, vals), tt) (machP
+      (r .answered)) (r .answered) (tt, (r .counts, (tt, (z-header, (z-body, (z-marks, tt)))))) (
+        tt,
+        (
+          tt,
+          (
+            tt,
+            (l-header, (l-body, (l-marks, tt))),
+          ),
+        ),
+      )) $
+      says ! e $ move ! (3 ∷ []) $ split ! $ move ! (1 ∷ []) $ split ! $ move ! (1 ∷ []) $ split ! $ move ! (1 ∷ []) $
+      split ! $ move ! (1 ∷ []) $ move ! (1 ∷ 0 ∷ []) $ join ! $ move ! (1 ∷ 0 ∷ []) $ join ! $ move ! (1 ∷ 0 ∷ [])
+      $ join ! $ move ! (1 ∷ 0 ∷ []) $ join ! $ move ! (3 ∷ 0 ∷ []) $ join ! $ frame ! $ feqI ! (List Val) (vptr b o
+      ∷ []) (vptr b o ∷ []) refl $ fjoin3 ! $ nothing ! $ move ! (4 ∷ 0 ∷ []) $ fjoin ! $ move ! (3 ∷ 0 ∷ []) $
+      fjoin ! $ move ! (2 ∷ 0 ∷ []) $ fjoin ! $ move ! (2 ∷ 0 ∷ []) $ fjoin ! $ move ! (1 ∷ 0 ∷ []) $ fjoin ! $
+      owned ! T3.the-row (Is T3.the-row) (LL.makes T3.the-type T3′.the-plain 𝓤 H A) held _ is-held $ fjoin ! $ owned
+      ! T2.the-row (Is T2.the-row) (LL.makes T2.the-type T2′.the-plain 𝓤 H A) (r .answered) _ is $ move ! (1 ∷ 0 ∷
+      []) $ done !
 
-  module _ (C : Calls 𝓤 H) (Λ : Loops 𝓤 H) (fm : FmC 𝓤 H (W .laws) C) (known : Triple 𝓤 (C #core) (Callee 𝓤 H A at-mem run)) where
-    walk : ent 𝓤 (onEntry 𝓤 H A f.signature κs qs a vals) (WpFn 𝓤 H C Λ code.function (v-state ∷ vptr b o ∷ s-group ∷ s-header ∷ s-body ∷ s-marks ∷ []) Post)
+  module _ (C : Calls 𝓤 H) (Λ : Loops 𝓤 H) (fm : FmC 𝓤 H (W .laws) C) (known : Triple 𝓤 (C #core) (Callee 𝓤 H A at-mem
+      run)) where
+    walk : ent 𝓤 (onEntry 𝓤 H A f.signature κs qs a vals) (WpFn 𝓤 H C Λ code.function (v-held ∷ vptr b o ∷ s-group ∷
+        s-header ∷ s-body ∷ s-marks ∷ []) Post)
     walk =
-        qed W (caller-tokens ∷ ‵ (owns (T3.the-row ∷ MutRef (named 0) κ-rec R ∷ ShrSlice (named 1) κ-group u8 ∷ MutSlice (named 2) κ-header u8 ∷ MutSlice (named 3) κ-body u8 ∷ MutSlice (named 4) κ-marks u8 ∷ []) a vals) ∷ []) ∵ enter ! C Λ code.function (v-state ∷ vptr b o ∷ s-group ∷ s-header ∷ s-body ∷ s-marks ∷ []) _ $
-        alloc1 ! (λ l0. alloc1 ! (λ l1. alloc1 ! (λ l2. alloc1 ! (λ l3. alloc1 ! (λ l4. alloc1 ! (λ l5. alloc1 ! (λ l6. alloc1 ! (λ l7. alloc1 ! (λ l8. alloc1 ! (λ l9. alloc1 ! (λ l10. alloc1 ! (λ l11. alloc1 ! (λ l12. alloc1 ! (λ l13. alloc1 ! (λ l14. alloc0 ! $ params1 ! $
-        pass1 ! (init ! 26 refl (LL.lawful T3.the-type T3′.the-laws 𝓤 H A W .typed state _ is-state .0)) $
+        qed W (caller-tokens ∷ ‵ (owns (T3.the-row ∷ MutRef (named 0) κ-rec R ∷ ShrSlice (named 1) κ-group u8 ∷ MutSlice
+        (named 2) κ-header u8 ∷ MutSlice (named 3) κ-body u8 ∷ MutSlice (named 4) κ-marks u8 ∷ []) a vals) ∷ []) ∵
+        enter ! C Λ code.function (v-held ∷ vptr b o ∷ s-group ∷ s-header ∷ s-body ∷ s-marks ∷ []) _ $
+        alloc1 ! (λ l0. alloc1 ! (λ l1. alloc1 ! (λ l2. alloc1 ! (λ l3. alloc1 ! (λ l4. alloc1 ! (λ l5. alloc1 ! (λ l6.
+        alloc1 ! (λ l7. alloc1 ! (λ l8. alloc1 ! (λ l9. alloc1 ! (λ l10. alloc1 ! (λ l11. alloc1 ! (λ l12. alloc1 !
+        (λ l13. alloc1 ! (λ l14. alloc0 ! $ params1 ! $
+        pass1 ! (init ! 26 refl (LL.lawful T3.the-type T3′.the-laws 𝓤 H A W .typed held _ is-held .0)) $
         pass1 ! (init ! 24 refl (tt, tt)) $
         pass1 ! (init ! 22 refl (shr-slice-lawful 𝓤 H A W (named 1) κ-group u8 .typed group _ is-group .0)) $
         pass1 ! (init ! 20 refl (mut-slice-lawful 𝓤 H A W (named 2) κ-header u8 .typed x-header _ is-header .0)) $
@@ -183,7 +279,8 @@ module _ {M : Type 1} (𝓤 : URA M) (H : Heap 𝓤) (A : Atoms 𝓤) (W : Given
         fsplit3 ! $ drop ! $
         move ! (2 ∷ []) $
         fsplit ! $
-        use1 W (‵ (ShrSlice (named 1) κ-group u8 .own group (s-group ∷ [])) ⊛ ‵ (ShrSlice (named 1) κ-group u8 .own group (s-group ∷ []))) (shr-slice-copy 𝓤 H A W (named 1) κ-group u8 .twice group (s-group ∷ [])) $ split ! $
+        use1 W (‵ (ShrSlice (named 1) κ-group u8 .own group (s-group ∷ [])) ⊛ ‵ (ShrSlice (named 1) κ-group u8 .own
+        group (s-group ∷ []))) (shr-slice-copy 𝓤 H A W (named 1) κ-group u8 .twice group (s-group ∷ [])) $ split ! $
         move ! (2 ∷ []) $
         fsplit ! $
         move ! (1 ∷ []) $
@@ -203,16 +300,33 @@ module _ {M : Type 1} (𝓤 : URA M) (H : Heap 𝓤) (A : Atoms 𝓤) (W : Given
         split ! $
         move ! (1 ∷ []) $
         move ! (12 ∷ 13 ∷ 5 ∷ []) $
-        opens ! tt R {h = h} b o (λ vs. spelt ! R (Is R) (shows 𝓤 H A R) (LL.vals T0.the-type T0′.the-laws) (LL.tells T0.the-type T0′.the-laws) fullShare h vs b o $
+        opens ! tt R {h = h} b o (λ vs. spelt ! R (Is R) (shows 𝓤 H A R) (LL.vals T0.the-type T0′.the-laws) (LL.tells
+        T0.the-type T0′.the-laws) fullShare h vs b o $
         move ! (1 ∷ []) $
         peeks ! R (Is R) (shows 𝓤 H A R) h (machC h ∷ []) (λ g. drop ! $
-        assigns ! (of-opd ! (load ! (from ! (hop ! (look ! 40 refl) (stop !))) (look-raw ! 0 refl))) (from ! (stop !)) (init ! 28 refl (typedC h g)) $
-        assigns ! (addr ! (from ! (fld ! refl (hop ! (look-in ! 36 (sub ! 0 refl (whole !))) (stop !))))) (from ! (stop !)) (init ! 26 refl (tt, tt)) $
-        assigns ! (agg ! (and-then ! (load ! (from ! (stop !)) (look ! 26 refl)) (and-then ! (load ! (from ! (fld ! refl (stop !))) (look-in ! 36 (sub ! 1 refl (whole !)))) (no-more !)))) (from ! (stop !)) (init ! 24 refl (tt, (tt, (record { fits = is-header .0 .1 .0 }, tt)))) $
-        assigns ! (addr ! (from ! (fld ! refl (hop ! (look-in ! 34 (sub ! 0 refl (whole !))) (stop !))))) (from ! (stop !)) (init ! 22 refl (tt, tt)) $
-        assigns ! (agg ! (and-then ! (load ! (from ! (stop !)) (look ! 22 refl)) (and-then ! (load ! (from ! (fld ! refl (stop !))) (look-in ! 34 (sub ! 1 refl (whole !)))) (no-more !)))) (from ! (stop !)) (init ! 20 refl (tt, (tt, (record { fits = is-body .0 .1 .0 }, tt)))) $
-        assigns ! (addr ! (from ! (fld ! refl (hop ! (look-in ! 32 (sub ! 0 refl (whole !))) (stop !))))) (from ! (stop !)) (init ! 18 refl (tt, tt)) $
-        assigns ! (agg ! (and-then ! (load ! (from ! (stop !)) (look ! 18 refl)) (and-then ! (load ! (from ! (fld ! refl (stop !))) (look-in ! 32 (sub ! 1 refl (whole !)))) (no-more !)))) (from ! (stop !)) (init ! 16 refl (tt, (tt, (record { fits = is-marks .0 .1 .0 }, tt)))) $
+        assigns ! (of-opd ! (load ! (from ! (hop ! (look ! 40 refl) (stop !))) (look-raw ! 0 refl))) (from ! (stop !))
+        (init ! 28 refl (typedC h g)) $
+        assigns ! (addr ! (from ! (fld ! refl (hop ! (look-in ! 36 (sub ! 0 refl (whole !))) (stop !))))) (from ! (stop
+        !)) (init ! 26 refl (tt, tt)) $
+        assigns ! (agg ! (and-then ! (load ! (from ! (stop !)) (look ! 26 refl)) (and-then ! (load ! (from ! (fld ! refl
+        (stop !))) (look-in ! 36 (sub ! 1 refl (whole !)))) (no-more !)))) (from ! (stop !)) (init ! 24 refl (
+          tt,
+          (tt, (record { fits = is-header .0 .1 .0 }, tt)),
+        )) $
+        assigns ! (addr ! (from ! (fld ! refl (hop ! (look-in ! 34 (sub ! 0 refl (whole !))) (stop !))))) (from ! (stop
+        !)) (init ! 22 refl (tt, tt)) $
+        assigns ! (agg ! (and-then ! (load ! (from ! (stop !)) (look ! 22 refl)) (and-then ! (load ! (from ! (fld ! refl
+        (stop !))) (look-in ! 34 (sub ! 1 refl (whole !)))) (no-more !)))) (from ! (stop !)) (init ! 20 refl (
+          tt,
+          (tt, (record { fits = is-body .0 .1 .0 }, tt)),
+        )) $
+        assigns ! (addr ! (from ! (fld ! refl (hop ! (look-in ! 32 (sub ! 0 refl (whole !))) (stop !))))) (from ! (stop
+        !)) (init ! 18 refl (tt, tt)) $
+        assigns ! (agg ! (and-then ! (load ! (from ! (stop !)) (look ! 18 refl)) (and-then ! (load ! (from ! (fld ! refl
+        (stop !))) (look-in ! 32 (sub ! 1 refl (whole !)))) (no-more !)))) (from ! (stop !)) (init ! 16 refl (
+          tt,
+          (tt, (record { fits = is-marks .0 .1 .0 }, tt)),
+        )) $
         -- the call
         move ! (4 ∷ []) $
         move ! (5 ∷ 0 ∷ []) $
@@ -233,10 +347,17 @@ module _ {M : Type 1} (𝓤 : URA M) (H : Heap 𝓤) (A : Atoms 𝓤) (W : Given
         move ! (1 ∷ 0 ∷ []) $
         join ! $
         use1 W (raw (Callee 𝓤 H A at-mem run .pre to)) (goes g) $
-        calls-at ! fm (Callee 𝓤 H A at-mem run) known to (and-then ! (load ! (from ! (stop !)) (look ! 34 refl)) (and-then ! (load ! (from ! (stop !)) (look ! 20 refl)) (and-then ! (load ! (from ! (stop !)) (look ! 30 refl)) (and-then ! (load ! (from ! (stop !)) (look ! 16 refl)) (and-then ! (load ! (from ! (stop !)) (look ! 12 refl)) (and-then ! (load ! (from ! (stop !)) (look ! 8 refl)) (no-more !))))))) (λ w.
-        use1 W (later (some (λ (r : CountedAnswer). (tokens ⊛ ‵ (T1.the-row .own r (w ∷ []))) ⊛ raw (ensured 𝓤 H A core.ended (core.clauses 𝓤 H A at-mem run) (κ-group, (κ-header, (κ-body, (κ-marks, tt)))) ca tt r)))) (id⊢ 𝓤 _) $ await ! tt $ pick ! (λ r. split ! $
+        calls-at ! fm (Callee 𝓤 H A at-mem run) known to (and-then ! (load ! (from ! (stop !)) (look ! 34 refl))
+        (and-then ! (load ! (from ! (stop !)) (look ! 20 refl)) (and-then ! (load ! (from ! (stop !)) (look ! 30
+        refl)) (and-then ! (load ! (from ! (stop !)) (look ! 16 refl)) (and-then ! (load ! (from ! (stop !)) (look !
+        12 refl)) (and-then ! (load ! (from ! (stop !)) (look ! 8 refl)) (no-more !))))))) (λ w.
+        use1 W (later (some (λ (r : CountedAnswer). (tokens ⊛ ‵ (T1.the-row .own r (w ∷ []))) ⊛ raw (ensured 𝓤 H A
+        core.ended (core.clauses 𝓤 H A at-mem run) (κ-group, (κ-header, (κ-body, (κ-marks, tt)))) ca tt r)))) (id⊢ 𝓤
+        _) $ await ! tt $ pick ! (λ r. split ! $
         move ! (1 ∷ []) $
-        use1 W (some (λ (zs : Unit {0} × (Unit {0} × (Unit {0} × (List ℕ × (List ℕ × (List ℕ × Unit {0})))))). ‵ (lasts core.ended (κ-group, (κ-header, (κ-body, (κ-marks, tt)))) ca zs) ⊛ raw (fact 𝓤 (Said r (zs .1 .1 .1 .0) (zs .1 .1 .1 .1 .0) (zs .1 .1 .1 .1 .1 .0))))) (id⊢ 𝓤 _) $ pick ! (λ zs. split ! $
+        use1 W (some (λ (zs : Unit {0} × (Unit {0} × (Unit {0} × (List ℕ × (List ℕ × (List ℕ × Unit {0})))))). ‵ (lasts
+        core.ended (κ-group, (κ-header, (κ-body, (κ-marks, tt)))) ca zs) ⊛ raw (fact 𝓤 (Said r (zs .1 .1 .1 .0)
+        (zs .1 .1 .1 .1 .0) (zs .1 .1 .1 .1 .1 .0))))) (id⊢ 𝓤 _) $ pick ! (λ zs. split ! $
         move ! (1 ∷ []) $
         heard ! (Said r (zs .1 .1 .1 .0) (zs .1 .1 .1 .1 .0) (zs .1 .1 .1 .1 .1 .0)) (λ e.
         fsplit ! $
@@ -263,31 +384,82 @@ module _ {M : Type 1} (𝓤 : URA M) (H : Heap 𝓤) (A : Atoms 𝓤) (W : Given
         split ! $
         move ! (1 ∷ []) $
         peeks ! T1.the-row (Is T1.the-row) (shows 𝓤 H A T1.the-row) r (w ∷ []) (λ is.
-        land ! (from ! (stop !)) (init ! 30 refl (LL.lawful T1.the-type T1′.the-laws 𝓤 H A W .typed r _ is .0)) $ rewrite ! 30 (λ (u : Val). ‵ (fat fullShare T1′.mir l7 0 u)) (ap only (LL.tells T1.the-type T1′.the-laws r _ is)) refl $
+        land ! (from ! (stop !)) (init ! 30 refl (LL.lawful T1.the-type T1′.the-laws 𝓤 H A W .typed r _ is .0)) $
+        rewrite ! 30 (λ (u : Val). ‵ (fat fullShare T1′.mir l7 0 u)) (ap only (LL.tells T1.the-type T1′.the-laws r _
+        is)) refl $
         -- the record is stored, and the rest returned
-        assigns ! (of-opd ! (load ! (from ! (fld ! refl (stop !))) (look-in ! 30 (sub ! 0 refl (whole !))))) (from ! (hop ! (look ! 40 refl) (stop !))) (store-raw ! 9 refl (typedC (r .counts) (is-rec r w is))) $
-        assigns ! (of-opd ! (load ! (from ! (fld ! refl (stop !))) (look-in ! 30 (sub ! 1 refl (whole !))))) (from ! (stop !)) (init ! 44 refl (LL.lawful T2.the-type T2′.the-laws 𝓤 H A W .typed (r .answered) _ (is-rest r w is) .0)) $
+        assigns ! (of-opd ! (load ! (from ! (fld ! refl (stop !))) (look-in ! 30 (sub ! 0 refl (whole !))))) (from !
+        (hop ! (look ! 40 refl) (stop !))) (store-raw ! 9 refl (typedC (r .counts) (is-rec r w is))) $
+        assigns ! (of-opd ! (load ! (from ! (fld ! refl (stop !))) (look-in ! 30 (sub ! 1 refl (whole !))))) (from !
+        (stop !)) (init ! 44 refl (LL.lawful T2.the-type T2′.the-laws 𝓤 H A W .typed (r .answered) _ (is-rest r w
+        is) .0)) $
         owned ! R (Is R) (LL.makes T0.the-type T0′.the-plain 𝓤 H A) (r .counts) _ (is-rec r w is) $
         move ! (10 ∷ 0 ∷ 11 ∷ 12 ∷ 13 ∷ []) $
         closes ! tt R (r .counts) (machC (r .counts) ∷ []) b o $
-        returns ! (look ! 43 refl) $ forget ! 15 refl $ forget ! 17 refl $ forget ! 19 refl $ forget ! 21 refl $ forget ! 23 refl $ forget ! 25 refl $ forget ! 27 refl $ forget ! 29 refl $ forget ! 31 refl $ forget ! 33 refl $ forget ! 35 refl $ forget ! 37 refl $ forget ! 39 refl $ forget ! 41 refl $ forget ! 43 refl $
-        move ! (43 ∷ 44 ∷ []) $ free1 ! $ move ! (41 ∷ 42 ∷ []) $ free1 ! $ move ! (39 ∷ 40 ∷ []) $ free1 ! $ move ! (37 ∷ 38 ∷ []) $ free1 ! $ move ! (35 ∷ 36 ∷ []) $ free1 ! $ move ! (33 ∷ 34 ∷ []) $ free1 ! $ move ! (31 ∷ 32 ∷ []) $ free1 ! $ move ! (29 ∷ 30 ∷ []) $ free1 ! $ move ! (27 ∷ 28 ∷ []) $ free1 ! $ move ! (25 ∷ 26 ∷ []) $ free1 ! $ move ! (23 ∷ 24 ∷ []) $ free1 ! $ move ! (21 ∷ 22 ∷ []) $ free1 ! $ move ! (19 ∷ 20 ∷ []) $ free1 ! $ move ! (17 ∷ 18 ∷ []) $ free1 ! $ move ! (15 ∷ 16 ∷ []) $ free1 ! $ free0 ! $
-        keep ! (0 ∷ 1 ∷ 2 ∷ 4 ∷ 8 ∷ 7 ∷ 5 ∷ 13 ∷ []) $ by ! (exits r (zs .1 .1 .1 .0) (zs .1 .1 .1 .1 .0) (zs .1 .1 .1 .1 .1 .0) e l-header l-body l-marks (is-rest r w is)))))))))))))))))))))))))))
+        returns ! (look ! 43 refl) $ forget ! 15 refl $ forget ! 17 refl $ forget ! 19 refl $ forget ! 21 refl $ forget
+        ! 23 refl $ forget ! 25 refl $ forget ! 27 refl $ forget ! 29 refl $ forget ! 31 refl $ forget ! 33 refl $
+        forget ! 35 refl $ forget ! 37 refl $ forget ! 39 refl $ forget ! 41 refl $ forget ! 43 refl $
+        move ! (43 ∷ 44 ∷ []) $ free1 ! $ move ! (41 ∷ 42 ∷ []) $ free1 ! $ move ! (39 ∷ 40 ∷ []) $ free1 ! $ move ! (37
+        ∷ 38 ∷ []) $ free1 ! $ move ! (35 ∷ 36 ∷ []) $ free1 ! $ move ! (33 ∷ 34 ∷ []) $ free1 ! $ move ! (31 ∷ 32 ∷
+        []) $ free1 ! $ move ! (29 ∷ 30 ∷ []) $ free1 ! $ move ! (27 ∷ 28 ∷ []) $ free1 ! $ move ! (25 ∷ 26 ∷ []) $
+        free1 ! $ move ! (23 ∷ 24 ∷ []) $ free1 ! $ move ! (21 ∷ 22 ∷ []) $ free1 ! $ move ! (19 ∷ 20 ∷ []) $ free1
+        ! $ move ! (17 ∷ 18 ∷ []) $ free1 ! $ move ! (15 ∷ 16 ∷ []) $ free1 ! $ free0 ! $
+        keep ! (0 ∷ 1 ∷ 2 ∷ 4 ∷ 8 ∷ 7 ∷ 5 ∷ 13 ∷ []) $ by ! (exits r (zs .1 .1 .1 .0) (zs .1 .1 .1 .1 .0)
+        (zs .1 .1 .1 .1 .1 .0) e l-header l-body l-marks (is-rest r w is)))))))))))))))))))))))))))
 
-module _ {M : Type 1} (𝓤 : URA M) (H : Heap 𝓤) (A : Atoms 𝓤) (W : Given 𝓤 H A) (at-mem : Memory → SProp 𝓤) (run : Routine → Fun 𝓤) where
-  f-walks : (C : Calls 𝓤 H) (Λ : Loops 𝓤 H) → FmC 𝓤 H (W .laws) C → Triple 𝓤 (C #core) (Callee 𝓤 H A at-mem run) → Walks 𝓤 H A f.ended stayed (WpFn 𝓤 H C Λ code.function) (f.clauses 𝓤 H A at-mem run)
-  f-walks C Λ fm known = walked 𝓤 H A f.ended stayed (f.clauses 𝓤 H A at-mem run) (WpFn 𝓤 H C Λ code.function) (λ κs. (LL.vals T3.the-type T3′.the-laws, (ptr-vals, (slice-vals, (slice-vals, (slice-vals, (slice-vals, tt)))))))
-      (λ κs. (LL.tells T3.the-type T3′.the-laws, (mut-tells (named 0) (κs .0) R, (shr-slice-tells (named 1) (κs .1 .0) u8, (mut-slice-tells (named 2) (κs .1 .1 .0) u8, (mut-slice-tells (named 3) (κs .1 .1 .1 .0) u8, (mut-slice-tells (named 4) (κs .1 .1 .1 .1 .0) u8, tt)))))))
-      (λ κs qs bounds a g are. via 𝓤 _ (fst∗ 𝓤 _ (emp 𝓤)) (walk 𝓤 H A W at-mem run (κs .0) (κs .1 .0) (κs .1 .1 .0) (κs .1 .1 .1 .0) (κs .1 .1 .1 .1 .0) (qs .0) (qs .1 .0) (qs .1 .1 .0) (qs .1 .1 .1 .0) (qs .1 .1 .1 .1 .0) (a .0) (a .1 .0 .ptr .0) (a .1 .0 .ptr .1) (a .1 .0 .name) (a .1 .0 .now) (a .1 .1 .0) (a .1 .1 .1 .0 .ptr .0) (a .1 .1 .1 .0 .ptr .1) (a .1 .1 .1 .0 .name) (a .1 .1 .1 .0 .now) (a .1 .1 .1 .1 .0 .ptr .0) (a .1 .1 .1 .1 .0 .ptr .1) (a .1 .1 .1 .1 .0 .name) (a .1 .1 .1 .1 .0 .now) (a .1 .1 .1 .1 .1 .0 .ptr .0) (a .1 .1 .1 .1 .1 .0 .ptr .1) (a .1 .1 .1 .1 .1 .0 .name) (a .1 .1 .1 .1 .1 .0 .now) (are .0) (are .1 .1 .0) (are .1 .1 .1 .0) (are .1 .1 .1 .1 .0) (are .1 .1 .1 .1 .1 .0) C Λ fm known))
+module _ {M : Type 1} (𝓤 : URA M) (H : Heap 𝓤) (A : Atoms 𝓤) (W : Given 𝓤 H A) (at-mem : Memory → SProp 𝓤) (run :
+    Routine → Fun 𝓤) where
+  f-walks : (C : Calls 𝓤 H) (Λ : Loops 𝓤 H) → FmC 𝓤 H (W .laws) C → Triple 𝓤 (C #core) (Callee 𝓤 H A at-mem run) → Walks
+      𝓤 H A f.ended stayed (WpFn 𝓤 H C Λ code.function) (f.clauses 𝓤 H A at-mem run)
+  f-walks C Λ fm known = walked 𝓤 H A f.ended stayed (f.clauses 𝓤 H A at-mem run) (WpFn 𝓤 H C Λ code.function) (λ κs.
+      (LL.vals T3.the-type T3′.the-laws, (ptr-vals, (slice-vals, (slice-vals, (slice-vals, (slice-vals, tt)))))))
+      (λ κs. (
+        LL.tells T3.the-type T3′.the-laws,
+        (
+          mut-tells (named 0) (κs .0) R,
+          (
+            shr-slice-tells (named 1) (κs .1 .0)
+                u8,
+            (
+              mut-slice-tells (named 2) (κs .1 .1 .0) u8,
+              (
+                mut-slice-tells (named 3) (κs .1 .1 .1 .0) u8,
+                (mut-slice-tells (named 4) (κs .1 .1 .1 .1 .0) u8, tt),
+              ),
+            ),
+          ),
+        ),
+      ))
+      (λ κs qs bounds a g are. via 𝓤 _ (fst∗ 𝓤 _ (emp 𝓤)) (walk 𝓤 H A W at-mem run (κs .0) (κs .1 .0) (κs .1 .1 .0)
+      (κs .1 .1 .1 .0) (κs .1 .1 .1 .1 .0) (qs .0) (qs .1 .0) (qs .1 .1 .0) (qs .1 .1 .1 .0) (qs .1 .1 .1 .1 .0)
+      (a .0) (a .1 .0 .ptr .0) (a .1 .0 .ptr .1) (a .1 .0 .name) (a .1 .0 .now) (a .1 .1 .0) (a .1 .1 .1 .0 .ptr .0)
+      (a .1 .1 .1 .0 .ptr .1) (a .1 .1 .1 .0 .name) (a .1 .1 .1 .0 .now) (a .1 .1 .1 .1 .0 .ptr .0)
+      (a .1 .1 .1 .1 .0 .ptr .1) (a .1 .1 .1 .1 .0 .name) (a .1 .1 .1 .1 .0 .now) (a .1 .1 .1 .1 .1 .0 .ptr .0)
+      (a .1 .1 .1 .1 .1 .0 .ptr .1) (a .1 .1 .1 .1 .1 .0 .name) (a .1 .1 .1 .1 .1 .0 .now) (are .0) (are .1 .1 .0)
+      (are .1 .1 .1 .0) (are .1 .1 .1 .1 .0) (are .1 .1 .1 .1 .1 .0) C Λ fm known))
 
   goes-all : AllGo 𝓤 H A W 5 (f.signature .params) (f.ended .kept) stayed
-  goes-all = (goes-none 𝓤 H A W 5 (λ _. T3.the-row) yes (λ κs x f. refl), (goes-ref 𝓤 H A W 5 0 tt (plain (λ _. R)), (goes-none-slice 𝓤 H A W 5 (1 ∷ []) tt (plain (λ _. u8)) yes, (goes-gave-slice 𝓤 H A W 5 2 tt (plain (λ _. u8)), (goes-gave-slice 𝓤 H A W 5 3 tt (plain (λ _. u8)), (goes-gave-slice 𝓤 H A W 5 4 tt (plain (λ _. u8)), tt))))))
+  goes-all = (
+    goes-none 𝓤 H A W 5 (λ _. T3.the-row) yes (λ κs x f. refl),
+    (
+      goes-ref 𝓤 H A W 5 0 tt (plain (λ _. R)),
+      (
+        goes-none-slice 𝓤 H A W 5 (1 ∷ []) tt (plain (λ _. u8)) yes,
+        (
+          goes-gave-slice 𝓤 H A W 5 2 tt (plain (λ _. u8)),
+          (goes-gave-slice 𝓤 H A W 5 3 tt (plain (λ _. u8)), (goes-gave-slice 𝓤 H A W 5 4 tt (plain (λ _. u8)), tt)),
+        ),
+      ),
+    ),
+  )
 
-f-meets : {M : Type 1} (𝓤 : URA M) (H : Heap 𝓤) (A : Atoms 𝓤) → Given 𝓤 H A → (at-mem : Memory → SProp 𝓤) (run : Routine → Fun 𝓤) (𝓣 : Tables 𝓤 H) → Triple 𝓤 (𝓣 .C #core) (Callee 𝓤 H A at-mem run)
+f-meets : {M : Type 1} (𝓤 : URA M) (H : Heap 𝓤) (A : Atoms 𝓤) → Given 𝓤 H A → (at-mem : Memory → SProp 𝓤) (run : Routine
+    → Fun 𝓤) (𝓣 : Tables 𝓤 H) → Triple 𝓤 (𝓣 .C #core) (Callee 𝓤 H A at-mem run)
     → Meets 𝓤 H A f.signature (WpFn 𝓤 H (𝓣 .C) (𝓣 .Λ) code.function) (f.spec 𝓤 H A at-mem run)
 f-meets 𝓤 H A W at-mem run 𝓣 known =
     walk-meets 𝓤 H A f.ended stayed W (goes-all 𝓤 H A W at-mem run) (f.clauses 𝓤 H A at-mem run)
-    (WpFn 𝓤 H (𝓣 .C) (𝓣 .Λ) code.function) (WpFn-mono 𝓤 H (W .laws) 𝓣 code.function) (f-walks 𝓤 H A W at-mem run (𝓣 .C) (𝓣 .Λ) (fmOf 𝓤 H (W .laws) 𝓣) known)
+    (WpFn 𝓤 H (𝓣 .C) (𝓣 .Λ) code.function) (WpFn-mono 𝓤 H (W .laws) 𝓣 code.function) (f-walks 𝓤 H A W at-mem run (𝓣 .C)
+    (𝓣 .Λ) (fmOf 𝓤 H (W .laws) 𝓣) known)
 
 pub take-spec : {M : Type 1} → stated.statement M
 unfolding code.routine tablesOf
@@ -295,4 +467,5 @@ take-spec 𝓤 H 𝓜 𝓖 𝓡 =
     entered 𝓤 H (tripleOf 𝓤 H (𝓖 .A) f.signature (f.spec 𝓤 H (𝓖 .A) (𝓜 .mem) (𝓡 .run)))
     (tables 𝓤 H 𝓜 𝓡 code.env .C) (tables 𝓤 H 𝓜 𝓡 code.env .Λ) #f code.function (code.unfolded 𝓤 H 𝓜 𝓡)
     (f-meets 𝓤 H (𝓖 .A) (givenOf 𝓤 H 𝓜 𝓖) (𝓜 .mem) (𝓡 .run) (tablesOf 𝓤 H 𝓜 (tables 𝓤 H 𝓜 𝓡 code.env))
-    (cited 𝓤 H (Callee 𝓤 H (𝓖 .A) (𝓜 .mem) (𝓡 .run)) 𝓜 𝓡 code.env #core core-def.routine code.calls-collector·Collector·taken (core-thm.met 𝓤 H 𝓜 𝓖 𝓡)))
+    (cited 𝓤 H (Callee 𝓤 H (𝓖 .A) (𝓜 .mem) (𝓡 .run)) 𝓜 𝓡 code.env #core core-def.routine
+    code.calls-lent-calls·take-counted (core-thm.met 𝓤 H 𝓜 𝓖 𝓡)))

@@ -2,11 +2,9 @@
 -- Assumes nothing.
 use mathlib.Core.Path.{sym, _∙_}
 use borrow.Author.Needs.{needs}
-use Rattle.slots.specs.Stores.{Stores}
-use Rattle.collector.specs.Calls.{Answered}
-use Rattle.listing.specs.declared.Done.{Done}
-use Rattle.listing.specs.Listed.{storesOf}
-use Rattle.listing.proofs.Served.{served-group, served-drop, served-malformed}
+use Rattle.collector.specs.State.{stores}
+use Rattle.lent_calls.specs.Lent.{answered}
+use Rattle.listing.proofs.Served.{storesOf, served-group, served-drop, served-malformed}
 use Rattle.listing.proofs.list_line.Statement.{statement}
 use Rattle.listing.proofs.list_line.Tie as tie
 
@@ -40,36 +38,42 @@ enum-told c = search needs
 say-malformed-requires : tie.Need-say-malformed-requires
 say-malformed-requires c κs = search needs
 
-abbrev stores : tie.Start → Stores
-stores s = storesOf (s .args .header .now) (s .args .body .now) (s .args .marks .now)
-
-abbrev answered : Done → Stores → Answered
-answered done left = record { answer = done .answered .answer; collector = done .answered .collector; counts = done .counts; stores = left }
-
 returns : tie.Need-returns
 returns c =
-    let s = c .before .before .before .before .before .before .before .before .before .before .before .before .before .before .before .before in
-    let reads = c .before .before .before .before .before .before .before .before .before .before .before .read .ensures in
-    let told = sym (reads .0) ∙ c .before .before .before .before .before .before .before .before .before .count .given .1 in
-    let left = storesOf (c .before .taken .last .1 .1 .1 .0) (c .before .taken .last .1 .1 .1 .1 .0) (c .before .taken .last .1 .1 .1 .1 .1 .0) in
-    rw (c .say-done .ensures)
-    (served-group (s .args .line .now) (s .args .held) (s .args .group .now) (stores s) _ (reads .1) _ _ (answered (c .before .taken .result) left) told
-    (c .before .before .before .before .before .front .ensures) (c .before .taken .ensures))
+    let at-front = c .before .before .before .before .before in
+    let at-count = at-front .before .before .before .before in
+    let at-read = at-count .before .before in
+    let start = at-read .before .before .before .before .before in
+    let a = start .args in
+    let reads = at-read .read .ensures in
+    let told = sym (reads .0) ∙ at-count .count .given .1 in
+    let done = c .before .taken .result in
+    let last = c .before .taken .last .1 .1 .1 in
+    let left = storesOf (last .0) (last .1 .0) (last .1 .1 .0) in
+    rw (c .say-done .ensures) (served-group (a .line .now) (a .held) (a .group .now)
+    (stores (a .header) (a .body) (a .marks)) _ (reads .1) _ _ (answered (done .answered) (done .counts) left) told
+    (at-front .front .ensures) (c .before .taken .ensures))
 
 returns-2 : tie.Need-returns-2
 returns-2 c =
-    let s = c .before .before .before .before .before .before .before .before .before .before .before .before .before .before .before in
-    let reads = c .before .before .before .before .before .before .before .before .before .before .read .ensures in
-    let told = sym (reads .0) ∙ c .before .before .before .before .before .before .before .before .transport .given .1 in
-    let left = storesOf (s .args .header .now) (s .args .body .now) (c .before .dropped .last .1 .1 .1 .1 .1 .0) in
-    rw (c .say-done2 .ensures)
-    (served-drop (s .args .line .now) (s .args .held) (s .args .group .now) (stores s) _ (reads .1) _ (answered (c .before .dropped .result) left) told (c .before .dropped .ensures))
+    let at-transport = c .before .before .before .before .before .before .before .before in
+    let at-read = at-transport .before .before in
+    let start = at-read .before .before .before .before .before in
+    let a = start .args in
+    let reads = at-read .read .ensures in
+    let told = sym (reads .0) ∙ at-transport .transport .given .1 in
+    let done = c .before .dropped .result in
+    let left = storesOf (a .header .now) (a .body .now) (c .before .dropped .last .1 .1 .1 .1 .1 .0) in
+    rw (c .say-done2 .ensures) (served-drop (a .line .now) (a .held) (a .group .now)
+    (stores (a .header) (a .body) (a .marks)) _ (reads .1) _ (answered (done .answered) (done .counts) left) told
+    (c .before .dropped .ensures))
 
 returns-3 : tie.Need-returns-3
 returns-3 c =
-    let s = c .before .before .before .before .before .before .before .before in
+    let a = c .before .before .before .before .before .before .before .before .args in
     let reads = c .before .before .before .read .ensures in
-    served-malformed (s .args .line .now) (s .args .held) (s .args .group .now) (stores s) _ (reads .1) (sym (reads .0) ∙ c .before .enum-told .given .1)
+    served-malformed (a .line .now) (a .held) (a .group .now) (stores (a .header) (a .body) (a .marks)) _ (reads .1)
+    (sym (reads .0) ∙ c .before .enum-told .given .1)
 
 pub list-line-spec : {M : Type 1} → statement M
 list-line-spec =

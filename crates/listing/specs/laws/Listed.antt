@@ -20,22 +20,27 @@ use Rattle.listing.specs.Listed.{Served, served, Listed, listedAs, nextO
 
 -- ---- a line's end
 
-pub line-listed : (l : Listed) (number : ℕ) (line : List ℕ) (left : Served) → number ≡ nextOf (l .listing .lines) → line ≡ take (l .listing .kept) (l .line)
+pub line-listed : (l : Listed) (number : ℕ) (line : List ℕ) (left : Served) → number ≡ nextOf (l .listing .lines)
+    → line ≡ take (l .listing .kept) (l .line)
     → left ≡ served line (l .listing .held) (l .group) (l .stores) → numbered number (l .line) left ≡ lineListed l
 unfolding lineListed
 line-listed l number line left counts fronts serves = rw (counts, serves, fronts)
 
 -- ---- pieces of a line
 
-room-joined : (kept : ℕ) (first then : List ℕ) → roomFor most kept (first ++ then) ≡ roomFor most kept first ++ roomFor most (kept + length (roomFor most kept first)) then
+room-joined : (kept : ℕ) (first then : List ℕ)
+    → roomFor most kept (first ++ then)
+    ≡ roomFor most kept first ++ roomFor most (kept + length (roomFor most kept first)) then
 unfolding roomFor
 room-joined kept first then =
     let room = length (take (most - kept) first) in
     let less : most - kept - room ≡ most - (kept + room) = omega arith in
     front-joined (most - kept) first then ∙ ap (λ (n : ℕ). take (most - kept) first ++ take n then) less
 
-same-kept : (lines : ℕ) {kept more : ℕ} (held : Held) {line after : List ℕ} (group : List ℕ) (stores : Stores) → kept ≡ more → line ≡ after
-    → listedAs (record { lines = lines; kept = kept; held = held }) line group stores ≡ listedAs (record { lines = lines; kept = more; held = held }) after group stores
+same-kept : (lines : ℕ) {kept more : ℕ} (held : Held) {line after : List ℕ} (group : List ℕ) (stores : Stores)
+    → kept ≡ more → line ≡ after
+    → listedAs (record { lines = lines; kept = kept; held = held }) line group stores
+    ≡ listedAs (record { lines = lines; kept = more; held = held }) after group stores
 same-kept lines held group stores k e = rw (k, e)
 
 module _ (l : Listed) where
@@ -44,7 +49,8 @@ module _ (l : Listed) where
   piece-none =
       let kept = l .listing .kept in
       let none : _≡_ {A = List ℕ} (take (most - kept) []) [] = take-nil (most - kept) in
-      same-kept (l .listing .lines) (l .listing .held) (l .group) (l .stores) (rw none (omega arith)) (rw none (sym (over-nothing (l .line) kept)))
+      same-kept (l .listing .lines) (l .listing .held) (l .group) (l .stores) (rw none (omega arith))
+      (rw none (sym (over-nothing (l .line) kept)))
 
   piece-joined : (first then : List ℕ) → pieceListed (first ++ then) l ≡ pieceListed then (pieceListed first l)
   unfolding pieceListed
@@ -53,8 +59,10 @@ module _ (l : Listed) where
       let parts = room-joined kept first then in
       let room = roomFor most kept first in
       let rest = roomFor most (kept + length room) then in
-      let more : kept + length (roomFor most kept (first ++ then)) ≡ kept + length room + length rest = rw (parts, length-append) (omega arith) in
-      same-kept (l .listing .lines) (l .listing .held) (l .group) (l .stores) more (rw parts (sym (over-on (l .line) kept room rest)))
+      let more : kept + length (roomFor most kept (first ++ then)) ≡ kept + length room + length rest =
+      rw (parts, length-append) (omega arith) in
+      same-kept (l .listing .lines) (l .listing .held) (l .group) (l .stores) more
+      (rw parts (sym (over-on (l .line) kept room rest)))
 
 -- ---- one character more
 
@@ -63,7 +71,8 @@ module _ (character : ℕ) (input : List ℕ) (l : Listed) where
   unfolding inputListed
   listed-newline e = rw e
 
-  pub listed-other : (character ≡ newline → ⊥) → inputListed (character ∷ input) l ≡ inputListed input (pieceListed (character ∷ []) l)
+  pub listed-other : (character ≡ newline → ⊥)
+      → inputListed (character ∷ input) l ≡ inputListed input (pieceListed (character ∷ []) l)
   unfolding inputListed
   listed-other n = rw (ne-eqb character newline n)
 
@@ -73,44 +82,64 @@ input-none l = refl
 
 -- ---- the input in two parts
 
-pub input-joined : (first then : List ℕ) (l : Listed) → inputListed (first ++ then) l ≡ inputListed then (inputListed first l)
+pub input-joined : (first then : List ℕ) (l : Listed)
+    → inputListed (first ++ then) l ≡ inputListed then (inputListed first l)
 input-joined [] then l = sym (ap (inputListed then) (input-none l))
-input-joined (character ∷ first) then l = one (ℕ-discrete character newline) (input-joined first then (lineListed l)) (input-joined first then (pieceListed (character ∷ []) l))
+input-joined (character ∷ first) then l =
+    one (ℕ-discrete character newline) (input-joined first then (lineListed l))
+    (input-joined first then (pieceListed (character ∷ []) l))
   where
-    one : Dec (character ≡ newline) → inputListed (first ++ then) (lineListed l) ≡ inputListed then (inputListed first (lineListed l))
-        → inputListed (first ++ then) (pieceListed (character ∷ []) l) ≡ inputListed then (inputListed first (pieceListed (character ∷ []) l))
+    one : Dec (character ≡ newline)
+        → inputListed (first ++ then) (lineListed l) ≡ inputListed then (inputListed first (lineListed l))
+        → inputListed (first ++ then) (pieceListed (character ∷ []) l)
+        ≡ inputListed then (inputListed first (pieceListed (character ∷ []) l))
         → inputListed (character ∷ (first ++ then)) l ≡ inputListed then (inputListed (character ∷ first) l)
-    one (yes p) e f = listed-newline character (first ++ then) l p ∙ e ∙ sym (ap (inputListed then) (listed-newline character first l p))
-    one (no n) e f = listed-other character (first ++ then) l n ∙ f ∙ sym (ap (inputListed then) (listed-other character first l n))
+    one (yes p) e f = listed-newline character (first ++ then) l p ∙ e ∙ sym
+        (ap (inputListed then) (listed-newline character first l p))
+    one (no n) e f = listed-other character (first ++ then) l n ∙ f ∙ sym
+        (ap (inputListed then) (listed-other character first l n))
 
 -- ---- up to a newline, or to the end
 
 input-ends : (input : List ℕ) (l : Listed) → length (before input) < length input
-    → inputListed input l ≡ inputListed (drop (length (before input) + 1) input) (lineListed (pieceListed (before input) l))
+    → inputListed input l ≡ inputListed (drop (length (before input) + 1) input)
+    (lineListed (pieceListed (before input) l))
 input-ends [] l h = absurd (omega arith)
-input-ends (character ∷ input) l h = one (ℕ-discrete character newline) (input-ends input (pieceListed (character ∷ []) l))
+input-ends (character ∷ input) l h =
+    one (ℕ-discrete character newline) (input-ends input (pieceListed (character ∷ []) l))
   where
     one : Dec (character ≡ newline)
         → (length (before input) < length input
-        → inputListed input (pieceListed (character ∷ []) l) ≡ inputListed (drop (length (before input) + 1) input) (lineListed (pieceListed (before input) (pieceListed (character ∷ []) l))))
-        → inputListed (character ∷ input) l ≡ inputListed (drop (length (before (character ∷ input)) + 1) (character ∷ input)) (lineListed (pieceListed (before (character ∷ input)) l))
+        → inputListed input (pieceListed (character ∷ []) l)
+        ≡ inputListed (drop (length (before input) + 1) input)
+        (lineListed (pieceListed (before input) (pieceListed (character ∷ []) l))))
+        → inputListed (character ∷ input) l
+        ≡ inputListed (drop (length (before (character ∷ input)) + 1) (character ∷ input))
+        (lineListed (pieceListed (before (character ∷ input)) l))
     one (yes p) next = rw (listed-newline character input l p, before-newline character input p, piece-none l)
     one (no n) next =
-        let within : length (before input) < length input = let e = ap length (before-other character input n) in omega arith in
+        let within : length (before input) < length input = let e = ap length (before-other character input n) in
+        omega arith in
         let more : suc (length (before input)) + 1 ≡ suc (length (before input) + 1) = omega arith in
         rw (listed-other character input l n, before-other character input n)
         (next within ∙ rw (more, piece-joined l (character ∷ []) (before input)))
 
-input-goes : (input : List ℕ) (l : Listed) → length input ≤ length (before input) → inputListed input l ≡ pieceListed (before input) l
+input-goes : (input : List ℕ) (l : Listed) → length input ≤ length (before input)
+    → inputListed input l ≡ pieceListed (before input) l
 unfolding before
 input-goes [] l h = input-none l ∙ sym (piece-none l)
-input-goes (character ∷ input) l h = one (ℕ-discrete character newline) (input-goes input (pieceListed (character ∷ []) l))
+input-goes (character ∷ input) l h =
+    one (ℕ-discrete character newline) (input-goes input (pieceListed (character ∷ []) l))
   where
-    one : Dec (character ≡ newline) → (length input ≤ length (before input) → inputListed input (pieceListed (character ∷ []) l) ≡ pieceListed (before input) (pieceListed (character ∷ []) l))
+    one : Dec (character ≡ newline)
+        → (length input ≤ length (before input)
+        → inputListed input (pieceListed (character ∷ []) l)
+        ≡ pieceListed (before input) (pieceListed (character ∷ []) l))
         → inputListed (character ∷ input) l ≡ pieceListed (before (character ∷ input)) l
     one (yes p) next = let e = ap length (before-newline character input p) in absurd (omega arith)
     one (no n) next =
-        let all : length input ≤ length (before input) = let e = ap length (before-other character input n) in omega arith in
+        let all : length input ≤ length (before input) = let e = ap length (before-other character input n) in
+        omega arith in
         rw (listed-other character input l n, before-other character input n)
         (next all ∙ sym (piece-joined l (character ∷ []) (before input)))
 
@@ -118,15 +147,19 @@ input-goes (character ∷ input) l h = one (ℕ-discrete character newline) (inp
 
 -- what is carried after a call of `gather`
 abbrev keptListed : ℕ → List ℕ → Listed → Listed
-keptListed kept line l = listedAs (record { lines = l .listing .lines; kept = kept; held = l .listing .held }) line (l .group) (l .stores)
+keptListed kept line l = listedAs (record { lines = l .listing .lines; kept = kept; held = l .listing .held }) line
+    (l .group) (l .stores)
 
-module _ (chunk : List ℕ) (from : ℕ) (l : Listed) (got : Gathered) (line : List ℕ) (gathers : got ≡ gathered chunk from (l .listing .kept)) (keeps : line ≡ lineAfter chunk from (l .line) (l .listing .kept)) where
+module _ (chunk : List ℕ) (from : ℕ) (l : Listed) (got : Gathered) (line : List ℕ)
+    (gathers : got ≡ gathered chunk from (l .listing .kept))
+    (keeps : line ≡ lineAfter chunk from (l .line) (l .listing .kept)) where
   kept-piece : keptListed (got .kept) line l ≡ pieceListed (before (drop from chunk)) l
   unfolding gathered lineAfter pieceListed
   kept-piece = rw (gathers, keeps)
 
   -- a newline ended the line
-  pub turn-ended : (then : Listed) → got .whole ≡ true → then ≡ lineListed (keptListed (got .kept) line l) → inputListed (drop (got .next) chunk) then ≡ inputListed (drop from chunk) l
+  pub turn-ended : (then : Listed) → got .whole ≡ true → then ≡ lineListed (keptListed (got .kept) line l)
+      → inputListed (drop (got .next) chunk) then ≡ inputListed (drop from chunk) l
   unfolding lineEnd
   turn-ended then whole lists =
       let input = drop from chunk in
@@ -134,18 +167,21 @@ module _ (chunk : List ℕ) (from : ℕ) (l : Listed) (got : Gathered) (line : L
       let within : length (before input) < length input = omega (arith, ends .0, length-drop from chunk) in
       let place : from + (length (before input) + 1) ≡ from + length (before input) + 1 = omega arith in
       let next : drop (got .next) chunk ≡ drop (length (before input) + 1) input =
-      rw (gathers, ends .1) (ap (λ (at : ℕ). drop at chunk) (sym place) ∙ sym (drop-drop (length (before input) + 1) from chunk)) in
+      rw (gathers, ends .1) (ap (λ (at : ℕ). drop at chunk) (sym place) ∙ sym
+      (drop-drop (length (before input) + 1) from chunk)) in
       rw (next, lists, kept-piece) (sym (input-ends input l within))
 
   -- the chunk ended first, and nothing is left of it
-  pub turn-kept : got .whole ≡ false → inputListed (drop (got .next) chunk) (keptListed (got .kept) line l) ≡ inputListed (drop from chunk) l
+  pub turn-kept : got .whole ≡ false
+      → inputListed (drop (got .next) chunk) (keptListed (got .kept) line l) ≡ inputListed (drop from chunk) l
   unfolding lineEnd gathered
   turn-kept part =
       let input = drop from chunk in
       let some = ap (λ (g : Gathered). g .whole) (sym gathers) ∙ part in
       let past = goes-past chunk from (l .listing .kept) some in
       let all : length input ≤ length (before input) = omega (arith, length-drop from chunk) in
-      let none : drop (got .next) chunk ≡ [] = rw gathers (drop-of-length-le chunk {i = gathered chunk from (l .listing .kept) .next} (rw some past)) in
+      let none : drop (got .next) chunk ≡ [] =
+      rw gathers (drop-of-length-le chunk {i = gathered chunk from (l .listing .kept) .next} (rw some past)) in
       rw (none, kept-piece) (input-none (pieceListed (before input) l) ∙ sym (input-goes input l all))
 
 -- ---- the input's end

@@ -47,7 +47,9 @@ same-length c = search needs
 both-stored : (l : List ℕ) (n a b : ℕ) → n + 2 ≤ length l → set (set l n a) (n + 1) b ≡ over l n (a ∷ b ∷ [])
 both-stored l n a b h =
     ap (λ (m : List ℕ). set (set m n a) (n + 1) b) (over-none l n (a ∷ b ∷ []))
-    ∙ ap (λ (m : List ℕ). set m (n + 1) b) (ap (λ (k : ℕ). set (over l n []) k a) (sym (add-zero n)) ∙ over-more l n (a ∷ b ∷ []) 0 (omega arith) (omega arith))
+    ∙ ap (λ (m : List ℕ). set m (n + 1) b)
+    (ap (λ (k : ℕ). set (over l n []) k a) (sym (add-zero n)) ∙ over-more l n (a ∷ b ∷ []) 0 (omega arith)
+    (omega arith))
     ∙ over-more l n (a ∷ b ∷ []) 1 (omega arith) (omega arith)
 
 returns : tie.Need-returns

@@ -26,51 +26,72 @@ same-length c = search needs
 
 returns : tie.Need-returns
 returns c =
-    rw (asks-whole (c .before .before .before .before .before .before .before .args .letter) (c .before .before .before .before .before .before .before .args .digits .now) (c .before .before .before .before .if1 .taken)) (ap Group (c .before .before .decode .ensures .0), c .before .before .decode .ensures .1)
+    let start = c .before .before .before .before .before .before .before in
+    rw (asks-whole (start .args .letter) (start .args .digits .now) (c .before .before .before .before .if1 .taken))
+    (ap Group (c .before .before .decode .ensures .0), c .before .before .decode .ensures .1)
 
 decode-requires-2 : tie.Need-decode-requires-2
 decode-requires-2 c κs = search needs
 
 add-check-requires : tie.Need-add-check-requires
 add-check-requires c κs =
-    let digits = c .before .before .before .before .before .before .before .before .before .args .digits .now in
+    let start = c .before .before .before .before .before .before .before .before .before in
+    let digits = start .args .digits .now in
     let long = c .before .before .before .decode2 .kept in
-    omega (arith, bytes-length digits, c .before .before .before .decode2 .ensures .0, c .before .before .before .decode2 .kept .1 .0)
+    omega (
+      arith,
+      bytes-length digits,
+      c .before .before .before .decode2 .ensures .0,
+      c .before .before .before .decode2 .kept .1 .0,
+    )
 
 same-length-2 : tie.Need-same-length-2
 same-length-2 c = search needs
 
 -- the check word, laid behind the bytes that it is of
 unchecked : (group bytes decoded checked : List ℕ) (count : ℕ) → count ≡ length bytes → decoded ≡ over group 0 bytes
-    → checked ≡ over decoded count (checkOf (take count decoded)) → 0 + length bytes ≤ length group → checked ≡ over group 0 (bytes ++ checkOf bytes)
+    → checked ≡ over decoded count (checkOf (take count decoded)) → 0 + length bytes ≤ length group
+    → checked ≡ over group 0 (bytes ++ checkOf bytes)
 unchecked group bytes decoded checked count c d e h =
-    e ∙ rw (d, c) (rw (over-inside group 0 bytes h) (rw (← zero-add (length bytes)) (over-joined group 0 bytes h (checkOf bytes))))
+    e ∙ rw (d, c) (rw (over-inside group 0 bytes h)
+    (rw (← zero-add (length bytes)) (over-joined group 0 bytes h (checkOf bytes))))
 
 returns-2 : tie.Need-returns-2
 unfolding checkOf
 returns-2 c =
-    let digits = c .before .before .before .before .before .before .before .before .before .before .before .before .args .digits .now in
-    let group = c .before .before .before .before .before .before .before .before .before .before .before .before .args .group .now in
-    let counted = c .before .before .before .before .before .before .decode2 .ensures .0 in
-    rw (asks-unchecked (c .before .before .before .before .before .before .before .before .before .before .before .before .args .letter) (c .before .before .before .before .before .before .before .before .before .before .before .before .args .digits .now) (c .before .before .before .before .before .before .before .before .if2 .taken)) (
-      ap Group (c .before .before .add-check .ensures .0 ∙ rw counted (sym (length-append (bytesOf digits) (checkOf (bytesOf digits))))),
-      unchecked group (bytesOf digits) _ _ _ counted (c .before .before .before .before .before .before .decode2 .ensures .1) (c .before .before .add-check .ensures .1) (omega (arith, bytes-length digits)),
+    let at-decode2 = c .before .before .before .before .before .before in
+    let at-if2 = at-decode2 .before .before in
+    let start = at-if2 .before .before .before .before in
+    let digits = start .args .digits .now in
+    let group = start .args .group .now in
+    let counted = at-decode2 .decode2 .ensures .0 in
+    rw (asks-unchecked (start .args .letter) (start .args .digits .now) (at-if2 .if2 .taken)) (
+      ap Group (c .before .before .add-check .ensures .0 ∙ rw counted
+          (sym (length-append (bytesOf digits) (checkOf (bytesOf digits))))),
+      unchecked group (bytesOf digits) _ _ _ counted (at-decode2 .decode2 .ensures .1)
+          (c .before .before .add-check .ensures .1) (omega (arith, bytes-length digits)),
     )
 
 returns-3 : tie.Need-returns-3
 returns-3 c =
-    rw (asks-other-letter (c .before .before .before .before .before .args .letter) (c .before .before .before .before .before .args .digits .now) (c .before .before .if1 .left) (c .before .if2 .left) (c .if3 .taken)) (refl, over-nothing _ 0)
+    let start = c .before .before .before .before .before in
+    rw (asks-other-letter (start .args .letter) (start .args .digits .now) (c .before .before .if1 .left)
+    (c .before .if2 .left) (c .if3 .taken)) (refl, over-nothing _ 0)
 
 returns-4 : tie.Need-returns-4
 returns-4 c =
-    rw (asks-other-count (c .before .before .before .before .before .before .args .letter) (c .before .before .before .before .before .before .args .digits .now) (c .before .if3 .left) (c .if4 .taken)) (refl, over-nothing _ 0)
+    let start = c .before .before .before .before .before .before in
+    rw (asks-other-count (start .args .letter) (start .args .digits .now) (c .before .if3 .left) (c .if4 .taken))
+    (refl, over-nothing _ 0)
 
 number-requires : tie.Need-number-requires
 number-requires c κs = search needs
 
 returns-5 : tie.Need-returns-5
 returns-5 c =
-    rw (asks-drop (c .before .before .before .before .before .before .before .args .letter) (c .before .before .before .before .before .before .before .args .digits .now) (c .before .before .if3 .left) (c .before .if4 .left)) (ap Drop (c .number .ensures), over-nothing _ 0)
+    let start = c .before .before .before .before .before .before .before in
+    rw (asks-drop (start .args .letter) (start .args .digits .now) (c .before .before .if3 .left)
+    (c .before .if4 .left)) (ap Drop (c .number .ensures), over-nothing _ 0)
 
 pub asked-spec : {M : Type 1} → statement M
 asked-spec =

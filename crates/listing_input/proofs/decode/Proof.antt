@@ -17,7 +17,8 @@ use Rattle.listing_input.proofs.decode.Statement.{statement}
 use Rattle.listing_input.proofs.decode.Tie as tie
 
 abbrev Inv-loop : tie.InvT-loop
-Inv-loop digits group₀ count i₀ group i = (i ≤ count) × (length group ≡ length group₀) × (group ≡ over group₀ 0 (take i (bytesOf digits)))
+Inv-loop digits group₀ count i₀ group i =
+    (i ≤ count) × (length group ≡ length group₀) × (group ≡ over group₀ 0 (take i (bytesOf digits)))
 
 abbrev μ-loop : tie.MeasureT-loop
 μ-loop digits group₀ count i₀ group i = count - i
@@ -38,7 +39,11 @@ mul-group : tie.Need-mul-group Inv-loop μ-loop
 mul-group c =
     let digits = c .before .before .before .before .before .before .args .digits .now in
     let i = c .before .before .before .loop .i in
-    omega (arith, hex-digit digits (i * 2) (c .before .before .before .before .before .before .pre .0) (omega arith), c .digit .ensures)
+    omega (
+      arith,
+      hex-digit digits (i * 2) (c .before .before .before .before .before .before .pre .0) (omega arith),
+      c .digit .ensures,
+    )
 
 mul-digit-2 : tie.Need-mul-digit-2 Inv-loop μ-loop
 mul-digit-2 c = omega arith
@@ -57,7 +62,13 @@ add-group c =
     let digits = c .before .before .before .before .before .before .before .before .args .digits .now in
     let i = c .before .before .before .before .before .loop .i in
     let hex = c .before .before .before .before .before .before .before .before .pre .0 in
-    omega (arith, hex-digit digits (i * 2) hex (omega arith), hex-digit digits (i * 2 + 1) hex (omega arith), c .before .before .digit .ensures, c .digit2 .ensures)
+    omega (
+      arith,
+      hex-digit digits (i * 2) hex (omega arith),
+      hex-digit digits (i * 2 + 1) hex (omega arith),
+      c .before .before .digit .ensures,
+      c .digit2 .ensures,
+    )
 
 slice-write-group : tie.Need-slice-write-group Inv-loop μ-loop
 slice-write-group c = omega arith
@@ -74,10 +85,16 @@ loop-again c =
     let group₀ = c .before .before .before .before .before .before .before .before .args .group .now in
     let i = c .before .before .before .before .before .loop .i in
     let byte = c .before .before .digit .result * 16 + c .digit2 .result in
-    let same : byte ≡ getD (bytesOf digits) i 0 = rw (c .before .before .digit .ensures, c .digit2 .ensures) (sym (byte-at digits i (omega arith))) in
-    let more : set (over group₀ 0 (take i (bytesOf digits))) (0 + i) (getD (bytesOf digits) i 0) ≡ over group₀ 0 (take (i + 1) (bytesOf digits)) =
-    over-more group₀ 0 (bytesOf digits) i (omega arith) (omega (arith, bytes-length digits)) in
-    (omega arith, simp length-set (c .before .before .before .before .before .loop .inv .1), ap₂ (λ (l : List ℕ) (b : ℕ). set l i b) (c .before .before .before .before .before .loop .inv .2) same ∙ rw zero-add at more)
+    let same : byte ≡ getD (bytesOf digits) i 0 =
+    rw (c .before .before .digit .ensures, c .digit2 .ensures) (sym (byte-at digits i (omega arith))) in
+    let more : set (over group₀ 0 (take i (bytesOf digits))) (0 + i) (getD (bytesOf digits) i 0)
+    ≡ over group₀ 0 (take (i + 1) (bytesOf digits)) =
+    over-more group₀ 0 (bytesOf digits) i (omega arith) (omega (arith, bytes-length digits)) in (
+      omega arith,
+      simp length-set (c .before .before .before .before .before .loop .inv .1),
+      ap₂ (λ (l : List ℕ) (b : ℕ). set l i b)
+          (c .before .before .before .before .before .loop .inv .2) same ∙ rw zero-add at more,
+    )
 
 same-length : tie.Need-same-length Inv-loop μ-loop
 same-length c = c .before .loop .inv .1
@@ -85,7 +102,8 @@ same-length c = c .before .loop .inv .1
 returns : tie.Need-returns Inv-loop μ-loop
 returns c =
     let digits = c .before .before .before .before .args .digits .now in
-    let all : take (c .before .loop .i) (bytesOf digits) ≡ bytesOf digits = take-all (c .before .loop .i) (bytesOf digits) (omega (arith, bytes-length digits)) in
+    let all : take (c .before .loop .i) (bytesOf digits) ≡ bytesOf digits =
+    take-all (c .before .loop .i) (bytesOf digits) (omega (arith, bytes-length digits)) in
     (sym (bytes-length digits), c .before .loop .inv .2 ∙ rw all)
 
 pub decode-spec : {M : Type 1} → statement M

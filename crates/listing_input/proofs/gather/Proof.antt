@@ -21,7 +21,8 @@ kept-as : (chunk : List ℕ) (from kept room end : ℕ) → end ≡ lineEnd chun
     → roomFor room kept (take (end - from) (drop from chunk)) ≡ roomFor most kept (before (drop from chunk))
 kept-as chunk from kept room end e r = rw (r, e, piece-is chunk from)
 
-module _ (chunk : List ℕ) (from kept end now : ℕ) (ends : end ≡ lineEnd chunk from) (keeps : now ≡ kept + length (roomFor most kept (before (drop from chunk)))) where
+module _ (chunk : List ℕ) (from kept end now : ℕ) (ends : end ≡ lineEnd chunk from)
+    (keeps : now ≡ kept + length (roomFor most kept (before (drop from chunk)))) where
   gathered-whole : end < length chunk → gathered chunk from kept ≡ record { next = end + 1; kept = now; whole = true }
   unfolding gathered
   gathered-whole h = rw (← ends, ← keeps, lt-ltb end (length chunk) h)
@@ -34,7 +35,8 @@ nothing : (kept : ℕ) → roomFor most kept [] ≡ []
 unfolding roomFor
 nothing kept = take-nil (most - kept)
 
-unchanged : (chunk : List ℕ) (from : ℕ) (line : List ℕ) (kept : ℕ) → before (drop from chunk) ≡ [] → line ≡ lineAfter chunk from line kept
+unchanged : (chunk : List ℕ) (from : ℕ) (line : List ℕ) (kept : ℕ) → before (drop from chunk) ≡ []
+    → line ≡ lineAfter chunk from line kept
 unfolding lineAfter
 unchanged chunk from line kept e = rw (e, nothing kept) (over-nothing line kept)
 
@@ -44,7 +46,8 @@ returns c =
     let from = c .before .before .args .from in
     let kept = c .before .before .args .kept in
     let none = none-left chunk from (c .if1 .taken) in (
-      sym (gathered-part chunk from kept from kept (sym (end-here chunk from none)) (rw (none, nothing kept) (omega arith)) (c .if1 .taken)),
+      sym (gathered-part chunk from kept from kept (sym (end-here chunk from none))
+          (rw (none, nothing kept) (omega arith)) (c .if1 .taken)),
       unchanged chunk from (c .before .before .args .line .now) kept none,
     )
 
@@ -53,15 +56,21 @@ line-end-requires c κs = search needs
 
 sub-keep : tie.Need-sub-keep
 sub-keep c =
-    rw (c .before .line-end .ensures) (starts-before (c .before .before .before .before .args .chunk .now) (c .before .before .before .before .args .from))
+    rw (c .before .line-end .ensures)
+    (starts-before (c .before .before .before .before .args .chunk .now)
+    (c .before .before .before .before .args .from))
 
 part-keep-start : tie.Need-part-keep-start
 part-keep-start c =
-    rw (c .before .line-end .ensures) (starts-before (c .before .before .before .before .args .chunk .now) (c .before .before .before .before .args .from))
+    rw (c .before .line-end .ensures)
+    (starts-before (c .before .before .before .before .args .chunk .now)
+    (c .before .before .before .before .args .from))
 
 part-keep-end : tie.Need-part-keep-end
 part-keep-end c =
-    rw (c .before .line-end .ensures) (ends-within (c .before .before .before .before .args .chunk .now) (c .before .before .before .before .args .from) (omega arith))
+    rw (c .before .line-end .ensures)
+    (ends-within (c .before .before .before .before .args .chunk .now) (c .before .before .before .before .args .from)
+    (omega arith))
 
 keep-requires : tie.Need-keep-requires
 keep-requires c κs = search needs
@@ -72,28 +81,32 @@ add-t14 c = search needs
 returns-2 : tie.Need-returns-2
 unfolding lineAfter
 returns-2 c =
-    let chunk = c .before .before .before .before .before .before .before .args .chunk .now in
-    let from = c .before .before .before .before .before .before .before .args .from in
-    let line = c .before .before .before .before .before .before .before .args .line .now in
-    let kept = c .before .before .before .before .before .before .before .args .kept in
+    let start = c .before .before .before .before .before .before .before in
+    let chunk = start .args .chunk .now in
+    let from = start .args .from in
+    let line = start .args .line .now in
+    let kept = start .args .kept in
     let ends = c .before .before .before .before .line-end .ensures in
     let long : length line ≡ most = search needs in
     let same = kept-as chunk from kept (length line) _ ends long in (
-      sym (gathered-whole chunk from kept _ _ ends (c .before .keep .ensures .0 ∙ ap (λ (piece : List ℕ). kept + length piece) same) (c .if2 .taken)),
+      sym (gathered-whole chunk from kept _ _ ends
+          (c .before .keep .ensures .0 ∙ ap (λ (piece : List ℕ). kept + length piece) same) (c .if2 .taken)),
       c .before .keep .ensures .1 ∙ ap (over line kept) same,
     )
 
 returns-3 : tie.Need-returns-3
 unfolding lineAfter
 returns-3 c =
-    let chunk = c .before .before .before .before .before .before .before .args .chunk .now in
-    let from = c .before .before .before .before .before .before .before .args .from in
-    let line = c .before .before .before .before .before .before .before .args .line .now in
-    let kept = c .before .before .before .before .before .before .before .args .kept in
+    let start = c .before .before .before .before .before .before .before in
+    let chunk = start .args .chunk .now in
+    let from = start .args .from in
+    let line = start .args .line .now in
+    let kept = start .args .kept in
     let ends = c .before .before .before .before .line-end .ensures in
     let long : length line ≡ most = search needs in
     let same = kept-as chunk from kept (length line) _ ends long in (
-      sym (gathered-part chunk from kept _ _ ends (c .before .keep .ensures .0 ∙ ap (λ (piece : List ℕ). kept + length piece) same) (c .if2 .left)),
+      sym (gathered-part chunk from kept _ _ ends
+          (c .before .keep .ensures .0 ∙ ap (λ (piece : List ℕ). kept + length piece) same) (c .if2 .left)),
       c .before .keep .ensures .1 ∙ ap (over line kept) same,
     )
 

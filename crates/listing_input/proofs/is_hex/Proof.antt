@@ -48,8 +48,11 @@ loop-again : tie.Need-loop-again Inv-loop μ-loop
 loop-again c =
     let text = c .before .before .before .before .before .before .before .args .text .now in
     let at = c .before .before .before .before .loop .i in
-    let right : digitOf (getD text at 0) < 16 = omega (arith, c .before .digit .ensures) in
-    (omega arith, c .before .before .before .before .loop .inv .1 ∙ digits-on text at (omega arith) ∙ rw (lt-ltb _ _ right))
+    let right : digitOf (getD text at 0) < 16 = omega (arith, c .before .digit .ensures) in (
+      omega arith,
+      c .before .before .before .before .loop .inv .1 ∙ digits-on text at
+          (omega arith) ∙ rw (lt-ltb _ _ right),
+    )
 
 returns-3 : tie.Need-returns-3 Inv-loop μ-loop
 unfolding allDigits

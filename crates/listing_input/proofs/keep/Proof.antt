@@ -44,12 +44,16 @@ same-length c = search needs
 
 returns-2 : tie.Need-returns-2
 returns-2 c =
-    let line = c .before .before .before .before .before .before .before .before .args .line .now in
-    let kept = c .before .before .before .before .before .before .before .before .args .kept in
-    let piece = c .before .before .before .before .before .before .before .before .args .piece .now in
+    let start = c .before .before .before .before .before .before .before .before in
+    let line = start .args .line .now in
+    let kept = start .args .kept in
+    let piece = start .args .piece .now in
     let room = length line - kept in
-    rw (room-for-all (length line) kept piece (omega arith))
-    (refl, ap (putMid kept room line) (c .before .before .copy-in .ensures) ∙ over-start line kept room piece (omega arith) (omega arith))
+    rw (room-for-all (length line) kept piece (omega arith)) (
+      refl,
+      ap (putMid kept room line) (c .before .before .copy-in .ensures) ∙ over-start line kept room piece
+          (omega arith) (omega arith),
+    )
 
 sub-copy-in-2 : tie.Need-sub-copy-in-2
 sub-copy-in-2 c = search needs
@@ -76,12 +80,16 @@ same-length-2 c = search needs
 returns-3 : tie.Need-returns-3
 unfolding roomFor
 returns-3 c =
-    let line = c .before .before .before .before .before .before .before .before .before .args .line .now in
-    let kept = c .before .before .before .before .before .before .before .before .before .args .kept in
-    let piece = c .before .before .before .before .before .before .before .before .before .args .piece .now in
+    let start = c .before .before .before .before .before .before .before .before .before in
+    let line = start .args .line .now in
+    let kept = start .args .kept in
+    let piece = start .args .piece .now in
     let room = length line - kept in
-    let taken : length (take room piece) ≡ room = length-take-le room piece (omega arith) in
-    (rw taken, ap (putMid kept room line) (c .before .before .copy-in2 .ensures) ∙ over-start line kept room (take room piece) (rw taken (omega arith)) (omega arith))
+    let taken : length (take room piece) ≡ room = length-take-le room piece (omega arith) in (
+      rw taken,
+      ap (putMid kept room line) (c .before .before .copy-in2 .ensures) ∙ over-start line kept room
+          (take room piece) (rw taken (omega arith)) (omega arith),
+    )
 
 pub keep-spec : {M : Type 1} → statement M
 keep-spec =

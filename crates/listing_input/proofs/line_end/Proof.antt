@@ -25,7 +25,8 @@ returns : tie.Need-returns Inv-loop μ-loop
 returns c =
     let chunk = c .before .before .before .before .args .chunk .now in
     let at = c .before .before .before .loop .i in
-    sym (c .before .before .before .loop .inv ∙ end-here chunk at (ends-here chunk at (c .before .before .loop-test .taken) (c .if1 .taken)))
+    sym (c .before .before .before .loop .inv ∙ end-here chunk at
+    (ends-here chunk at (c .before .before .loop-test .taken) (c .if1 .taken)))
 
 add-i : tie.Need-add-i Inv-loop μ-loop
 add-i c = omega arith
@@ -36,7 +37,8 @@ loop-less c = omega arith
 loop-again : tie.Need-loop-again Inv-loop μ-loop
 loop-again c =
     c .before .before .before .loop .inv
-    ∙ end-on (c .before .before .before .before .args .chunk .now) (c .before .before .before .loop .i) (c .before .before .loop-test .taken) (c .if1 .left)
+    ∙ end-on (c .before .before .before .before .args .chunk .now) (c .before .before .before .loop .i)
+    (c .before .before .loop-test .taken) (c .if1 .left)
 
 returns-2 : tie.Need-returns-2 Inv-loop μ-loop
 returns-2 c =

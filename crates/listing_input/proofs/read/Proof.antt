@@ -32,7 +32,8 @@ shared-slice-read-if3 c = search needs
 
 returns-3 : tie.Need-returns-3
 returns-3 c =
-    rw (no-tab (c .before .before .before .before .before .args .line .now) (c .before .before .before .if1 .left) (c .if3 .taken)) (refl, over-nothing _ 0)
+    let start = c .before .before .before .before .before in
+    rw (no-tab (start .args .line .now) (c .before .before .before .if1 .left) (c .if3 .taken)) (refl, over-nothing _ 0)
 
 sub-digits : tie.Need-sub-digits
 sub-digits c = search needs
@@ -48,8 +49,12 @@ is-hex-requires c κs = search needs
 
 returns-4 : tie.Need-returns-4
 returns-4 c =
-    let line = c .before .before .before .before .before .before .before .before .args .line .now in
-    rw (no-hex line (c .before .before .before .before .before .before .if1 .left) (c .before .before .before .if3 .left) (ap isHex (sym (to-the-end line)) ∙ sym (c .before .is-hex .ensures) ∙ not-true _ (c .if4 .taken))) (refl, over-nothing _ 0)
+    let at-if1 = c .before .before .before .before .before .before in
+    let start = at-if1 .before .before in
+    let line = start .args .line .now in
+    rw (no-hex line (at-if1 .if1 .left) (c .before .before .before .if3 .left)
+    (ap isHex (sym (to-the-end line)) ∙ sym (c .before .is-hex .ensures) ∙ not-true _ (c .if4 .taken)))
+    (refl, over-nothing _ 0)
 
 shared-slice-read-asked : tie.Need-shared-slice-read-asked
 shared-slice-read-asked c = search needs
@@ -62,9 +67,13 @@ asked-requires c κs =
 
 returns-5 : tie.Need-returns-5
 returns-5 c =
-    let line = c .before .before .before .before .before .before .before .before .before .before .before .args .line .now in
-    let hex = ap isHex (sym (to-the-end line)) ∙ sym (c .before .before .before .before .is-hex .ensures) ∙ not-false _ (c .before .before .before .if4 .left) in
-    rw (well-formed line (c .before .before .before .before .before .before .before .before .before .if1 .left) (c .before .before .before .before .before .before .if3 .left) hex)
+    let at-if3 = c .before .before .before .before .before .before in
+    let at-if1 = at-if3 .before .before .before in
+    let start = at-if1 .before .before in
+    let line = start .args .line .now in
+    let hex = ap isHex (sym (to-the-end line)) ∙ sym (c .before .before .before .before .is-hex .ensures) ∙ not-false _
+    (c .before .before .before .if4 .left) in
+    rw (well-formed line (at-if1 .if1 .left) (at-if3 .if3 .left) hex)
     (rw (← to-the-end line) (c .asked .ensures .0), rw (← to-the-end line) (c .asked .ensures .1))
 
 pub read-spec : {M : Type 1} → statement M

@@ -22,15 +22,16 @@ abbrev pub joined : List (List ℕ) → List ℕ
 joined [] = []
 joined (chunk ∷ chunks) = chunk ++ joined chunks
 
--- `gather` called over the chunks, one call after the other: at a place in the first chunk, with the line's memory and
--- how much of it is kept. A line that a newline ended is handed out, and the next one has nothing kept; at a chunk's end
--- the next chunk follows; at the input's end what is kept, if anything, is handed out
+-- `gather` called over the chunks, one call after the other: at a place in the first chunk, with the line's memory
+-- and how much of it is kept. A line that a newline ended is handed out, and the next one has nothing kept; at a
+-- chunk's end the next chunk follows; at the input's end what is kept, if anything, is handed out
 pub data Hands : List (List ℕ) → ℕ → List ℕ → ℕ → List (List ℕ) → Type 0 where
   finished : {from kept : ℕ} {line : List ℕ} → Hands [] from line kept (unended (take kept line))
   handed : {chunk : List ℕ} {chunks lines : List (List ℕ)} {from kept : ℕ} {line : List ℕ}
       → gathered chunk from kept .whole ≡ true
       → Hands (chunk ∷ chunks) (gathered chunk from kept .next) (lineAfter chunk from line kept) 0 lines
-      → Hands (chunk ∷ chunks) from line kept (take (gathered chunk from kept .kept) (lineAfter chunk from line kept) ∷ lines)
+      → Hands (chunk ∷ chunks) from line kept
+      (take (gathered chunk from kept .kept) (lineAfter chunk from line kept) ∷ lines)
   followed : {chunk : List ℕ} {chunks lines : List (List ℕ)} {from kept : ℕ} {line : List ℕ}
       → gathered chunk from kept .whole ≡ false
       → Hands chunks 0 (lineAfter chunk from line kept) (gathered chunk from kept .kept) lines
@@ -43,7 +44,8 @@ module _ (character : ℕ) (begun input : List ℕ) where
   unfolding ended
   ended-newline e = rw e
 
-  pub ended-other : (character ≡ newline → ⊥) → ended begun (character ∷ input) ≡ ended (begun ++ (character ∷ [])) input
+  pub ended-other : (character ≡ newline → ⊥)
+      → ended begun (character ∷ input) ≡ ended (begun ++ (character ∷ [])) input
   unfolding ended
   ended-other n = rw (ne-eqb character newline n)
 
@@ -51,7 +53,8 @@ module _ (character : ℕ) (begun input : List ℕ) where
   unfolding behind
   behind-newline e = rw e
 
-  pub behind-other : (character ≡ newline → ⊥) → behind begun (character ∷ input) ≡ behind (begun ++ (character ∷ [])) input
+  pub behind-other : (character ≡ newline → ⊥)
+      → behind begun (character ∷ input) ≡ behind (begun ++ (character ∷ [])) input
   unfolding behind
   behind-other n = rw (ne-eqb character newline n)
 
@@ -66,35 +69,46 @@ module _ (character : ℕ) (input : List ℕ) where
 
 -- ---- the input in two parts
 
-pub ended-joined : (begun first then : List ℕ) → ended begun (first ++ then) ≡ ended begun first ++ ended (behind begun first) then
+pub ended-joined : (begun first then : List ℕ)
+    → ended begun (first ++ then) ≡ ended begun first ++ ended (behind begun first) then
 unfolding ended behind
 ended-joined begun [] then = refl
-ended-joined begun (character ∷ first) then = one (ℕ-discrete character newline) (ended-joined [] first then) (ended-joined (begun ++ (character ∷ [])) first then)
+ended-joined begun (character ∷ first) then =
+    one (ℕ-discrete character newline) (ended-joined [] first then)
+    (ended-joined (begun ++ (character ∷ [])) first then)
   where
     one : Dec (character ≡ newline) → ended [] (first ++ then) ≡ ended [] first ++ ended (behind [] first) then
-        → ended (begun ++ (character ∷ [])) (first ++ then) ≡ ended (begun ++ (character ∷ [])) first ++ ended (behind (begun ++ (character ∷ [])) first) then
-        → ended begun (character ∷ (first ++ then)) ≡ ended begun (character ∷ first) ++ ended (behind begun (character ∷ first)) then
+        → ended (begun ++ (character ∷ [])) (first ++ then)
+        ≡ ended (begun ++ (character ∷ [])) first ++ ended (behind (begun ++ (character ∷ [])) first) then
+        → ended begun (character ∷ (first ++ then))
+        ≡ ended begun (character ∷ first) ++ ended (behind begun (character ∷ first)) then
     one (yes p) e f =
         ended-newline character begun (first ++ then) p
         ∙ ap (λ (lines : List (List ℕ)). begun ∷ lines) e
-        ∙ sym (ap₂ (λ (lines : List (List ℕ)) (rest : List ℕ). lines ++ ended rest then) (ended-newline character begun first p) (behind-newline character begun first p))
+        ∙ sym (ap₂ (λ (lines : List (List ℕ)) (rest : List ℕ). lines ++ ended rest then)
+        (ended-newline character begun first p) (behind-newline character begun first p))
     one (no n) e f =
         ended-other character begun (first ++ then) n
         ∙ f
-        ∙ sym (ap₂ (λ (lines : List (List ℕ)) (rest : List ℕ). lines ++ ended rest then) (ended-other character begun first n) (behind-other character begun first n))
+        ∙ sym (ap₂ (λ (lines : List (List ℕ)) (rest : List ℕ). lines ++ ended rest then)
+        (ended-other character begun first n) (behind-other character begun first n))
 
 pub behind-joined : (begun first then : List ℕ) → behind begun (first ++ then) ≡ behind (behind begun first) then
 unfolding behind
 behind-joined begun [] then = refl
-behind-joined begun (character ∷ first) then = one (ℕ-discrete character newline) (behind-joined [] first then) (behind-joined (begun ++ (character ∷ [])) first then)
+behind-joined begun (character ∷ first) then =
+    one (ℕ-discrete character newline) (behind-joined [] first then)
+    (behind-joined (begun ++ (character ∷ [])) first then)
   where
     one : Dec (character ≡ newline) → behind [] (first ++ then) ≡ behind (behind [] first) then
         → behind (begun ++ (character ∷ [])) (first ++ then) ≡ behind (behind (begun ++ (character ∷ [])) first) then
         → behind begun (character ∷ (first ++ then)) ≡ behind (behind begun (character ∷ first)) then
     one (yes p) e f =
-        behind-newline character begun (first ++ then) p ∙ e ∙ sym (ap (λ (rest : List ℕ). behind rest then) (behind-newline character begun first p))
+        behind-newline character begun (first ++ then) p ∙ e ∙ sym
+        (ap (λ (rest : List ℕ). behind rest then) (behind-newline character begun first p))
     one (no n) e f =
-        behind-other character begun (first ++ then) n ∙ f ∙ sym (ap (λ (rest : List ℕ). behind rest then) (behind-other character begun first n))
+        behind-other character begun (first ++ then) n ∙ f ∙ sym
+        (ap (λ (rest : List ℕ). behind rest then) (behind-other character begun first n))
 
 -- ---- a line that goes on, up to a newline or to the end
 
@@ -107,18 +121,22 @@ line-ends : (begun input : List ℕ) → length (before input) < length input �
 line-ends begun [] h = absurd (omega arith)
 line-ends begun (character ∷ input) h = one (ℕ-discrete character newline) (line-ends (begun ++ (character ∷ [])) input)
   where
-    one : Dec (character ≡ newline) → (length (before input) < length input → Ends (begun ++ (character ∷ [])) input) → Ends begun (character ∷ input)
+    one : Dec (character ≡ newline) → (length (before input) < length input → Ends (begun ++ (character ∷ [])) input)
+        → Ends begun (character ∷ input)
     one (yes p) next = record {
       lines = rw (ended-newline character begun input p, before-newline character input p, append-nil begun);
       rest = rw (behind-newline character begun input p, before-newline character input p);
     }
     one (no n) next =
-        let within : length (before input) < length input = let e = ap length (before-other character input n) in omega arith in
-        let further : drop (length (before (character ∷ input)) + 1) (character ∷ input) ≡ drop (length (before input) + 1) input =
+        let within : length (before input) < length input = let e = ap length (before-other character input n) in
+        omega arith in
+        let further : drop (length (before (character ∷ input)) + 1) (character ∷ input)
+        ≡ drop (length (before input) + 1) input =
         let more : suc (length (before input)) + 1 ≡ suc (length (before input) + 1) = omega arith in
         rw (before-other character input n) (ap (λ (k : ℕ). drop k (character ∷ input)) more) in
         record {
-          lines = ended-other character begun input n ∙ next within .lines ∙ rw (further, before-other character input n, append-assoc begun (character ∷ []) (before input));
+          lines = ended-other character begun input n ∙ next within .lines
+              ∙ rw (further, before-other character input n, append-assoc begun (character ∷ []) (before input));
           rest = behind-other character begun input n ∙ next within .rest ∙ rw further;
         }
 
@@ -132,13 +150,16 @@ unfolding ended behind before
 line-goes begun [] h = record { lines = refl; rest = sym (append-nil begun) }
 line-goes begun (character ∷ input) h = one (ℕ-discrete character newline) (line-goes (begun ++ (character ∷ [])) input)
   where
-    one : Dec (character ≡ newline) → (length input ≤ length (before input) → Goes (begun ++ (character ∷ [])) input) → Goes begun (character ∷ input)
+    one : Dec (character ≡ newline) → (length input ≤ length (before input) → Goes (begun ++ (character ∷ [])) input)
+        → Goes begun (character ∷ input)
     one (yes p) next = let e = ap length (before-newline character input p) in absurd (omega arith)
     one (no n) next =
-        let none : length input ≤ length (before input) = let e = ap length (before-other character input n) in omega arith in
+        let none : length input ≤ length (before input) = let e = ap length (before-other character input n) in
+        omega arith in
         record {
           lines = ended-other character begun input n ∙ next none .lines;
-          rest = behind-other character begun input n ∙ next none .rest ∙ rw (before-other character input n, append-assoc begun (character ∷ []) (before input));
+          rest = behind-other character begun input n ∙ next none .rest
+              ∙ rw (before-other character input n, append-assoc begun (character ∷ []) (before input));
         }
 
 -- ---- what is kept of a line
@@ -152,7 +173,8 @@ pub record Holds (line : List ℕ) (kept : ℕ) (begun : List ℕ) : Type 0 wher
 pub holds-nothing : (line : List ℕ) → length line ≡ most → Holds line 0 []
 holds-nothing line h = record { long = h; counted = refl; held = refl }
 
-pub front-joined : (room : ℕ) (first then : List ℕ) → take room (first ++ then) ≡ take room first ++ take (room - length (take room first)) then
+pub front-joined : (room : ℕ) (first then : List ℕ)
+    → take room (first ++ then) ≡ take room first ++ take (room - length (take room first)) then
 front-joined zero first then = refl
 front-joined (suc room) [] then = let all : suc room - 0 ≡ suc room = omega arith in rw all
 front-joined (suc room) (character ∷ first) then =
@@ -168,10 +190,12 @@ module _ {line begun : List ℕ} {kept : ℕ} (holds : Holds line kept begun) (p
   unfolding roomFor
   piece-fits = omega (arith, holds .long, holds .counted, length-take most begun, length-take (most - kept) piece)
 
-  pub holds-more : Holds (over line kept (roomFor most kept piece)) (kept + length (roomFor most kept piece)) (begun ++ piece)
+  pub holds-more : Holds (over line kept (roomFor most kept piece)) (kept + length (roomFor most kept piece))
+      (begun ++ piece)
   holds-more = record {
     long = over-length line kept (roomFor most kept piece) piece-fits ∙ holds .long;
-    counted = rw (front-held, length-append) (ap (λ (count : ℕ). count + length (roomFor most kept piece)) (holds .counted));
+    counted = rw (front-held, length-append)
+        (ap (λ (count : ℕ). count + length (roomFor most kept piece)) (holds .counted));
     held = over-front line kept (roomFor most kept piece) piece-fits ∙ rw (holds .held) (sym front-held);
   }
 
@@ -200,17 +224,28 @@ last-front (character ∷ begun) = refl
 
 module _ (chunk : List ℕ) (from : ℕ) (begun then : List ℕ) where
   line-handed : lineEnd chunk from < length chunk
-      → linesFrom begun (drop from chunk ++ then) ≡ (begun ++ before (drop from chunk)) ∷ linesFrom [] (drop (lineEnd chunk from + 1) chunk ++ then)
+      → linesFrom begun (drop from chunk ++ then)
+      ≡ (begun ++ before (drop from chunk)) ∷ linesFrom [] (drop (lineEnd chunk from + 1) chunk ++ then)
   unfolding lineEnd
   line-handed h =
       let input = drop from chunk in
       let within : length (before input) < length input = omega (arith, length-drop from chunk) in
       let cut = line-ends begun input within in
       let place : from + (length (before input) + 1) ≡ from + length (before input) + 1 = omega arith in
-      let next : drop (length (before input) + 1) input ≡ drop (from + length (before input) + 1) chunk = drop-drop (length (before input) + 1) from chunk ∙ ap (λ (at : ℕ). drop at chunk) place in
-      rw (ended-joined begun input then, behind-joined begun input then, cut .lines, cut .rest, next, ended-joined [] (drop (from + length (before input) + 1) chunk) then, behind-joined [] (drop (from + length (before input) + 1) chunk) then)
+      let next : drop (length (before input) + 1) input ≡ drop (from + length (before input) + 1) chunk =
+      drop-drop (length (before input) + 1) from chunk ∙ ap (λ (at : ℕ). drop at chunk) place in
+      rw (
+        ended-joined begun input then,
+        behind-joined begun input then,
+        cut .lines,
+        cut .rest,
+        next,
+        ended-joined [] (drop (from + length (before input) + 1) chunk) then,
+        behind-joined [] (drop (from + length (before input) + 1) chunk) then,
+      )
 
-  line-followed : length chunk ≤ lineEnd chunk from → linesFrom begun (drop from chunk ++ then) ≡ linesFrom (begun ++ before (drop from chunk)) then
+  line-followed : length chunk ≤ lineEnd chunk from
+      → linesFrom begun (drop from chunk ++ then) ≡ linesFrom (begun ++ before (drop from chunk)) then
   unfolding lineEnd
   line-followed h =
       let input = drop from chunk in
@@ -219,7 +254,8 @@ module _ (chunk : List ℕ) (from : ℕ) (begun then : List ℕ) where
       rw (ended-joined begun input then, behind-joined begun input then, cut .lines, cut .rest)
 
 module _ (chunk : List ℕ) (from kept : ℕ) where
-  pub ends-in : gathered chunk from kept .whole ≡ true → (lineEnd chunk from < length chunk) × (gathered chunk from kept .next ≡ lineEnd chunk from + 1)
+  pub ends-in : gathered chunk from kept .whole ≡ true → (lineEnd chunk from < length chunk)
+      × (gathered chunk from kept .next ≡ lineEnd chunk from + 1)
   unfolding gathered
   ends-in e = (ltb-true (lineEnd chunk from) (length chunk) e, rw e)
 
@@ -236,7 +272,8 @@ pub further : (chunk : List ℕ) (from kept : ℕ) → from < length chunk → f
 unfolding gathered
 further chunk from kept h = past (ltb (lineEnd chunk from) (length chunk)) refl
   where
-    past : (whole : Bool) → whole ≡ ltb (lineEnd chunk from) (length chunk) → from < cond whole (lineEnd chunk from + 1) (lineEnd chunk from)
+    past : (whole : Bool) → whole ≡ ltb (lineEnd chunk from) (length chunk)
+        → from < cond whole (lineEnd chunk from + 1) (lineEnd chunk from)
     past true e = omega (arith, from-before chunk from)
     past false e = let all = ltb-false (lineEnd chunk from) (length chunk) (sym e) in omega arith
 
@@ -245,7 +282,8 @@ gathered-holds : (chunk : List ℕ) (from : ℕ) {line begun : List ℕ} {kept :
 unfolding gathered lineAfter
 gathered-holds chunk from holds = holds-more holds (before (drop from chunk))
 
-pub handed-out : {chunks lines : List (List ℕ)} {from kept : ℕ} {line begun : List ℕ} → Hands chunks from line kept lines → Holds line kept begun
+pub handed-out : {chunks lines : List (List ℕ)} {from kept : ℕ} {line begun : List ℕ}
+    → Hands chunks from line kept lines → Holds line kept begun
     → lines ≡ fronts (linesFrom begun (from-there from chunks))
 unfolding ended behind
 handed-out {begun = begun} finished holds = rw (holds .held) (last-front begun)
@@ -262,9 +300,12 @@ handed-out {begun = begun} (followed {chunk} {chunks} {lines} {from} {kept} {lin
     ∙ sym (ap fronts (line-followed chunk from begun (joined chunks) (goes-past chunk from kept whole)))
 
 -- from the start of the input on: each line is handed out once, in order, by its first 16,433 characters
-pub lines-handed-out : {chunks lines : List (List ℕ)} {line : List ℕ} → length line ≡ most → Hands chunks 0 line 0 lines → lines ≡ fronts (linesOf (joined chunks))
+pub lines-handed-out : {chunks lines : List (List ℕ)} {line : List ℕ} → length line ≡ most → Hands chunks 0 line 0 lines
+    → lines ≡ fronts (linesOf (joined chunks))
 unfolding linesOf
-lines-handed-out {chunks} {lines} {line} long hands = handed-out hands (holds-nothing line long) ∙ ap (λ (input : List ℕ). fronts (linesFrom [] input)) (from-start chunks)
+lines-handed-out {chunks} {lines} {line} long hands =
+    handed-out hands (holds-nothing line long) ∙ ap (λ (input : List ℕ). fronts (linesFrom [] input))
+    (from-start chunks)
 
 -- ---- there is such a run, for all chunks
 
@@ -276,13 +317,18 @@ not-whole : (test : Bool) → (test ≡ true → ⊥) → test ≡ false
 not-whole true n = absurd (n refl)
 not-whole false n = refl
 
-module _ (chunk : List ℕ) (chunks : List (List ℕ)) (then : (kept : ℕ) (line : List ℕ) → (lines : List (List ℕ)) × Hands chunks 0 line kept lines) where
-  over-chunk : (turns from kept : ℕ) (line : List ℕ) → length chunk - from < turns → (lines : List (List ℕ)) × Hands (chunk ∷ chunks) from line kept lines
+module _ (chunk : List ℕ) (chunks : List (List ℕ))
+    (then : (kept : ℕ) (line : List ℕ) → (lines : List (List ℕ)) × Hands chunks 0 line kept lines) where
+  over-chunk : (turns from kept : ℕ) (line : List ℕ) → length chunk - from < turns → (lines : List (List ℕ))
+      × Hands (chunk ∷ chunks) from line kept lines
   over-chunk zero from kept line h = absurd (omega arith)
-  over-chunk (suc turns) from kept line h = turn (sure (gathered chunk from kept .whole)) (over-chunk turns (gathered chunk from kept .next) 0 (lineAfter chunk from line kept))
+  over-chunk (suc turns) from kept line h =
+      turn (sure (gathered chunk from kept .whole))
+      (over-chunk turns (gathered chunk from kept .next) 0 (lineAfter chunk from line kept))
     where
       turn : Dec (gathered chunk from kept .whole ≡ true)
-          → (length chunk - gathered chunk from kept .next < turns → (lines : List (List ℕ)) × Hands (chunk ∷ chunks) (gathered chunk from kept .next) (lineAfter chunk from line kept) 0 lines)
+          → (length chunk - gathered chunk from kept .next < turns → (lines : List (List ℕ))
+          × Hands (chunk ∷ chunks) (gathered chunk from kept .next) (lineAfter chunk from line kept) 0 lines)
           → (lines : List (List ℕ)) × Hands (chunk ∷ chunks) from line kept lines
       turn (yes whole) again =
           let ends = ends-in chunk from kept whole in

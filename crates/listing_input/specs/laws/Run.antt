@@ -22,9 +22,17 @@ record Laid (l m : List ℕ) (at : ℕ) (run : List ℕ) : Type 0 where
   back : (count : ℕ) → drop (at + length run + count) m ≡ drop (at + length run + count) l
 
 -- it takes the next one
-continued : (l m : List ℕ) (at : ℕ) (run next : List ℕ) → Laid l m at run → over m (at + length run) next ≡ over l at (run ++ next)
+continued : (l m : List ℕ) (at : ℕ) (run next : List ℕ) → Laid l m at run
+    → over m (at + length run) next ≡ over l at (run ++ next)
 unfolding over
-continued l m at run next laid = rw (laid .front, laid .back (length next), length-append, ← add-assoc at (length run) (length next), append-assoc (take at l) run next)
+continued l m at run next laid =
+    rw (
+      laid .front,
+      laid .back (length next),
+      length-append,
+      ← add-assoc at (length run) (length next),
+      append-assoc (take at l) run next,
+    )
 
 module _ (l : List ℕ) (at : ℕ) (run : List ℕ) where
   -- the run starts in the memory, or at its end
@@ -36,7 +44,8 @@ module _ (l : List ℕ) (at : ℕ) (run : List ℕ) where
       record {
         front = take-at (take at l ++ run) (drop (at + length run) l) (at + length run) long;
         back = λ count.
-            sym (drop-drop count (at + length run) (over l at run)) ∙ ap (drop count) rest ∙ drop-drop count (at + length run) l;
+            sym (drop-drop count (at + length run) (over l at run)) ∙ ap (drop count) rest ∙ drop-drop count
+            (at + length run) l;
       }
 
   -- it starts beyond, and there is nothing behind it
@@ -50,7 +59,8 @@ module _ (l : List ℕ) (at : ℕ) (run : List ℕ) where
         front = rw (none, all, append-nil (l ++ run)) (take-all (at + length run) (l ++ run) long);
         back = λ count.
             rw (none, all, append-nil (l ++ run))
-            (drop-of-length-le (l ++ run) {i = at + length run + count} (omega arith) ∙ sym (drop-of-length-le l {i = at + length run + count} (omega arith)));
+            (drop-of-length-le (l ++ run) {i = at + length run + count} (omega arith) ∙ sym
+            (drop-of-length-le l {i = at + length run + count} (omega arith)));
       }
 
   -- wherever the run starts

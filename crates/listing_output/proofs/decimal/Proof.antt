@@ -1,5 +1,5 @@
--- `listing_output::decimal` meets its contract: the digits of what is left, and behind them those that are written, are the number's.
--- Assumes nothing.
+-- `listing_output::decimal` meets its contract: the digits of what is left, and behind them those that are written,
+-- are the number's. Assumes nothing.
 use mathlib.Core.Path.{_≡_, refl, sym, ap, _∙_}
 use mathlib.Core.List.{_++_}
 use Prim.Native.Nat.{ℕ, _^_, _≤_, _<_}
@@ -13,7 +13,8 @@ use Rattle.listing_output.proofs.decimal.Tie as tie
 
 abbrev Inv-loop : tie.InvT-loop
 Inv-loop number digits₀ start₀ rest₀ digits start rest =
-    (start ≤ 19) × (length digits ≡ 20) × (rest < 10 ^ start) × (decimal number ≡ digitsOf start rest ++ drop start digits)
+    (start ≤ 19) × (length digits ≡ 20) × (rest < 10 ^ start)
+    × (decimal number ≡ digitsOf start rest ++ drop start digits)
 
 abbrev μ-loop : tie.MeasureT-loop
 μ-loop number digits₀ start₀ rest₀ digits start rest = rest
@@ -32,7 +33,11 @@ unfolding decimal
 loop-holds c = (search needs, refl, omega arith, refl)
 
 sub-start : tie.Need-sub-start Inv-loop μ-loop
-sub-start c = omega (arith, some-place (c .before .loop .start) (c .before .loop .rest) (c .loop-test .taken) (c .before .loop .inv .2))
+sub-start c = omega (
+  arith,
+  some-place (c .before .loop .start) (c .before .loop .rest) (c .loop-test .taken)
+      (c .before .loop .inv .2),
+)
 
 cast-digits-2 : tie.Need-cast-digits-2 Inv-loop μ-loop
 cast-digits-2 c = omega arith
@@ -41,7 +46,10 @@ add-digits-2 : tie.Need-add-digits-2 Inv-loop μ-loop
 add-digits-2 c = omega arith
 
 array-write-digits-2 : tie.Need-array-write-digits-2 Inv-loop μ-loop
-array-write-digits-2 c = omega (arith, some-place (c .before .loop .start) (c .before .loop .rest) (c .loop-test .taken) (c .before .loop .inv .2))
+array-write-digits-2 c = omega (
+  arith,
+  some-place (c .before .loop .start) (c .before .loop .rest) (c .loop-test .taken) (c .before .loop .inv .2),
+)
 
 loop-less : tie.Need-loop-less Inv-loop μ-loop
 loop-less c = omega arith
@@ -61,7 +69,9 @@ loop-again c =
 returns : tie.Need-returns Inv-loop μ-loop
 returns c =
     let none : c .before .loop .rest ≡ 0 = omega arith in
-    let all = c .before .loop .inv .3 ∙ ap (λ (left : ℕ). digitsOf (c .before .loop .start) left ++ drop (c .before .loop .start) (c .before .loop .digits)) none in
+    let all = c .before .loop .inv .3
+    ∙ ap (λ (left : ℕ). digitsOf (c .before .loop .start) left ++ drop (c .before .loop .start)
+    (c .before .loop .digits)) none in
     (sym (rw none-left at all), (c .before .loop .inv .1, c .before .loop .inv .0))
 
 pub decimal-spec : {M : Type 1} → statement M

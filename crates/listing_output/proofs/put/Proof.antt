@@ -38,19 +38,24 @@ same-length : tie.Need-same-length
 same-length c = search needs
 
 -- what ends a field, stored behind it
-ended : (l m field : List ℕ) (at end : ℕ) → at + length field < length l → m ≡ over l at field → set m (at + length field) end ≡ over l at (field ++ (end ∷ []))
+ended : (l m field : List ℕ) (at end : ℕ) → at + length field < length l → m ≡ over l at field
+    → set m (at + length field) end ≡ over l at (field ++ (end ∷ []))
 ended l m field at end h e =
-    rw e (over-one (over l at field) (at + length field) end (rw (over-length l at field (omega arith)) h) ∙ over-joined l at field (omega arith) (end ∷ []))
+    rw e (over-one (over l at field) (at + length field) end
+    (rw (over-length l at field (omega arith)) h) ∙ over-joined l at field (omega arith) (end ∷ []))
 
 returns : tie.Need-returns
 returns c =
-    let out = c .before .before .before .before .before .before .args .out .now in
-    let field = c .before .before .before .before .before .before .args .field .now in
-    let at = c .before .before .before .before .before .before .args .at in
-    let copied = ap (putMid at (length out - at) out) (c .before .before .copy-in .ensures) ∙ over-start out at (length out - at) field (omega arith) (omega arith) in
+    let start = c .before .before .before .before .before .before in
+    let out = start .args .out .now in
+    let field = start .args .field .now in
+    let at = start .args .at in
+    let copied = ap (putMid at (length out - at) out) (c .before .before .copy-in .ensures) ∙ over-start out at
+    (length out - at) field (omega arith) (omega arith) in
     record {
       ends = rw length-append (omega arith);
-      laid = ended out _ field at (c .before .before .before .before .before .before .args .end) (c .before .before .before .before .before .before .pre) copied;
+      laid =
+          ended out _ field at (start .args .end) (start .pre) copied;
     }
 
 pub put-spec : {M : Type 1} → statement M

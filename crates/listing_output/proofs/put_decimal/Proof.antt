@@ -29,10 +29,14 @@ same-length c = search needs
 
 returns : tie.Need-returns
 returns c =
-    let written = c .before .before .before .before .before .before .before .decimal in
-    let digits = to-the-end (written .result .digits) (written .result .start) 20 (written .ensures .1 .0) ∙ written .ensures .0 in
-    let written-out = put-same (c .before .before .put .ensures) (ap (λ (field : List ℕ). field ++ (c .before .before .before .before .before .before .before .before .before .args .end ∷ [])) digits) in
-    (written-out, decimal-ends (c .before .before .before .before .before .before .before .before .before .args .number) (c .before .before .before .before .before .before .before .before .before .args .end) written-out)
+    let at-decimal = c .before .before .before .before .before .before .before in
+    let start = at-decimal .before .before in
+    let written = at-decimal .decimal in
+    let digits = to-the-end (written .result .digits) (written .result .start) 20
+    (written .ensures .1 .0) ∙ written .ensures .0 in
+    let written-out = put-same (c .before .before .put .ensures)
+    (ap (λ (field : List ℕ). field ++ (start .args .end ∷ [])) digits) in
+    (written-out, decimal-ends (start .args .number) (start .args .end) written-out)
 
 pub put-decimal-spec : {M : Type 1} → statement M
 put-decimal-spec =

@@ -31,11 +31,17 @@ same-length c = search needs
 returns : tie.Need-returns
 unfolding fourDigits
 returns c =
-    let first = c .before .before .before .before .before .before .before .before .digit .ensures in
-    let second = c .before .before .before .before .before .before .before .digit2 .ensures in
-    let third = c .before .before .before .before .before .before .digit3 .ensures in
-    let fourth = c .before .before .before .before .before .digit4 .ensures in
-    (put-same (c .before .before .put .ensures) (rw (first, second, third, fourth)), omega (arith, c .before .before .put .ensures .ends))
+    let at-digit4 = c .before .before .before .before .before in
+    let at-digit3 = at-digit4 .before in
+    let at-digit2 = at-digit3 .before in
+    let at-digit = at-digit2 .before in
+    let first = at-digit .digit .ensures in
+    let second = at-digit2 .digit2 .ensures in
+    let third = at-digit3 .digit3 .ensures in
+    let fourth = at-digit4 .digit4 .ensures in (
+      put-same (c .before .before .put .ensures) (rw (first, second, third, fourth)),
+      omega (arith, c .before .before .put .ensures .ends),
+    )
 
 pub put-hex-spec : {M : Type 1} → statement M
 put-hex-spec =

@@ -8,7 +8,8 @@ use native.Mathlib.Omega.{arith}
 use lib.ListN.{length-take}
 use Rattle.listing_output.specs.laws.Put.{put-same}
 use Rattle.listing_output.specs.Text.{space}
-use Rattle.listing_output.proofs.Fields.{name-short, name-ends, spelt-within, spelt-front}
+use Rattle.answer.specs.laws.Table.{name-short}
+use Rattle.listing_output.proofs.Fields.{name-ends, spelt-within, spelt-front}
 use Rattle.listing_output.proofs.put_name.Statement.{statement}
 use Rattle.listing_output.proofs.put_name.Tie as tie
 
@@ -22,15 +23,20 @@ slice-aggregate-put : tie.Need-slice-aggregate-put
 slice-aggregate-put c = simp length-take (omega (arith, spelt-within (c .before .before .before .name-of .ensures)))
 
 put-requires : tie.Need-put-requires
-put-requires c κs = rw (spelt-front (c .before .before .before .name-of .ensures)) (omega (arith, name-short (c .before .before .before .before .before .args .answer)))
+put-requires c κs =
+    let start = c .before .before .before .before .before in
+    rw (spelt-front (c .before .before .before .name-of .ensures)) (omega (arith, name-short (start .args .answer)))
 
 same-length : tie.Need-same-length
 same-length c = search needs
 
 returns : tie.Need-returns
 returns c =
-    let spelt = put-same (c .before .before .put .ensures) (ap (λ (name : List ℕ). name ++ (space ∷ [])) (spelt-front (c .before .before .before .before .before .before .name-of .ensures))) in
-    (spelt, name-ends (c .before .before .before .before .before .before .before .before .args .answer) space spelt)
+    let at-name-of = c .before .before .before .before .before .before in
+    let start = at-name-of .before .before in
+    let spelt = put-same (c .before .before .put .ensures)
+    (ap (λ (name : List ℕ). name ++ (space ∷ [])) (spelt-front (at-name-of .name-of .ensures))) in
+    (spelt, name-ends (start .args .answer) space spelt)
 
 pub put-name-spec : {M : Type 1} → statement M
 put-name-spec =

@@ -33,14 +33,22 @@ same-length c = search needs
 
 returns : tie.Need-returns
 returns c =
-    (put-same (c .before .before .put .ensures) (ap (λ (part : Part). partOf part ++ (space ∷ [])) (sym (c .before .before .before .before .before .enum-told .given .1))), omega (arith, c .before .before .put .ensures .ends))
+    let at-enum-told = c .before .before .before .before .before in (
+      put-same (c .before .before .put .ensures)
+          (ap (λ (part : Part). partOf part ++ (space ∷ [])) (sym (at-enum-told .enum-told .given .1))),
+      omega (arith, c .before .before .put .ensures .ends),
+    )
 
 same-length-2 : tie.Need-same-length-2
 same-length-2 c = search needs
 
 returns-2 : tie.Need-returns-2
 returns-2 c =
-    (put-same (c .before .before .put2 .ensures) (ap (λ (part : Part). partOf part ++ (space ∷ [])) (sym (c .before .before .before .before .before .enum-told2 .given .1))), omega (arith, c .before .before .put2 .ensures .ends))
+    let at-enum-told2 = c .before .before .before .before .before in (
+      put-same (c .before .before .put2 .ensures)
+          (ap (λ (part : Part). partOf part ++ (space ∷ [])) (sym (at-enum-told2 .enum-told2 .given .1))),
+      omega (arith, c .before .before .put2 .ensures .ends),
+    )
 
 pub put-part-spec : {M : Type 1} → statement M
 put-part-spec =

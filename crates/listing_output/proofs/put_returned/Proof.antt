@@ -41,22 +41,35 @@ same-length c = search needs
 
 returns : tie.Need-returns
 returns c =
-    (put-same (c .before .before .put-segment .ensures .0) (sym (ap (λ (returned : Returned). textOf (valuesOf returned)) (c .before .before .before .before .before .returned .given .1))), omega arith)
+    let at-returned = c .before .before .before .before .before in (
+      put-same (c .before .before .put-segment .ensures .0)
+          (sym (ap (λ (returned : Returned). textOf (valuesOf returned)) (at-returned .returned .given .1))),
+      omega arith,
+    )
 
 same-length-2 : tie.Need-same-length-2
 same-length-2 c = search needs
 
 returns-2 : tie.Need-returns-2
 returns-2 c =
-    let hex = c .before .before .before .before .before .before .before .put-hex in
-    (put-same (put-then (hex .ensures .0) (c .before .before .put .ensures) (omega arith)) (sym (ap (λ (returned : Returned). textOf (valuesOf returned)) (c .before .before .before .before .before .before .before .before .before .before .returned2 .given .1))), omega (arith, c .before .before .put .ensures .ends))
+    let at-put-hex = c .before .before .before .before .before .before .before in
+    let at-returned2 = at-put-hex .before .before .before in
+    let hex = at-put-hex .put-hex in (
+      put-same (put-then (hex .ensures .0) (c .before .before .put .ensures) (omega arith))
+          (sym (ap (λ (returned : Returned). textOf (valuesOf returned)) (at-returned2 .returned2 .given .1))),
+      omega (arith, c .before .before .put .ensures .ends),
+    )
 
 same-length-3 : tie.Need-same-length-3
 same-length-3 c = search needs
 
 returns-3 : tie.Need-returns-3
 returns-3 c =
-    (put-same (c .before .before .put2 .ensures) (sym (ap (λ (returned : Returned). textOf (valuesOf returned)) (c .before .before .before .before .before .enum-told .given .1))), omega (arith, c .before .before .put2 .ensures .ends))
+    let at-enum-told = c .before .before .before .before .before in (
+      put-same (c .before .before .put2 .ensures)
+          (sym (ap (λ (returned : Returned). textOf (valuesOf returned)) (at-enum-told .enum-told .given .1))),
+      omega (arith, c .before .before .put2 .ensures .ends),
+    )
 
 pub put-returned-spec : {M : Type 1} → statement M
 put-returned-spec =

@@ -23,9 +23,14 @@ same-length c = search needs
 
 returns : tie.Need-returns
 returns c =
-    let hex = c .before .before .before .before .before .before .before .before .before .before .before .put-hex in
-    let part = c .before .before .before .before .before .before .before .put-part in
-    (put-then (hex .ensures .0) (put-then (part .ensures .0) (c .before .before .put-decimal .ensures .0) (omega arith)) (omega arith), omega arith)
+    let at-put-part = c .before .before .before .before .before .before .before in
+    let at-put-hex = at-put-part .before .before .before .before in
+    let hex = at-put-hex .put-hex in
+    let part = at-put-part .put-part in (
+      put-then (hex .ensures .0) (put-then (part .ensures .0) (c .before .before .put-decimal .ensures .0) (omega arith))
+          (omega arith),
+      omega arith,
+    )
 
 pub put-segment-spec : {M : Type 1} → statement M
 put-segment-spec =

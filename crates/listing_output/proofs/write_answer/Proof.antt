@@ -29,7 +29,8 @@ put-returned-requires c κs = omega arith
 
 -- there are three values, whatever is returned
 three-values : (number name : List ℕ) (returned : Returned)
-    → (number ++ (space ∷ [])) ++ ((name ++ (space ∷ [])) ++ textOf (valuesOf returned)) ≡ textOf (number ∷ name ∷ valuesOf returned)
+    → (number ++ (space ∷ [])) ++ ((name ++ (space ∷ [])) ++ textOf (valuesOf returned))
+    ≡ textOf (number ∷ name ∷ valuesOf returned)
 three-values number name (Segment heard) = refl
 three-values number name (Number value) = refl
 three-values number name Nothing = refl
@@ -37,12 +38,15 @@ three-values number name Nothing = refl
 returns : tie.Need-returns
 unfolding answerText
 returns c =
-    let number = c .before .before .before .before .before .put-decimal in
+    let at-put-decimal = c .before .before .before .before .before in
+    let start = at-put-decimal .before .before in
+    let number = at-put-decimal .put-decimal in
     let name = c .before .before .before .put-name in
-    let values = put-same (c .put-returned .ensures .0) (ap (λ (returned : Returned). textOf (valuesOf returned)) (c .before .returned-with .ensures)) in
-    put-whole (put-same
-    (put-then (number .ensures .0) (put-then (name .ensures .0) values (omega arith)) (omega arith))
-    (three-values (decimal (c .before .before .before .before .before .before .before .args .line)) (letters (nameOf (c .before .before .before .before .before .before .before .args .answer))) (returnedWith (c .before .before .before .before .before .before .before .args .answer)))) (omega arith)
+    let values = put-same (c .put-returned .ensures .0)
+    (ap (λ (returned : Returned). textOf (valuesOf returned)) (c .before .returned-with .ensures)) in
+    put-whole (put-same (put-then (number .ensures .0) (put-then (name .ensures .0) values (omega arith)) (omega arith))
+    (three-values (decimal (start .args .line)) (letters (nameOf (start .args .answer)))
+    (returnedWith (start .args .answer)))) (omega arith)
 
 pub write-answer-spec : {M : Type 1} → statement M
 write-answer-spec =

@@ -5,7 +5,8 @@ use Prim.Native.Nat.{ℕ}
 use Prim.Native.String.{String}
 use Rattle.answer.specs.declared.Part.the-variants.{Header, Body}
 use Rattle.answer.specs.declared.Refusal.the-variants.{Kind, Length}
-use Rattle.answer.specs.declared.Answer.the-variants.{Stored, Complete, Repeat, Refused, Dropped, NotHeld}
+use Rattle.answer.specs.declared.Answer.the-variants.{Stored, Complete, Repeat, Refused, Dropped, Denied}
+use Rattle.answer.specs.declared.Reason.the-variants.{NotHeld}
 use Rattle.answer.specs.Letters.{letters}
 use Rattle.listing_output.specs.Number.{digit, digitsOf, decimal, fourDigits}
 use Rattle.listing_output.specs.Text.{newline, answerText, malformedText, countsText}
@@ -23,7 +24,7 @@ pub record Example : Type 0 where
   pub seventh : answerText 7 (Dropped 5) ≡ line "7 DROPPED 0005 - -"
   pub counts : countsText 3 1 2 1 1 ≡ line "T 3 1 2 1 1"
   pub malformed : malformedText 10 ≡ line "10 LINE - - -"
-  pub not-held : answerText 1024 NotHeld ≡ line "1024 NOTHELD - - -"
+  pub not-held : answerText 1024 (Denied NotHeld) ≡ line "1024 NOTHELD - - -"
 
 pub example : Example
 unfolding answerText malformedText countsText decimal digitsOf fourDigits digit

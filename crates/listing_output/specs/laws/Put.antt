@@ -18,7 +18,8 @@ module _ {before after : List ℕ} {at next : ℕ} {text : List ℕ} (put : Put 
   put-same e = subst (λ (t : List ℕ). Put before at t next after) e put
 
   -- one text and then another are one text
-  pub put-then : {last : List ℕ} {end : ℕ} {more : List ℕ} → Put after next more end last → next ≤ length before → Put before at (text ++ more) end last
+  pub put-then : {last : List ℕ} {end : ℕ} {more : List ℕ} → Put after next more end last → next ≤ length before
+      → Put before at (text ++ more) end last
   put-then {more = more} then fits = record {
     ends = then .ends ∙ rw (put .ends, length-append) (omega arith);
     laid = then .laid ∙ rw (put .laid, put .ends) (over-joined before at text (rw (← put .ends) fits) more);

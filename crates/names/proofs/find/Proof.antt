@@ -1,6 +1,5 @@
--- `names::find` meets its contract. At each turn over slots, what is held and what is left come to the answer; at each turn
--- over parameters nothing is held yet of this slot, and what is left of them decides.
--- Assumes nothing.
+-- `names::find` meets its contract. At each turn over slots, what is held and what is left come to the answer; at
+-- each turn over parameters nothing is held yet of this slot, and what is left of them decides. Assumes nothing.
 use mathlib.Core.Path.{_≡_, refl, sym, ap, _∙_}
 use mathlib.Core.Logic.{⊎-elim}
 use Prim.Native.Nat.{ℕ, _+_, _-_}
@@ -22,28 +21,33 @@ use Rattle.names.proofs.find.Statement.{statement}
 use Rattle.names.proofs.find.Tie as tie
 
 abbrev Inv-parameters : tie.InvT-parameters
-Inv-parameters asked count store slots holder₀ i slot header at₀ holder at = (holder ≡ holder₀) × Left asked (headerIn i slot store) header at
+Inv-parameters asked count store slots holder₀ i slot header at₀ holder at =
+    (holder ≡ holder₀) × Left asked (headerIn i slot store) header at
 
 abbrev μ-parameters : tie.MeasureT-parameters
 μ-parameters asked count store slots holder₀ i slot header at₀ holder at = length header - at
 
 abbrev Inv-slots : tie.InvT-slots
-Inv-slots asked count store slots holder₀ i₀ holder i = foundByName asked count slots store ≡ lower holder (lowestFrom asked i (drop i (take count slots)) store)
+Inv-slots asked count store slots holder₀ i₀ holder i =
+    foundByName asked count slots store ≡ lower holder (lowestFrom asked i (drop i (take count slots)) store)
 
 abbrev μ-slots : tie.MeasureT-slots
 μ-slots asked count store slots holder₀ i₀ holder i = count - i
 
 -- the slot of this turn
 abbrev slotOf : tie.At-slots Inv-parameters μ-parameters Inv-slots μ-slots → Slot
-slotOf l = getD (l .before .before .before .args .t3) (l .slots .i) (record { number = 0; stage = Free; header = noRecord; body = noRecord })
+slotOf l = getD (l .before .before .before .args .t3) (l .slots .i)
+    (record { number = 0; stage = Free; header = noRecord; body = noRecord })
 
 -- whether it is the name's holder
 abbrev holderOf : tie.At-slots Inv-parameters μ-parameters Inv-slots μ-slots → Holder
-holderOf l = let a = l .before .before .before .args in holderIn (a .asked .now) (l .slots .i) (slotOf l) (a .store .now)
+holderOf l = let a = l .before .before .before .args in
+    holderIn (a .asked .now) (l .slots .i) (slotOf l) (a .store .now)
 
 -- the slots that are left after this one
 abbrev restOf : tie.At-slots Inv-parameters μ-parameters Inv-slots μ-slots → Holder
-restOf l = let a = l .before .before .before .args in lowestFrom (a .asked .now) (l .slots .i + 1) (drop (l .slots .i + 1) (take (a .count) (a .t3))) (a .store .now)
+restOf l = let a = l .before .before .before .args in
+    lowestFrom (a .asked .now) (l .slots .i + 1) (drop (l .slots .i + 1) (take (a .count) (a .t3))) (a .store .now)
 
 sixteen : (s : tie.Start Inv-parameters μ-parameters Inv-slots μ-slots) → length (s .args .t3) ≡ 16
 sixteen s = s .good .1 .1 .0 .1 .0 .1
@@ -51,15 +55,19 @@ sixteen s = s .good .1 .1 .0 .1 .0 .1
 -- the answer, slot by slot
 onward : (c : tie.In-slots Inv-parameters μ-parameters Inv-slots μ-slots)
     → let a = c .before .before .before .before .args in
-    foundByName (a .asked .now) (a .count) (a .t3) (a .store .now) ≡ lower (lower (c .before .slots .holder) (holderOf (c .before))) (restOf (c .before))
+    foundByName (a .asked .now) (a .count) (a .t3) (a .store .now)
+    ≡ lower (lower (c .before .slots .holder) (holderOf (c .before))) (restOf (c .before))
 unfolding freeSlot
 onward c =
     let l = c .before in
     let a = l .before .before .before .args in
-    lowest-on (a .asked .now) (a .t3) (a .store .now) (a .count) (l .slots .i) (omega arith) (omega (arith, sixteen (l .before .before .before))) (l .slots .holder) (l .slots .inv)
+    lowest-on (a .asked .now) (a .t3) (a .store .now) (a .count) (l .slots .i) (omega arith)
+    (omega (arith, sixteen (l .before .before .before))) (l .slots .holder) (l .slots .inv)
 
 -- the parameter that a turn has found
-found : (c : tie.After-parameter Inv-parameters μ-parameters Inv-slots μ-slots) → foundAt (c .before .before .before .before .before .legible .result .now) (c .before .before .before .before .parameters .at) ≡ One (c .parameter .given .0 .0)
+found : (c : tie.After-parameter Inv-parameters μ-parameters Inv-slots μ-slots)
+    → foundAt (c .before .before .before .before .before .legible .result .now)
+    (c .before .before .before .before .parameters .at) ≡ One (c .parameter .given .0 .0)
 found c = sym (c .before .before .parameter-at .ensures) ∙ c .parameter .given .1
 
 -- it is the name that is asked for
@@ -71,7 +79,9 @@ named c =
     let l = c .before .before .before .before .before .before .before .before .before .before .before .before in
     let a = l .before .before .before .args in
     holder-is (a .asked .now) (l .slots .i) (slotOf l) (a .store .now)
-    (left-here (a .asked .now) _ _ _ (p .before .before .before .before .parameters .inv .1) (p .before .before .before .parameters-test .taken) _ (found p) (sym (c .before .is-named .ensures) ∙ c .if1 .taken))
+    (left-here (a .asked .now) _ _ _ (p .before .before .before .before .parameters .inv .1)
+    (p .before .before .before .parameters-test .taken) _ (found p)
+    (sym (c .before .is-named .ensures) ∙ c .if1 .taken))
 
 -- a turn over slots has gone over one of them
 passed : (c : tie.Left-parameters Inv-parameters μ-parameters Inv-slots μ-slots)
@@ -82,12 +92,37 @@ passed c =
     let a = l .before .before .before .args in
     let p = c .before .parameters in
     ⊎-elim
-    (λ w. w .1 ∙ p .inv .0 ∙ sym (ap (lower (l .slots .holder)) (holder-not (a .asked .now) (l .slots .i) (slotOf l) (a .store .now) (left-none (a .asked .now) _ _ _ (p .inv .1) (w .0 .left))) ∙ lower-nobody (l .slots .holder)))
+    (λ w. w .1 ∙ p .inv .0 ∙ sym (ap (lower (l .slots .holder))
+    (holder-not (a .asked .now) (l .slots .i) (slotOf l) (a .store .now)
+    (left-none (a .asked .now) _ _ _ (p .inv .1) (w .0 .left))) ∙ lower-nobody (l .slots .holder)))
     (⊎-elim
     (λ w. absurd (left-whole (a .asked .now) _ _ _ (p .inv .1) (w .0 .taken) (sym (w .1 .ensures) ∙ w .3 .given .1)))
     (λ w.
-    let here : tie.Then1 Inv-parameters μ-parameters Inv-slots μ-slots = record { before = record { before = record { before = record { before = record { before = record { before = record { before = c .before; parameters-test = w .0 }; parameter-at = w .1 }; match = w .2 }; parameter = w .3 }; known-told = w .4 }; is-named = w .5 }; if1 = w .6 } in
-    w .10 ∙ w .7 .ensures ∙ ap (λ (h : Holder). lower h (Number (slotOf l .number))) (p .inv .0) ∙ ap (lower (l .slots .holder)) (sym (named here))))
+    let here : tie.Then1 Inv-parameters μ-parameters Inv-slots μ-slots =
+    record {
+      before = record {
+        before =
+            record {
+              before = record {
+                before =
+                    record {
+                      before = record {
+                        before = record { before = c .before; parameters-test = w .0 };
+                        parameter-at =
+                            w .1;
+                      };
+                      match = w .2;
+                    };
+                parameter = w .3;
+              };
+              known-told = w .4;
+            };
+        is-named = w .5;
+      };
+      if1 = w .6;
+    } in
+    w .10 ∙ w .7 .ensures ∙ ap (λ (h : Holder). lower h (Number (slotOf l .number)))
+    (p .inv .0) ∙ ap (lower (l .slots .holder)) (sym (named here))))
     (c .parameters-test .came)
 
 slots-holds : tie.Need-slots-holds Inv-parameters μ-parameters Inv-slots μ-slots
@@ -129,13 +164,20 @@ add-at : tie.Need-add-at Inv-parameters μ-parameters Inv-slots μ-slots
 add-at c = omega (arith, found-known _ _ _ (found (c .before .before .before .before)) .inside)
 
 parameters-less : tie.Need-parameters-less Inv-parameters μ-parameters Inv-slots μ-slots
-parameters-less c = omega (arith, found-on _ _ _ (found (c .before .before .before .before)), c .before .before .before .before .before .before .before .parameters-test .taken)
+parameters-less c = omega (
+  arith,
+  found-on _ _ _ (found (c .before .before .before .before)),
+  c .before .before .before .before .before .before .before .parameters-test .taken,
+)
 
 parameters-again : tie.Need-parameters-again Inv-parameters μ-parameters Inv-slots μ-slots
 parameters-again c =
     let p = c .before .before .before .before in
-    let s = p .before .before .before .before .parameters in
-    (s .inv .0, left-on _ _ _ _ (s .inv .1) (p .before .before .before .parameters-test .taken) _ (found p) (sym (c .before .before .is-named .ensures) ∙ c .before .if1 .left))
+    let s = p .before .before .before .before .parameters in (
+      s .inv .0,
+      left-on _ _ _ _ (s .inv .1) (p .before .before .before .parameters-test .taken) _ (found p)
+          (sym (c .before .before .is-named .ensures) ∙ c .before .if1 .left),
+    )
 
 add-i : tie.Need-add-i Inv-parameters μ-parameters Inv-slots μ-slots
 add-i c = search needs
@@ -152,7 +194,9 @@ returns : tie.Need-returns Inv-parameters μ-parameters Inv-slots μ-slots
 returns c =
     let l = c .before in
     let a = l .before .before .before .args in
-    sym (l .slots .inv ∙ ap (lower (l .slots .holder)) (lowest-none (a .asked .now) (a .t3) (a .store .now) (a .count) (l .slots .i) (rw length-take (omega arith))) ∙ lower-nobody (l .slots .holder))
+    sym (l .slots .inv ∙ ap (lower (l .slots .holder))
+    (lowest-none (a .asked .now) (a .t3) (a .store .now) (a .count) (l .slots .i) (rw length-take (omega arith)))
+    ∙ lower-nobody (l .slots .holder))
 
 returns-2 : tie.Need-returns-2 Inv-parameters μ-parameters Inv-slots μ-slots
 returns-2 c =
@@ -160,9 +204,12 @@ returns-2 c =
     let p = n .before .before .before .before .before .before .before .parameters in
     let t = n .before .before .before .before .before .before .before .before .before .before .before in
     let held = ap (λ (h : Holder). lower h (Number (slotOf (t .before) .number))) (p .inv .0) in
-    let zero : lower (t .before .slots .holder) (holderOf (t .before)) ≡ lower (t .before .slots .holder) (Number 0) = ap (lower (t .before .slots .holder)) (named n ∙ ap Number (c .if2 .taken)) in
-    c .before .before .lower-of .ensures ∙ held ∙ ap (λ (k : ℕ). lower (t .before .slots .holder) (Number k)) (c .if2 .taken)
-    ∙ sym (onward t ∙ ap (λ (h : Holder). lower h (restOf (t .before))) zero ∙ lower-zero (t .before .slots .holder) (restOf (t .before)))
+    let zero : lower (t .before .slots .holder) (holderOf (t .before)) ≡ lower (t .before .slots .holder) (Number 0) =
+    ap (lower (t .before .slots .holder)) (named n ∙ ap Number (c .if2 .taken)) in
+    c .before .before .lower-of .ensures ∙ held ∙ ap (λ (k : ℕ). lower (t .before .slots .holder) (Number k))
+    (c .if2 .taken)
+    ∙ sym (onward t ∙ ap (λ (h : Holder). lower h (restOf (t .before))) zero ∙ lower-zero (t .before .slots .holder)
+    (restOf (t .before)))
 
 pub find-spec : {M : Type 1} → statement M
 find-spec =

@@ -16,7 +16,8 @@ use Rattle.names.proofs.header_in.Statement.{statement}
 use Rattle.names.proofs.header_in.Tie as tie
 
 -- the tag is that of another stage
-unfinished : (stage : Stage) (i : ℕ) (store : List ℕ) → OneOf (0 ∷ 1 ∷ []) (tagOf the-type stage) → [] ≡ headerAs stage i store
+unfinished : (stage : Stage) (i : ℕ) (store : List ℕ) → OneOf (0 ∷ 1 ∷ []) (tagOf the-type stage)
+    → [] ≡ headerAs stage i store
 unfinished Free i store h = refl
 unfinished Gathering i store h = refl
 unfinished (Finished m n) i store h = ⊎-elim (λ e. absurd (omega arith)) (λ e. absurd (omega arith)) h

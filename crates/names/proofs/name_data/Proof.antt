@@ -13,10 +13,12 @@ use Rattle.names.proofs.name_data.Statement.{statement}
 use Rattle.names.proofs.name_data.Tie as tie
 
 -- the name is there
-there : (c : tie.After-start) → nameIn (readHeader (c .before .before .before .before .args .header .now)) ≡ Data (c .start .given .0 .0) (c .start .given .0 .1 .0)
+there : (c : tie.After-start) → nameIn (readHeader (c .before .before .before .before .args .header .now))
+    ≡ Data (c .start .given .0 .0) (c .start .given .0 .1 .0)
 there c = sym (c .before .before .name-of .ensures) ∙ c .start .given .1
 
-inside : (c : tie.After-start) → c .start .given .0 .0 + c .start .given .0 .1 .0 ≤ length (c .before .before .before .before .args .header .now)
+inside : (c : tie.After-start) → c .start .given .0 .0 + c .start .given .0 .1 .0 ≤ length
+    (c .before .before .before .before .args .header .now)
 inside c = name-within _ _ _ (there c) .1
 
 name-of-requires : tie.Need-name-of-requires

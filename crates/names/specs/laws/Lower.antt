@@ -50,10 +50,14 @@ module _ (asked : List ℕ) (slots : List Slot) (store : List ℕ) (count i : �
   lowest-none h = rw (spent (take count slots) i h) refl
 
   -- the answer, after one more: what was held, this one, and what is left
-  pub lowest-on : i < count → i < length slots → (held : Holder) {answer : Holder} → answer ≡ lower held (lowestFrom asked i (drop i (take count slots)) store)
-      → answer ≡ lower (lower held (holderIn asked i (getD slots i freeSlot) store)) (lowestFrom asked (i + 1) (drop (i + 1) (take count slots)) store)
+  pub lowest-on : i < count → i < length slots → (held : Holder) {answer : Holder}
+      → answer ≡ lower held (lowestFrom asked i (drop i (take count slots)) store)
+      → answer ≡ lower (lower held (holderIn asked i (getD slots i freeSlot) store))
+      (lowestFrom asked (i + 1) (drop (i + 1) (take count slots)) store)
   unfolding lowestFrom
   lowest-on h g held e =
       let rest : Holder = lowestFrom asked (i + 1) (drop (i + 1) (take count slots)) store in
-      let step : lowestFrom asked i (drop i (take count slots)) store ≡ lower (holderIn asked i (getD slots i freeSlot) store) rest = rw (one-more freeSlot slots count i h g, add-one) refl in
+      let step : lowestFrom asked i (drop i (take count slots)) store
+      ≡ lower (holderIn asked i (getD slots i freeSlot) store) rest =
+      rw (one-more freeSlot slots count i h g, add-one) refl in
       e ∙ ap (lower held) step ∙ sym (lower-assoc held (holderIn asked i (getD slots i freeSlot) store) rest)

@@ -1,5 +1,5 @@
--- What is found is what is asked for: the lowest number among the finished objects that have the name, whatever slots they
--- are in, and nobody exactly where none has it; and ContentName's data is a part of the header.
+-- What is found is what is asked for: the lowest number among the finished objects that have the name, whatever slots
+-- they are in, and nobody exactly where none has it; and ContentName's data is a part of the header.
 use mathlib.Core.Path.{_≡_, refl, sym, ap, _∙_, subst}
 use mathlib.Core.Bool.{Bool, true, false}
 use mathlib.Core.List.{List, [], _∷_}
@@ -33,10 +33,12 @@ use Rattle.names.specs.Finding.{headerAs, headerIn, dataAs, nameData, ha
 -- ---- the name as a part of the header
 
 -- the name of a header lies inside it, and has its character set byte at least
-pub name-within : (header : List ℕ) (start size : ℕ) → nameIn (readHeader header) ≡ Data start size → (0 < size) × (start + size ≤ length header)
+pub name-within : (header : List ℕ) (start size : ℕ) → nameIn (readHeader header) ≡ Data start size → (0 < size)
+    × (start + size ≤ length header)
 name-within header start size e = go (readHeader header) refl e
   where
-    go : (r : Reading) → readHeader header ≡ r → nameIn r ≡ Data start size → (0 < size) × (start + size ≤ length header)
+    go : (r : Reading) → readHeader header ≡ r → nameIn r ≡ Data start size → (0 < size)
+        × (start + size ≤ length header)
     go (Refused why) f g = let z : _≡_ {A = ℕ} 0 1 = cc in absurd (omega arith)
     go (Read fields) f g = name-inside header fields start size f g
 
@@ -58,10 +60,20 @@ pub has-name : (asked header : List ℕ) → (hasName asked header ≡ true) ↔
 unfolding hasName
 has-name asked header = (λ e. go (readHeader header) refl e, back)
   where
-    names : (r : Reading) → readHeader header ≡ r → (n : Name) → nameIn r ≡ n → namedAs header asked n ≡ true → Named asked header
+    names : (r : Reading) → readHeader header ≡ r → (n : Name) → nameIn r ≡ n → namedAs header asked n ≡ true
+        → Named asked header
     names r f Absent g e = let z : _≡_ {A = ℕ} 0 1 = cc in absurd (omega arith)
     names (Refused why) f (Data start size) g e = let z : _≡_ {A = ℕ} 0 1 = cc in absurd (omega arith)
-    names (Read fields) f (Data start size) g e = record { fields = fields; reads = f; start = start; size = size; name = g; same = matches-exactly (take size (drop start header)) asked .0 e }
+    names (Read fields) f (Data start size) g e =
+        record {
+          fields = fields;
+          reads = f;
+          start = start;
+          size = size;
+          name = g;
+          same =
+              matches-exactly (take size (drop start header)) asked .0 e;
+        }
 
     go : (r : Reading) → readHeader header ≡ r → namedAs header asked (nameIn r) ≡ true → Named asked header
     go r f e = names r f (nameIn r) refl e
@@ -105,22 +117,35 @@ module _ (asked store : List ℕ) where
     none-more e n (suc j) h = tail j ∙ n j (omega arith)
 
     -- this one has the name, and none of the others, or none of a lower number
-    least-here : hasName asked (headerIn first slot store) ≡ true → ((j : ℕ) → j < length slots → passes (suc first) slots j ≡ true → slot .number ≤ getD slots j freeSlot .number) → Least first (slot ∷ slots) (slot .number)
+    least-here : hasName asked (headerIn first slot store) ≡ true
+        → ((j : ℕ) → j < length slots → passes (suc first) slots j ≡ true
+        → slot .number ≤ getD slots j freeSlot .number) → Least first (slot ∷ slots) (slot .number)
     least-here e others = record { slot = 0; inside = omega arith; here = head ∙ e; numbered = refl; lowest = lowest }
       where
-        lowest : (j : ℕ) → j < suc (length slots) → passes first (slot ∷ slots) j ≡ true → slot .number ≤ getD (slot ∷ slots) j freeSlot .number
+        lowest : (j : ℕ) → j < suc (length slots) → passes first (slot ∷ slots) j ≡ true
+            → slot .number ≤ getD (slot ∷ slots) j freeSlot .number
         lowest zero h f = omega arith
         lowest (suc j) h f = others j (omega arith) (sym (tail j) ∙ f)
 
     -- one of the others has the name, and this one has it not, or has no lower number
-    least-later : (number : ℕ) → (hasName asked (headerIn first slot store) ≡ true → number ≤ slot .number) → Least (suc first) slots number → Least first (slot ∷ slots) number
-    least-later number g l = record { slot = suc (l .slot); inside = omega (arith, l .inside); here = tail (l .slot) ∙ l .here; numbered = l .numbered; lowest = lowest }
+    least-later : (number : ℕ) → (hasName asked (headerIn first slot store) ≡ true → number ≤ slot .number)
+        → Least (suc first) slots number → Least first (slot ∷ slots) number
+    least-later number g l = record {
+      slot = suc (l .slot);
+      inside = omega (arith, l .inside);
+      here =
+          tail (l .slot) ∙ l .here;
+      numbered = l .numbered;
+      lowest = lowest;
+    }
       where
-        lowest : (j : ℕ) → j < suc (length slots) → passes first (slot ∷ slots) j ≡ true → number ≤ getD (slot ∷ slots) j freeSlot .number
+        lowest : (j : ℕ) → j < suc (length slots) → passes first (slot ∷ slots) j ≡ true
+            → number ≤ getD (slot ∷ slots) j freeSlot .number
         lowest zero h f = g (sym head ∙ f)
         lowest (suc j) h f = l .lowest j (omega arith) (sym (tail j) ∙ f)
 
-    step : (b : Bool) (rest : Holder) → hasName asked (headerIn first slot store) ≡ b → Told (suc first) slots rest → Told first (slot ∷ slots) (lower (pick b (Number (slot .number)) Nobody) rest)
+    step : (b : Bool) (rest : Holder) → hasName asked (headerIn first slot store) ≡ b → Told (suc first) slots rest
+        → Told first (slot ∷ slots) (lower (pick b (Number (slot .number)) Nobody) rest)
     unfolding None
     step false Nobody e t = none-more e t
     step false (Number n) e t = least-later n (λ f. let z : _≡_ {A = ℕ} 0 1 = cc in absurd (omega arith)) t
@@ -128,20 +153,24 @@ module _ (asked store : List ℕ) where
     step true (Number n) e t = go (decLe (slot .number) n)
       where
         go : Dec (slot .number ≤ n) → Least first (slot ∷ slots) (min (slot .number) n)
-        go (yes g) = let m : min (slot .number) n ≡ slot .number = omega arith in rw m (least-here e (λ j h f. omega (arith, t .lowest j h f)))
+        go (yes g) = let m : min (slot .number) n ≡ slot .number = omega arith in
+            rw m (least-here e (λ j h f. omega (arith, t .lowest j h f)))
         go (no g) = let m : min (slot .number) n ≡ n = omega arith in rw m (least-later n (λ f. omega arith) t)
 
   told : (first : ℕ) (slots : List Slot) → Told first slots (lowestFrom asked first slots store)
   unfolding lowestFrom holderIn None
   told first [] = λ j h. absurd (omega arith)
-  told first (slot ∷ slots) = step first slot slots (hasName asked (headerIn first slot store)) (lowestFrom asked (suc first) slots store) refl (told (suc first) slots)
+  told first (slot ∷ slots) = step first slot slots (hasName asked (headerIn first slot store))
+      (lowestFrom asked (suc first) slots store) refl (told (suc first) slots)
 
 -- ---- the objects
 
 -- a slot past the end holds no object
-pub object-there : (count : ℕ) (slots : List Slot) (store : List ℕ) (number : ℕ) (header : List ℕ) (o : Object count slots store number header) → o .slot < length (take count slots)
+pub object-there : (count : ℕ) (slots : List Slot) (store : List ℕ) (number : ℕ) (header : List ℕ)
+    (o : Object count slots store number header) → o .slot < length (take count slots)
 unfolding slotAt freeSlot
-object-there count slots store number header o = rw length-take (omega (arith, o .inside, go (decLt (o .slot) (length slots))))
+object-there count slots store number header o =
+    rw length-take (omega (arith, o .inside, go (decLt (o .slot) (length slots))))
   where
     go : Dec (o .slot < length slots) → o .slot < length slots
     go (yes g) = g
@@ -155,7 +184,8 @@ nothing-named : (asked : List ℕ) → Named asked [] → ⊥
 nothing-named asked n = let z : _≡_ {A = ℕ} 0 1 = cc (n .reads, given-only [] (core (omega arith))) in omega arith
 
 -- what has a header that has a name is finished
-finished-named : (asked store : List ℕ) (i : ℕ) (stage : Stage) → Named asked (headerAs stage i store) → (h b : ℕ) × (stage ≡ Finished h b)
+finished-named : (asked store : List ℕ) (i : ℕ) (stage : Stage) → Named asked (headerAs stage i store) → (h b : ℕ)
+    × (stage ≡ Finished h b)
 finished-named asked store i Free n = absurd (nothing-named asked n)
 finished-named asked store i Gathering n = absurd (nothing-named asked n)
 finished-named asked store i (Finished h b) n = (h, b, refl)
@@ -169,19 +199,33 @@ module _ (asked : List ℕ) (count : ℕ) (slots : List Slot) (store : List ℕ)
       (g, getD-take count slots j freeSlot g)
 
   -- where its header has the name, it holds an object that has it
-  object-of : (j : ℕ) → j < length (take count slots) → passes asked store 0 (take count slots) j ≡ true → (header : List ℕ) × Object count slots store (getD (take count slots) j freeSlot .number) header × Named asked header
+  object-of : (j : ℕ) → j < length (take count slots) → passes asked store 0 (take count slots) j ≡ true
+      → (header : List ℕ) × Object count slots store (getD (take count slots) j freeSlot .number) header
+      × Named asked header
   unfolding passes headerIn
   object-of j h e =
       let f = first j h in
-      let n : Named asked (headerAs (slotAt j slots .stage) j store) = has-name asked (headerAs (slotAt j slots .stage) j store) .0 (rw (f .1, zero-add j) at e) in
+      let n : Named asked (headerAs (slotAt j slots .stage) j store) =
+      has-name asked (headerAs (slotAt j slots .stage) j store) .0 (rw (f .1, zero-add j) at e) in
       let s = finished-named asked store j (slotAt j slots .stage) n in (
         startOf headerMost j (s .0) store,
-        record { slot = j; inside = f .0; headerLength = s .0; bodyLength = s .1; finished = s .2; numbered = sym (ap (λ (x : Slot). x .number) (f .1)); stored = refl },
+        record {
+          slot = j;
+          inside = f .0;
+          headerLength = s .0;
+          bodyLength = s .1;
+          finished = s .2;
+          numbered =
+              sym (ap (λ (x : Slot). x .number) (f .1));
+          stored = refl;
+        },
         rw (s .2) at n,
       )
 
   -- and an object that has the name is in such a slot
-  slot-of : (number : ℕ) (header : List ℕ) (o : Object count slots store number header) → Named asked header → (o .slot < length (take count slots)) × (passes asked store 0 (take count slots) (o .slot) ≡ true) × (getD (take count slots) (o .slot) freeSlot .number ≡ number)
+  slot-of : (number : ℕ) (header : List ℕ) (o : Object count slots store number header) → Named asked header
+      → (o .slot < length (take count slots)) × (passes asked store 0 (take count slots) (o .slot) ≡ true)
+      × (getD (take count slots) (o .slot) freeSlot .number ≡ number)
   unfolding passes headerIn
   slot-of number header o n =
       let there = object-there count slots store number header o in
@@ -191,11 +235,14 @@ module _ (asked : List ℕ) (count : ℕ) (slots : List Slot) (store : List ℕ)
         ap (λ (x : Slot). x .number) (f .1) ∙ o .numbered,
       )
 
-  answer : (holder : Holder) → foundByName asked count slots store ≡ holder → Told asked store 0 (take count slots) holder
+  answer : (holder : Holder) → foundByName asked count slots store ≡ holder
+      → Told asked store 0 (take count slots) holder
   unfolding foundByName
-  answer holder e = subst (λ (h : Holder). Told asked store 0 (take count slots) h) e (told asked store 0 (take count slots))
+  answer holder e = subst (λ (h : Holder). Told asked store 0 (take count slots) h) e
+      (told asked store 0 (take count slots))
 
-  none-of : foundByName asked count slots store ≡ Nobody → (number : ℕ) (header : List ℕ) → Object count slots store number header → Named asked header → ⊥
+  none-of : foundByName asked count slots store ≡ Nobody → (number : ℕ) (header : List ℕ)
+      → Object count slots store number header → Named asked header → ⊥
   unfolding None
   none-of e number header o n =
       let s = slot-of number header o n in
@@ -206,39 +253,66 @@ module _ (asked : List ℕ) (count : ℕ) (slots : List Slot) (store : List ℕ)
   lowest-of number e =
       let l = answer (Number number) e in
       let o = object-of (l .slot) (l .inside) (l .here) in
-      record { header = o .0; object = rw (l .numbered) at (o .1); named = o .2; lowest = λ other h p n. let s = slot-of other h p n in omega (arith, s .2, l .lowest (p .slot) (s .0) (s .1)) }
+      record {
+        header = o .0;
+        object = rw (l .numbered) at (o .1);
+        named = o .2;
+        lowest = λ other h p n. let s =
+            slot-of other h p n in omega (arith, s .2, l .lowest (p .slot) (s .0) (s .1));
+      }
 
   -- nobody is found exactly where no finished object has the name
-  pub found-nobody : (foundByName asked count slots store ≡ Nobody) ↔ ((number : ℕ) (header : List ℕ) → Object count slots store number header → Named asked header → ⊥)
+  pub found-nobody : (foundByName asked count slots store ≡ Nobody)
+      ↔ ((number : ℕ) (header : List ℕ) → Object count slots store number header → Named asked header → ⊥)
   found-nobody = (none-of, λ none. go none (foundByName asked count slots store) refl)
     where
-      go : ((number : ℕ) (header : List ℕ) → Object count slots store number header → Named asked header → ⊥) → (holder : Holder) → foundByName asked count slots store ≡ holder → foundByName asked count slots store ≡ Nobody
+      go : ((number : ℕ) (header : List ℕ) → Object count slots store number header → Named asked header → ⊥)
+          → (holder : Holder) → foundByName asked count slots store ≡ holder
+          → foundByName asked count slots store ≡ Nobody
       go none Nobody e = e
       go none (Number n) e = let l = lowest-of n e in absurd (none n (l .header) (l .object) (l .named))
 
   -- a number is found exactly where it is the lowest of those that have the name
-  pub found-lowest : (number : ℕ) → (foundByName asked count slots store ≡ Number number) ↔ Lowest asked count slots store number
+  pub found-lowest : (number : ℕ) → (foundByName asked count slots store ≡ Number number)
+      ↔ Lowest asked count slots store number
   found-lowest number = (lowest-of number, λ l. go l (foundByName asked count slots store) refl)
     where
-      go : Lowest asked count slots store number → (holder : Holder) → foundByName asked count slots store ≡ holder → foundByName asked count slots store ≡ Number number
+      go : Lowest asked count slots store number → (holder : Holder) → foundByName asked count slots store ≡ holder
+          → foundByName asked count slots store ≡ Number number
       go l Nobody e = absurd (none-of e number (l .header) (l .object) (l .named))
       go l (Number n) e =
           let m = lowest-of n e in
-          let s : n ≡ number = omega (arith, m .lowest number (l .header) (l .object) (l .named), l .lowest n (m .header) (m .object) (m .named)) in
+          let s : n ≡ number = omega (
+            arith,
+            m .lowest number (l .header) (l .object) (l .named),
+            l .lowest n (m .header) (m .object) (m .named),
+          ) in
           e ∙ ap Number s
 
 -- ---- whatever slots they are in
 
 -- every finished object of the one state is one of the other
 abbrev pub Holds : ℕ → List Slot → List ℕ → ℕ → List Slot → List ℕ → Type 0
-Holds count slots store count' slots' store' = (number : ℕ) (header : List ℕ) → Object count slots store number header → Object count' slots' store' number header
+Holds count slots store count' slots' store' =
+    (number : ℕ) (header : List ℕ) → Object count slots store number header → Object count' slots' store' number header
 
 -- where the finished objects are the same, so is what is found
-pub found-anywhere : (asked : List ℕ) (count : ℕ) (slots : List Slot) (store : List ℕ) (count' : ℕ) (slots' : List Slot) (store' : List ℕ) → Holds count slots store count' slots' store' → Holds count' slots' store' count slots store → foundByName asked count slots store ≡ foundByName asked count' slots' store'
+pub found-anywhere : (asked : List ℕ) (count : ℕ) (slots : List Slot) (store : List ℕ) (count' : ℕ) (slots' : List Slot)
+    (store' : List ℕ) → Holds count slots store count' slots' store' → Holds count' slots' store' count slots store
+    → foundByName asked count slots store ≡ foundByName asked count' slots' store'
 found-anywhere asked count slots store count' slots' store' there back = go (foundByName asked count slots store) refl
   where
-    go : (holder : Holder) → foundByName asked count slots store ≡ holder → foundByName asked count slots store ≡ foundByName asked count' slots' store'
-    go Nobody e = e ∙ sym (found-nobody asked count' slots' store' .1 (λ number header o n. found-nobody asked count slots store .0 e number header (back number header o) n))
+    go : (holder : Holder) → foundByName asked count slots store ≡ holder
+        → foundByName asked count slots store ≡ foundByName asked count' slots' store'
+    go Nobody e = e ∙ sym (found-nobody asked count' slots' store' .1
+        (λ number header o n. found-nobody asked count slots store .0 e number header (back number header o) n))
     go (Number number) e =
         let l = found-lowest asked count slots store number .0 e in
-        e ∙ sym (found-lowest asked count' slots' store' number .1 (record { header = l .header; object = there number (l .header) (l .object); named = l .named; lowest = λ other h o n. l .lowest other h (back other h o) n }))
+        e ∙ sym (found-lowest asked count' slots' store' number .1
+        (record {
+          header = l .header;
+          object = there number (l .header) (l .object);
+          named = l .named;
+          lowest =
+              λ other h o n. l .lowest other h (back other h o) n;
+        }))

@@ -3,9 +3,9 @@
 use mathlib.Core.Path.{sym, ap, _∙_}
 use borrow.Author.Tests.{not-true, not-false}
 use Rattle.slots.specs.laws.Ready.{sound-limits}
-use Rattle.slots.specs.Stores.{Stores}
+use Rattle.collector.specs.State.{stores, state}
+use Rattle.collector.specs.laws.State.{slots-sound}
 use Rattle.queries.specs.Questions.{soughtAs, find}
-use Rattle.queries.specs.laws.Theorems.{slots-sound}
 use borrow.Author.Needs.{needs}
 use Rattle.queries.proofs.find.Statement.{statement}
 use Rattle.queries.proofs.find.Tie as tie
@@ -20,15 +20,20 @@ returns c = rw (sym (c .before .is-sound .ensures) ∙ not-true _ (c .if1 .taken
 find-requires : tie.Need-find-requires
 find-requires c κs =
     let a = c .before .before .before .before .before .before .before .args in
-    let lends : Stores = record { header = a .header .now; body = a .body .now; marks = a .marks .now } in
-    sound-limits (a .collector .limit) (a .collector .count) (a .collector .slots) lends (slots-sound (a .collector) (a .counts) lends (sym (c .before .before .is-sound .ensures) ∙ not-false _ (c .before .if1 .left))) .slots
+    let lent = stores (a .header) (a .body) (a .marks) in
+    let good = sym (c .before .before .is-sound .ensures) ∙ not-false _ (c .before .if1 .left) in
+    let slots = slots-sound (state (a .collector) (a .counts) lent) good in
+    sound-limits (a .collector .limit) (a .collector .count) (a .collector .slots) lent slots .slots
 
 sought-as-requires : tie.Need-sought-as-requires
 sought-as-requires c κs = search needs
 
 returns-2 : tie.Need-returns-2
 unfolding find
-returns-2 c = rw (sym (c .before .before .before .before .is-sound .ensures) ∙ not-false _ (c .before .before .before .if1 .left)) (c .sought-as .ensures ∙ ap soughtAs (c .before .find .ensures))
+returns-2 c =
+    let good = sym (c .before .before .before .before .is-sound .ensures) ∙ not-false _
+    (c .before .before .before .if1 .left) in
+    rw good (c .sought-as .ensures ∙ ap soughtAs (c .before .find .ensures))
 
 pub find-spec : {M : Type 1} → statement M
 find-spec = tie.close (tie.spec is-sound-requires returns find-requires sought-as-requires returns-2)

@@ -32,7 +32,11 @@ returns c = rw (sym (c .before .before .before .locate .ensures) ∙ c .before .
 
 returns-2 : tie.Need-returns-2
 unfolding parameters show
-returns-2 c = rw (sym (c .before .before .before .before .before .before .locate .ensures) ∙ c .before .before .before .before .i .given .1) (c .asked-as .ensures ∙ ap askedAs (c .before .read .ensures ∙ ap readHeader (c .before .before .shown-at .ensures)))
+returns-2 c =
+    let at-locate = c .before .before .before .before .before .before in
+    rw (sym (at-locate .locate .ensures) ∙ c .before .before .before .before .i .given .1)
+    (c .asked-as .ensures ∙ ap askedAs
+    (c .before .read .ensures ∙ ap readHeader (c .before .before .shown-at .ensures)))
 
 pub parameters-spec : {M : Type 1} → statement M
 parameters-spec =

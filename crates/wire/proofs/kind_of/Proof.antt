@@ -15,7 +15,10 @@ returns-2 c = rw (c .match .keys2)
 
 returns-3 : tie.Need-returns-3
 unfolding kindOf
-returns-3 c = rw (ne-eqb (c .before .args .type-number) 3 (c .match .rest .0 .1), ne-eqb (c .before .args .type-number) 4 (c .match .rest .1))
+returns-3 c = rw (
+  ne-eqb (c .before .args .type-number) 3 (c .match .rest .0 .1),
+  ne-eqb (c .before .args .type-number) 4 (c .match .rest .1),
+)
 
 pub kind-of-spec : {M : Type 1} → statement M
 kind-of-spec = tie.close (tie.spec returns returns-2 returns-3)

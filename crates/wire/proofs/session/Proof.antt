@@ -17,7 +17,8 @@ returns : tie.Need-returns
 returns c = let s = c .before .before .before in no-segment (s .args .group .now) (s .args .part) (c .if1 .taken)
 
 returns-2 : tie.Need-returns-2
-returns-2 c = let s = c .before .before .before .before in no-access (s .args .group .now) (s .args .part) (c .before .if1 .left) (c .if2 .taken)
+returns-2 c = let s = c .before .before .before .before in
+    no-access (s .args .group .now) (s .args .part) (c .before .if1 .left) (c .if2 .taken)
 
 sub-end : tie.Need-sub-end
 sub-end c = search needs
@@ -38,7 +39,9 @@ add-if3 : tie.Need-add-if3
 add-if3 c = omega (arith, c .before .before .shared-slice-known2 .given 0)
 
 returns-3 : tie.Need-returns-3
-returns-3 c = let s = start (c .before) in access-past (s .args .group .now) (s .args .part) (c .before .before .if1 .left) (c .before .if2 .left) (c .if3 .taken)
+returns-3 c = let s = start (c .before) in
+    access-past (s .args .group .now) (s .args .part) (c .before .before .if1 .left) (c .before .if2 .left)
+    (c .if3 .taken)
 
 shared-slice-read-indicator : tie.Need-shared-slice-read-indicator
 shared-slice-read-indicator c = search needs
@@ -53,13 +56,15 @@ returns-4 : tie.Need-returns-4
 returns-4 c =
     let e = c .before .before .before in
     let s = start (e .before) in
-    no-transport (s .args .group .now) (s .args .part) (e .before .before .if1 .left) (e .before .if2 .left) (e .if3 .left) (c .if4 .taken)
+    no-transport (s .args .group .now) (s .args .part) (e .before .before .if1 .left) (e .before .if2 .left)
+    (e .if3 .left) (c .if4 .taken)
 
 returns-5 : tie.Need-returns-5
 returns-5 c =
     let e = c .before .before .before .before in
     let s = start (e .before) in
-    address-short (s .args .group .now) (s .args .part) (e .before .before .if1 .left) (e .before .if2 .left) (e .if3 .left) (c .before .if4 .left) (c .if5 .taken)
+    address-short (s .args .group .now) (s .args .part) (e .before .before .if1 .left) (e .before .if2 .left)
+    (e .if3 .left) (c .before .if4 .left) (c .if5 .taken)
 
 add-start : tie.Need-add-start
 add-start c = omega arith
@@ -74,7 +79,8 @@ returns-6 : tie.Need-returns-6
 returns-6 c =
     let e = c .before .before .before .before .before in
     let s = start (e .before) in
-    segment-past (s .args .group .now) (s .args .part) (e .before .before .if1 .left) (e .before .if2 .left) (e .if3 .left) (c .before .before .if4 .left) (c .before .if5 .left) (c .if6 .taken)
+    segment-past (s .args .group .now) (s .args .part) (e .before .before .if1 .left) (e .before .if2 .left)
+    (e .if3 .left) (c .before .before .if4 .left) (c .before .if5 .left) (c .if6 .taken)
 
 add-word-at : tie.Need-add-word-at
 add-word-at c = omega arith
@@ -100,8 +106,10 @@ returns-7 c =
     let f = w .before .before in
     let e = f .before .before .before .before .before in
     let s = start (e .before) in
-    size-refused (s .args .group .now) (s .args .part) (e .before .before .if1 .left) (e .before .if2 .left) (e .if3 .left) (f .before .before .if4 .left) (f .before .if5 .left) (f .if6 .left)
-    (w .before .word-at .result) (w .word-at2 .result) (w .before .word-at .ensures) (w .word-at2 .ensures) (sym (c .before .size-wrong .ensures) ∙ c .if7 .taken)
+    size-refused (s .args .group .now) (s .args .part) (e .before .before .if1 .left) (e .before .if2 .left)
+    (e .if3 .left) (f .before .before .if4 .left) (f .before .if5 .left) (f .if6 .left)
+    (w .before .word-at .result) (w .word-at2 .result) (w .before .word-at .ensures) (w .word-at2 .ensures)
+    (sym (c .before .size-wrong .ensures) ∙ c .if7 .taken)
 
 add-word-at-3 : tie.Need-add-word-at-3
 add-word-at-3 c = omega arith
@@ -119,9 +127,11 @@ returns-8 c =
     let f = w .before .before in
     let e = f .before .before .before .before .before in
     let s = start (e .before) in
-    segment-read (s .args .group .now) (s .args .part) (e .before .before .if1 .left) (e .before .if2 .left) (e .if3 .left) (f .before .before .if4 .left) (f .before .if5 .left) (f .if6 .left)
+    segment-read (s .args .group .now) (s .args .part) (e .before .before .if1 .left) (e .before .if2 .left)
+    (e .if3 .left) (f .before .before .if4 .left) (f .before .if5 .left) (f .if6 .left)
     (w .before .word-at .result) (w .word-at2 .result) (w .before .word-at .ensures) (w .word-at2 .ensures)
-    (c .before .word-at3 .result) (c .word-at4 .result) (sym (r .before .size-wrong .ensures) ∙ r .if7 .left) (c .before .word-at3 .ensures) (c .word-at4 .ensures)
+    (c .before .word-at3 .result) (c .word-at4 .result) (sym (r .before .size-wrong .ensures) ∙ r .if7 .left)
+    (c .before .word-at3 .ensures) (c .word-at4 .ensures)
 
 pub session-spec : {M : Type 1} → statement M
 session-spec =

@@ -10,7 +10,7 @@ use Rattle.answer.specs.declared.Refusal.the-variants as Refusal
 use Rattle.wire.specs.declared.Reading.{Reading}
 use Rattle.wire.specs.declared.Reading.the-variants.{Read}
 use Rattle.wire.specs.Wire.{groupLeast, groupMost, crcFlag, segmentFlag, userAccessFlag, typeNumber, lastFlag, userAccess, transportFlag, lengthIndicator, segmentSize, segmentStart, checkStart}
-use Rattle.wire.specs.Reading.{_if_otherwise_, kindOf, checkHolds, sizeWrong, segmentOf, carried, readingOf}
+use Rattle.wire.specs.Reading.{_if_otherwise_, kindOf, checkHolds, sizeWrong, segmentOf, carriedBy, readingOf}
 
 unfoldable pub sessionOf : List ℕ → Part → Reading
 sessionOf group part =
@@ -26,6 +26,6 @@ pub in-two-halves : (group : List ℕ) → readingOf group ≡ (
     Refusal.NoCheck if eqb (crcFlag group) 0 otherwise
     Refusal.Length if ltb (length group) 4 otherwise
     Refusal.BadCheck if not (checkHolds group) otherwise
-    carried (kindOf (typeNumber group)) (sessionOf group))
+    carriedBy (kindOf (typeNumber group)) (sessionOf group))
 unfolding readingOf sessionOf
 in-two-halves group = refl

@@ -1,5 +1,5 @@
--- What holds of every group that is read: its bytes lie inside the group, within document 01's bounds, and what document
--- 01 ignores plays no part.
+-- What holds of every group that is read: its bytes lie inside the group, within document 01's bounds, and what
+-- document 01 ignores plays no part.
 use mathlib.Core.Path.{_≡_, refl, ap, _∙_, subst}
 use mathlib.Core.Bool.{Bool, true, false, not, _||_, _&&_}
 use mathlib.Core.List.{List}
@@ -12,11 +12,11 @@ use Rattle.answer.specs.declared.Part.{Part}
 use Rattle.answer.specs.declared.Refusal.{Refusal}
 use Rattle.wire.specs.declared.Kind.{Kind}
 use Rattle.wire.specs.declared.Kind.the-variants.{Carries, Other}
-use Rattle.wire.specs.declared.Segment.{Segment}
+use Rattle.wire.specs.declared.Carried.{Carried}
 use Rattle.wire.specs.declared.Reading.{Reading}
 use Rattle.wire.specs.declared.Reading.the-variants.{Read}
 use Rattle.wire.specs.Wire.{groupLeast, groupMost, segmentLeast, segmentMost, fullLeast, checkBytes, byteAt, crcFlag, segmentFlag, userAccessFlag, typeNumber, lastFlag, segmentNumber, userAccess, transportFlag, lengthIndicator, transportNumber, segmentSize, segmentStart, checkStart}
-use Rattle.wire.specs.Reading.{_if_otherwise_, kindOf, checkHolds, sizeWrong, segmentOf, carried, readingOf}
+use Rattle.wire.specs.Reading.{bytesIn, _if_otherwise_, kindOf, checkHolds, sizeWrong, segmentOf, carriedBy, readingOf}
 
 -- ---- a group is read exactly when it passes every check
 
@@ -33,15 +33,18 @@ pub record Passes (group : List ℕ) (part : Part) : Type 0 where
   pub segmented : ltb (checkStart group) (segmentStart group) ≡ false
   pub sized : sizeWrong (segmentSize group) (checkStart group - segmentStart group) (lastFlag group) ≡ false
 
-passed : (refusal : Refusal) (test : Bool) (next : Reading) (segment : Segment) → (refusal if test otherwise next) ≡ Read segment → (test ≡ false) × (next ≡ Read segment)
+passed : (refusal : Refusal) (test : Bool) (next : Reading) (segment : Carried)
+    → (refusal if test otherwise next) ≡ Read segment → (test ≡ false) × (next ≡ Read segment)
 passed refusal true next segment e = let z : _≡_ {A = ℕ} 0 1 = cc in absurd (omega arith)
 passed refusal false next segment e = (refl, e)
 
-carried-part : (kind : Kind) (next : Part → Reading) (segment : Segment) → carried kind next ≡ Read segment → (part : Part) × (kind ≡ Carries part) × (next part ≡ Read segment)
+carried-part : (kind : Kind) (next : Part → Reading) (segment : Carried) → carriedBy kind next ≡ Read segment
+    → (part : Part) × (kind ≡ Carries part) × (next part ≡ Read segment)
 carried-part (Carries part) next segment e = (part, refl, e)
 carried-part Other next segment e = let z : _≡_ {A = ℕ} 0 1 = cc in absurd (omega arith)
 
-pub read-passes : (group : List ℕ) (segment : Segment) → readingOf group ≡ Read segment → (part : Part) × Passes group part × (segmentOf group part ≡ segment)
+pub read-passes : (group : List ℕ) (segment : Carried) → readingOf group ≡ Read segment → (part : Part)
+    × Passes group part × (segmentOf group part ≡ segment)
 unfolding readingOf
 read-passes group segment e =
     let bounded = passed _ _ _ segment e in
@@ -71,13 +74,24 @@ read-passes group segment e =
 
 pub passes-read : (group : List ℕ) (part : Part) → Passes group part → readingOf group ≡ Read (segmentOf group part)
 unfolding readingOf
-passes-read group part p = rw (p .bounded, p .checked, p .headed, p .holds, p .kind, p .flagged, p .accessed, p .addressed, p .segmented, p .sized)
+passes-read group part p = rw (
+  p .bounded,
+  p .checked,
+  p .headed,
+  p .holds,
+  p .kind,
+  p .flagged,
+  p .accessed,
+  p .addressed,
+  p .segmented,
+  p .sized,
+)
 
 -- ---- where the bytes lie
 
 -- the segment's bytes: between the segmentation header and the check word, 1 to 8,189 of them, and at least 16 where
 -- the segment is not the last one
-pub record Inside (group : List ℕ) (segment : Segment) : Type 0 where
+pub record Inside (group : List ℕ) (segment : Carried) : Type 0 where
   pub ends : segment .start + segment .length + checkBytes ≡ length group
   pub some : segmentLeast ≤ segment .length
   pub most : segment .length ≤ segmentMost
@@ -91,7 +105,8 @@ long-enough : (last : Bool) (size : ℕ) → (not last && ltb size fullLeast) �
 long-enough true size e f = let z : _≡_ {A = ℕ} 0 1 = cc in absurd (omega arith)
 long-enough false size e f = ltb-false size fullLeast e
 
-size-right : (size left : ℕ) (last : Bool) → sizeWrong size left last ≡ false → (size ≡ left) × (segmentLeast ≤ size) × (size ≤ segmentMost) × (last ≡ false → fullLeast ≤ size)
+size-right : (size left : ℕ) (last : Bool) → sizeWrong size left last ≡ false → (size ≡ left) × (segmentLeast ≤ size)
+    × (size ≤ segmentMost) × (last ≡ false → fullLeast ≤ size)
 unfolding sizeWrong
 size-right size left last e =
     let tests = either-false _ (not last && ltb size fullLeast) e in
@@ -105,10 +120,11 @@ unfolding segmentOf
 inside-passes group part p =
     let size = size-right (segmentSize group) (checkStart group - segmentStart group) (lastFlag group) (p .sized) in
     let whole : groupLeast ≤ length group = ltb-false (length group) groupLeast (either-false _ _ (p .bounded) .0) in
-    let starts : segmentStart group ≤ checkStart group = ltb-false (checkStart group) (segmentStart group) (p .segmented) in
+    let starts : segmentStart group ≤ checkStart group =
+    ltb-false (checkStart group) (segmentStart group) (p .segmented) in
     record { ends = omega (arith, size .0); some = size .1; most = size .2; enough = size .3 }
 
-pub inside : (group : List ℕ) (segment : Segment) → readingOf group ≡ Read segment → Inside group segment
+pub inside : (group : List ℕ) (segment : Carried) → readingOf group ≡ Read segment → Inside group segment
 inside group segment e =
     let read = read-passes group segment e in
     subst (Inside group) (read .2) (inside-passes group (read .0) (read .1))
@@ -126,13 +142,11 @@ pub record SameButIgnored (group other : List ℕ) : Type 0 where
   pub indicated : lengthIndicator other ≡ lengthIndicator group
   pub transport : transportNumber other ≡ transportNumber group
   pub size : segmentSize other ≡ segmentSize group
-  pub bytes : take (segmentSize group) (drop (segmentStart group) other) ≡ take (segmentSize group) (drop (segmentStart group) group)
+  pub bytes : take (segmentSize group) (drop (segmentStart group) other)
+      ≡ take (segmentSize group) (drop (segmentStart group) group)
 
--- the bytes that a segment has in its group
-abbrev pub bytesIn : List ℕ → Segment → List ℕ
-bytesIn group segment = take (segment .length) (drop (segment .start) group)
-
-same-passes : (group other : List ℕ) (part : Part) → SameButIgnored group other → checkHolds other ≡ true → Passes group part → Passes other part
+same-passes : (group other : List ℕ) (part : Part) → SameButIgnored group other → checkHolds other ≡ true
+    → Passes group part → Passes other part
 same-passes group other part same holds p = record {
   bounded = cc;
   checked = cc;
@@ -146,20 +160,23 @@ same-passes group other part same holds p = record {
   sized = cc;
 }
 
-same-segment : (group other : List ℕ) (part : Part) → SameButIgnored group other → segmentOf other part ≡ segmentOf group part
+same-segment : (group other : List ℕ) (part : Part) → SameButIgnored group other
+    → segmentOf other part ≡ segmentOf group part
 unfolding segmentOf
 same-segment group other part same = cc
 
-same-bytes : (group other : List ℕ) (part : Part) → SameButIgnored group other → bytesIn other (segmentOf group part) ≡ bytesIn group (segmentOf group part)
+same-bytes : (group other : List ℕ) (part : Part) → SameButIgnored group other
+    → bytesIn other (segmentOf group part) ≡ bytesIn group (segmentOf group part)
 unfolding segmentOf
 same-bytes group other part same = same .bytes
 
 -- the other group, with a check word of its own that holds, is read as the same segment of the same bytes
-pub ignored : (group other : List ℕ) (segment : Segment) → SameButIgnored group other → checkHolds other ≡ true → readingOf group ≡ Read segment
+pub ignored : (group other : List ℕ) (segment : Carried) → SameButIgnored group other → checkHolds other ≡ true
+    → readingOf group ≡ Read segment
     → (readingOf other ≡ Read segment) × (bytesIn other segment ≡ bytesIn group segment)
 ignored group other segment same holds e =
     let read = read-passes group segment e in
     let other-passes = same-passes group other (read .0) same holds (read .1) in (
       passes-read other (read .0) other-passes ∙ ap Read (same-segment group other (read .0) same ∙ read .2),
-      subst (λ (s : Segment). bytesIn other s ≡ bytesIn group s) (read .2) (same-bytes group other (read .0) same),
+      subst (λ (s : Carried). bytesIn other s ≡ bytesIn group s) (read .2) (same-bytes group other (read .0) same),
     )

@@ -22,7 +22,8 @@ add-result : tie.Need-add-result
 add-result c = record { fits = omega (arith, c .returned-word .ensures .1) }
 
 returns : tie.Need-returns
-returns c = rw (c .before .number-of .ensures, c .returned-word .ensures .0, c .before .before .returned-with .ensures) refl
+returns c = rw (c .before .number-of .ensures, c .returned-word .ensures .0, c .before .before .returned-with .ensures)
+    refl
 
 pub answer-word-spec : {M : Type 1} → statement M
 answer-word-spec =

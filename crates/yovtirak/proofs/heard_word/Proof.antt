@@ -17,22 +17,40 @@ part-word-requires : tie.Need-part-word-requires
 part-word-requires c κs = search needs
 
 mul-result : tie.Need-mul-result
-mul-result c = record { fits = omega (arith, part-small (c .before .before .before .args .heard .part), c .part-word .ensures) }
+mul-result c = record {
+  fits = omega (
+    arith,
+    part-small (c .before .before .before .args .heard .part),
+    c .part-word .ensures,
+  );
+}
 
 mul-result-2 : tie.Need-mul-result-2
 mul-result-2 c = search needs
 
 add-result : tie.Need-add-result
-add-result c = record { fits = omega (arith, part-small (c .before .before .before .args .heard .part), c .part-word .ensures) }
+add-result c = record {
+  fits = omega (
+    arith,
+    part-small (c .before .before .before .args .heard .part),
+    c .part-word .ensures,
+  );
+}
 
 mul-result-3 : tie.Need-mul-result-3
 mul-result-3 c = search needs
 
 add-result-2 : tie.Need-add-result-2
-add-result-2 c = record { fits = omega (arith, part-small (c .before .before .before .args .heard .part), c .part-word .ensures) }
+add-result-2 c = record {
+  fits =
+      omega (arith, part-small (c .before .before .before .args .heard .part), c .part-word .ensures);
+}
 
 returns : tie.Need-returns
-returns c = (rw (c .part-word .ensures) refl, omega (arith, part-small (c .before .before .before .args .heard .part), c .part-word .ensures))
+returns c = (
+  rw (c .part-word .ensures) refl,
+  omega (arith, part-small (c .before .before .before .args .heard .part), c .part-word .ensures),
+)
 
 pub heard-word-spec : {M : Type 1} → statement M
 heard-word-spec =

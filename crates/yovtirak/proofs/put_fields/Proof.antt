@@ -48,17 +48,23 @@ name-length-requires : tie.Need-name-length-requires
 name-length-requires c κs = search needs
 
 slice-write-told-7 : tie.Need-slice-write-told-7
-slice-write-told-7 c = simp length-set (omega (arith, c .before .before .before .before .before .before .before .before .pre))
+slice-write-told-7 c =
+    let start = c .before .before .before .before .before .before .before .before in
+    simp length-set (omega (arith, start .pre))
 
 same-length : tie.Need-same-length
 same-length c = search needs
 
 returns : tie.Need-returns
 returns c =
-    let a = c .before .before .before .before .before .before .before .before .args in
-    let f = a .fields in
-    rw (c .before .before .priority-word .ensures, c .before .name-start .ensures, c .name-length .ensures)
-    (seven-put (a .told .now) (f .«body_size») (f .«header_size») (f .«content_type») (f .«content_sub_type») (priorityWord (f .priority)) (nameStart (f .name)) (nameLength (f .name)) (c .before .before .before .before .before .before .before .before .pre))
+    let start = c .before .before .before .before .before .before .before .before in
+    let a = start .args in
+    let f = a .fields in rw (
+      c .before .before .priority-word .ensures,
+      c .before .name-start .ensures,
+      c .name-length .ensures,
+    ) (seven-put (a .told .now) (f .«body_size») (f .«header_size») (f .«content_type»)
+    (f .«content_sub_type») (priorityWord (f .priority)) (nameStart (f .name)) (nameLength (f .name)) (start .pre))
 
 pub put-fields-spec : {M : Type 1} → statement M
 put-fields-spec =

@@ -27,7 +27,8 @@ same-length c = search needs
 returns : tie.Need-returns
 returns c =
     let a = c .before .before .before .args in
-    rw (c .before .header-word .ensures, c .body-word .ensures) (three-put (a .place .now) (a .i) (headerWord (a .stage)) (bodyWord (a .stage)) (c .before .before .before .pre))
+    rw (c .before .header-word .ensures, c .body-word .ensures)
+    (three-put (a .place .now) (a .i) (headerWord (a .stage)) (bodyWord (a .stage)) (c .before .before .before .pre))
 
 pub put-place-spec : {M : Type 1} → statement M
 put-place-spec =

@@ -11,7 +11,8 @@ use Rattle.yovtirak.proofs.yovtirak_find.Statement.{statement}
 use Rattle.yovtirak.proofs.yovtirak_find.Tie as tie
 
 -- the state's words hold one
-held : (e : tie.Else2) → readable (e .before .before .before .before .before .before .before .before .before .args .state .now) ≡ true
+held : (e : tie.Else2) → readable
+    (e .before .before .before .before .before .before .before .before .before .args .state .now) ≡ true
 held e = sym (e .before .readable .ensures) ∙ not-false _ (e .if2 .left)
 
 returns : tie.Need-returns
@@ -23,10 +24,15 @@ readable-requires c κs = search needs
 
 returns-2 : tie.Need-returns-2
 unfolding findCall
-returns-2 c = rw (eq-eqb _ _ (c .before .before .if1 .left), sym (c .before .readable .ensures) ∙ not-true _ (c .if2 .taken)) refl
+returns-2 c = rw (
+  eq-eqb _ _ (c .before .before .if1 .left),
+  sym (c .before .readable .ensures) ∙ not-true _ (c .if2 .taken),
+) refl
 
 collector-from-requires : tie.Need-collector-from-requires
-collector-from-requires c κs = readable-length (c .before .before .before .before .before .before .before .before .before .args .state .now) (held c)
+collector-from-requires c κs =
+    let start = c .before .before .before .before .before .before .before .before .before in
+    readable-length (start .args .state .now) (held c)
 
 counts-from-requires : tie.Need-counts-from-requires
 counts-from-requires c κs = search needs
@@ -41,7 +47,13 @@ returns-3 : tie.Need-returns-3
 unfolding findCall
 returns-3 c =
     let e = c .before .before .before .before in
-    rw (eq-eqb _ _ (e .before .before .if1 .left), held e, ← (c .before .before .before .collector-from .ensures), ← (c .before .before .counts-from .ensures), ← (c .before .find .ensures)) (c .sought-word .ensures)
+    rw (
+      eq-eqb _ _ (e .before .before .if1 .left),
+      held e,
+      ← (c .before .before .before .collector-from .ensures),
+      ← (c .before .before .counts-from .ensures),
+      ← (c .before .find .ensures),
+    ) (c .sought-word .ensures)
 
 pub yovtirak-find-spec : {M : Type 1} → statement M
 yovtirak-find-spec =

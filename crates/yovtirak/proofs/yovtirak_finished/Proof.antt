@@ -11,7 +11,8 @@ use Rattle.yovtirak.proofs.yovtirak_finished.Statement.{statement}
 use Rattle.yovtirak.proofs.yovtirak_finished.Tie as tie
 
 -- the state's words hold one
-held : (e : tie.Else3) → readable (e .before .before .before .before .before .before .before .before .before .before .args .state .now) ≡ true
+held : (e : tie.Else3) → readable
+    (e .before .before .before .before .before .before .before .before .before .before .args .state .now) ≡ true
 held e = sym (e .before .readable .ensures) ∙ not-false _ (e .if3 .left)
 
 returns : tie.Need-returns
@@ -27,10 +28,16 @@ readable-requires c κs = search needs
 
 returns-3 : tie.Need-returns-3
 unfolding finishedCall
-returns-3 c = rw (eq-eqb _ _ (c .before .before .before .if1 .left), eq-eqb _ _ (c .before .before .if2 .left), sym (c .before .readable .ensures) ∙ not-true _ (c .if3 .taken)) refl
+returns-3 c = rw (
+  eq-eqb _ _ (c .before .before .before .if1 .left),
+  eq-eqb _ _ (c .before .before .if2 .left),
+  sym (c .before .readable .ensures) ∙ not-true _ (c .if3 .taken),
+) refl
 
 collector-from-requires : tie.Need-collector-from-requires
-collector-from-requires c κs = readable-length (c .before .before .before .before .before .before .before .before .before .before .args .state .now) (held c)
+collector-from-requires c κs =
+    let start = c .before .before .before .before .before .before .before .before .before .before in
+    readable-length (start .args .state .now) (held c)
 
 counts-from-requires : tie.Need-counts-from-requires
 counts-from-requires c κs = search needs
@@ -52,7 +59,16 @@ unfolding finishedCall
 returns-4 c =
     let k = c .before .before .before in
     let e = k .before .before .before in
-    rw (eq-eqb _ _ (e .before .before .before .if1 .left), eq-eqb _ _ (e .before .before .if2 .left), held e, ← (k .before .before .collector-from .ensures), ← (k .before .counts-from .ensures), ← (k .locate .ensures), c .refused-word .ensures, c .before .enum-told .given .1) refl
+    rw (
+      eq-eqb _ _ (e .before .before .before .if1 .left),
+      eq-eqb _ _ (e .before .before .if2 .left),
+      held e,
+      ← (k .before .before .collector-from .ensures),
+      ← (k .before .counts-from .ensures),
+      ← (k .locate .ensures),
+      c .refused-word .ensures,
+      c .before .enum-told .given .1,
+    ) refl
 
 stage-at-requires : tie.Need-stage-at-requires
 stage-at-requires c κs = search needs
@@ -66,9 +82,20 @@ same-length c = search needs
 returns-5 : tie.Need-returns-5
 unfolding finishedCall
 returns-5 c =
-    let k = c .before .before .before .before .before .before .before .before .before in
+    let at-located = c .before .before .before .before .before .before .before in
+    let at-before = at-located .before in
+    let k = at-before .before in
     let e = k .before .before .before in
-    rw (eq-eqb _ _ (e .before .before .before .if1 .left), eq-eqb _ _ (e .before .before .if2 .left), held e, ← (k .before .before .collector-from .ensures), ← (k .before .counts-from .ensures), sym (k .locate .ensures) ∙ c .before .before .before .before .before .before .before .located .given .1, c .before .before .put-place .ensures, c .before .before .before .stage-at .ensures) refl
+    rw (
+      eq-eqb _ _ (e .before .before .before .if1 .left),
+      eq-eqb _ _ (e .before .before .if2 .left),
+      held e,
+      ← (k .before .before .collector-from .ensures),
+      ← (k .before .counts-from .ensures),
+      sym (k .locate .ensures) ∙ at-located .located .given .1,
+      c .before .before .put-place .ensures,
+      c .before .before .before .stage-at .ensures,
+    ) refl
 
 pub yovtirak-finished-spec : {M : Type 1} → statement M
 yovtirak-finished-spec =

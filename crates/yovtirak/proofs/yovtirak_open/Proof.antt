@@ -1,5 +1,5 @@
--- `yovtirak::yovtirak_open` meets its contract: the counts are read and written, and the state is written where it is open.
--- Assumes nothing.
+-- `yovtirak::yovtirak_open` meets its contract: the counts are read and written, and the state is written where it is
+-- open. Assumes nothing.
 use mathlib.Core.Path.{refl}
 use borrow.Author.Tests.{eq-eqb, ne-eqb}
 use Rattle.yovtirak.specs.Exports.{leftOpen, openCall}
@@ -42,10 +42,20 @@ same-length-3 c = search needs
 returns-3 : tie.Need-returns-3
 unfolding openCall leftOpen
 returns-3 c =
-    let k = c .before .before .before .before .before .before .before .before .before .before .before .before .before in
-    let e = k .before .before .before .before in
-    rw (eq-eqb _ _ (e .before .if1 .left), eq-eqb _ _ (e .if2 .left), ← (k .before .before .counts-from .ensures), ← (k .opened .ensures), c .opening-word .ensures, c .before .before .before .keep-opened .ensures, c .before .before .before .before .before .before .before .put-counts .ensures)
-    refl
+    let at-put-counts = c .before .before .before .before .before .before .before in
+    let at-opened = at-put-counts .before .before .before .before .before in
+    let at-counts-from = at-opened .before .before in
+    let at-if2 = at-counts-from .before .before in
+    let at-if1 = at-if2 .before in
+    rw (
+      eq-eqb _ _ (at-if1 .if1 .left),
+      eq-eqb _ _ (at-if2 .if2 .left),
+      ← (at-counts-from .counts-from .ensures),
+      ← (at-opened .opened .ensures),
+      c .opening-word .ensures,
+      c .before .before .before .keep-opened .ensures,
+      at-put-counts .put-counts .ensures,
+    ) refl
 
 pub yovtirak-open-spec : {M : Type 1} → statement M
 yovtirak-open-spec =

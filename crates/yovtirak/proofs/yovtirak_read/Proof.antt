@@ -11,7 +11,8 @@ use Rattle.yovtirak.proofs.yovtirak_read.Statement.{statement}
 use Rattle.yovtirak.proofs.yovtirak_read.Tie as tie
 
 -- the state's words hold one
-held : (e : tie.Else3) → readable (e .before .before .before .before .before .before .before .before .before .before .args .state .now) ≡ true
+held : (e : tie.Else3) → readable
+    (e .before .before .before .before .before .before .before .before .before .before .args .state .now) ≡ true
 held e = sym (e .before .readable .ensures) ∙ not-false _ (e .if3 .left)
 
 returns : tie.Need-returns
@@ -27,10 +28,16 @@ readable-requires c κs = search needs
 
 returns-3 : tie.Need-returns-3
 unfolding readCall
-returns-3 c = rw (eq-eqb _ _ (c .before .before .before .if1 .left), eq-eqb _ _ (c .before .before .if2 .left), sym (c .before .readable .ensures) ∙ not-true _ (c .if3 .taken)) refl
+returns-3 c = rw (
+  eq-eqb _ _ (c .before .before .before .if1 .left),
+  eq-eqb _ _ (c .before .before .if2 .left),
+  sym (c .before .readable .ensures) ∙ not-true _ (c .if3 .taken),
+) refl
 
 collector-from-requires : tie.Need-collector-from-requires
-collector-from-requires c κs = readable-length (c .before .before .before .before .before .before .before .before .before .before .args .state .now) (held c)
+collector-from-requires c κs =
+    let start = c .before .before .before .before .before .before .before .before .before .before in
+    readable-length (start .args .state .now) (held c)
 
 counts-from-requires : tie.Need-counts-from-requires
 counts-from-requires c κs = search needs
@@ -52,7 +59,16 @@ unfolding readCall
 returns-4 c =
     let k = c .before .before .before in
     let e = k .before .before .before in
-    rw (eq-eqb _ _ (e .before .before .before .if1 .left), eq-eqb _ _ (e .before .before .if2 .left), held e, ← (k .before .before .collector-from .ensures), ← (k .before .counts-from .ensures), ← (k .parameters .ensures), c .unread-word .ensures, c .before .enum-told .given .1) refl
+    rw (
+      eq-eqb _ _ (e .before .before .before .if1 .left),
+      eq-eqb _ _ (e .before .before .if2 .left),
+      held e,
+      ← (k .before .before .collector-from .ensures),
+      ← (k .before .counts-from .ensures),
+      ← (k .parameters .ensures),
+      c .unread-word .ensures,
+      c .before .enum-told .given .1,
+    ) refl
 
 put-fields-requires : tie.Need-put-fields-requires
 put-fields-requires c κs = search needs
@@ -63,9 +79,19 @@ same-length c = search needs
 returns-5 : tie.Need-returns-5
 unfolding readCall
 returns-5 c =
-    let k = c .before .before .before .before .before .before .before in
+    let at-asked = c .before .before .before .before .before in
+    let at-before = at-asked .before in
+    let k = at-before .before in
     let e = k .before .before .before in
-    rw (eq-eqb _ _ (e .before .before .before .if1 .left), eq-eqb _ _ (e .before .before .if2 .left), held e, ← (k .before .before .collector-from .ensures), ← (k .before .counts-from .ensures), sym (k .parameters .ensures) ∙ c .before .before .before .before .before .asked .given .1, c .before .before .put-fields .ensures) refl
+    rw (
+      eq-eqb _ _ (e .before .before .before .if1 .left),
+      eq-eqb _ _ (e .before .before .if2 .left),
+      held e,
+      ← (k .before .before .collector-from .ensures),
+      ← (k .before .counts-from .ensures),
+      sym (k .parameters .ensures) ∙ at-asked .asked .given .1,
+      c .before .before .put-fields .ensures,
+    ) refl
 
 pub yovtirak-read-spec : {M : Type 1} → statement M
 yovtirak-read-spec =

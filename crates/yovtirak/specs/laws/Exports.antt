@@ -23,7 +23,8 @@ readable-length words e = go (ℕ-discrete (length words) 162)
   where
     go : Dec (length words ≡ 162) → length words ≡ 162
     go (yes d) = d
-    go (no d) = let f : false ≡ true = rw (ne-eqb (length words) 162 d) at e in let z : _≡_ {A = ℕ} 0 1 = cc in absurd (omega arith)
+    go (no d) = let f : false ≡ true = rw (ne-eqb (length words) 162 d) at e in let z : _≡_ {A = ℕ} 0 1 = cc in
+        absurd (omega arith)
 
 pub three-put : (l : List ℕ) (a b c : ℕ) → length l ≡ 3 → set (set (set l 0 a) 1 b) 2 c ≡ a ∷ b ∷ c ∷ []
 three-put [] a b c h = absurd (omega (arith, h))
@@ -32,7 +33,8 @@ three-put (x ∷ y ∷ []) a b c h = absurd (omega (arith, h))
 three-put (x ∷ y ∷ z ∷ []) a b c h = refl
 three-put (x ∷ y ∷ z ∷ w ∷ l) a b c h = absurd (omega (arith, h))
 
-pub seven-put : (l : List ℕ) (a b c d e f g : ℕ) → length l ≡ 7 → set (set (set (set (set (set (set l 0 a) 1 b) 2 c) 3 d) 4 e) 5 f) 6 g ≡ a ∷ b ∷ c ∷ d ∷ e ∷ f ∷ g ∷ []
+pub seven-put : (l : List ℕ) (a b c d e f g : ℕ) → length l ≡ 7
+    → set (set (set (set (set (set (set l 0 a) 1 b) 2 c) 3 d) 4 e) 5 f) 6 g ≡ a ∷ b ∷ c ∷ d ∷ e ∷ f ∷ g ∷ []
 seven-put [] a b c d e f g h = absurd (omega (arith, h))
 seven-put (t ∷ []) a b c d e f g h = absurd (omega (arith, h))
 seven-put (t ∷ u ∷ []) a b c d e f g h = absurd (omega (arith, h))

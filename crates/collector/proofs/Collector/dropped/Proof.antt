@@ -1,14 +1,14 @@
 -- `collector::Collector::dropped` meets its contract: STATE, NOTHELD, or the slot freed.
 -- Assumes nothing.
-use Rattle.collector.proofs.Laws.{answered-as, state-slots}
-use Rattle.collector.specs.Calls.{withSlots, dropNumber}
-use Rattle.slots.specs.laws.Ready.{found-inside}
-use Rattle.slots.specs.Take.{DroppedAt}
-use Rattle.slots.specs.Stores.{Stores}
-use Rattle.object.specs.declared.Slot.{Slot}
-use borrow.Author.Tests.{not-true, not-false}
-use mathlib.Core.List.{List}
 use mathlib.Core.Path.{sym, ap, _∙_}
+use mathlib.Core.List.{List}
+use Rattle.object.specs.declared.Slot.{Slot}
+use Rattle.slots.specs.Take.{DroppedAt}
+use Rattle.slots.specs.laws.Ready.{found-inside}
+use Rattle.collector.specs.State.{stores, state, withSlots}
+use Rattle.collector.specs.Calls.{dropNumber}
+use Rattle.collector.specs.laws.State.{slots-sound}
+use borrow.Author.Tests.{not-true, not-false}
 use borrow.Author.Needs.{needs}
 use Rattle.collector.proofs.Collector.dropped.Statement.{statement}
 use Rattle.collector.proofs.Collector.dropped.Tie as tie
@@ -25,10 +25,9 @@ same-length c = search needs
 returns : tie.Need-returns
 unfolding dropNumber
 returns c =
-    let a = c .before .before .before .before .before .before .before .args in
-    let stores : Stores = record { header = c .before .before .before .before .before .before .before .args .header .now; body = c .before .before .before .before .before .before .before .args .body .now; marks = c .before .before .before .before .before .before .before .args .marks .now } in
-    let e = c .answered .ensures in
-    rw (sym (c .before .before .is-sound .ensures) ∙ not-true _ (c .before .if1 .taken)) (answered-as (a .counts) stores (e .0) (e .1) (e .2))
+    let start = c .before .before .before .before .before .before .before in
+    let a = start .args in rw (sym (c .before .before .is-sound .ensures) ∙ not-true _ (c .before .if1 .taken))
+    (c .answered .ensures (stores (a .header) (a .body) (a .marks)))
 
 find-requires : tie.Need-find-requires
 find-requires c κs = search needs
@@ -48,16 +47,26 @@ same-length-2 c = search needs
 returns-2 : tie.Need-returns-2
 unfolding dropNumber
 returns-2 c =
-    let a = c .before .before .before .before .before .before .before .before .before .before .before .args in
-    let stores : Stores = record { header = c .before .before .before .before .before .before .before .before .before .before .before .args .header .now; body = c .before .before .before .before .before .before .before .before .before .before .before .args .body .now; marks = c .before .before .before .before .before .before .before .before .before .before .before .args .marks .now } in
-    let e = c .answered2 .ensures in
-    rw (sym (c .before .before .before .before .before .before .is-sound .ensures) ∙ not-false _ (c .before .before .before .before .before .if1 .left), sym (c .before .before .before .find .ensures) ∙ c .before .enum-told .given .1) (answered-as (a .counts) stores (e .0) (e .1) (e .2))
+    let at-if1 = c .before .before .before .before .before in
+    let at-is-sound = at-if1 .before in
+    let start = at-is-sound .before .before .before .before .before in
+    let a = start .args in
+    let lent = stores (a .header) (a .body) (a .marks) in
+    let good = sym (at-is-sound .is-sound .ensures) ∙ not-false _ (at-if1 .if1 .left) in
+    rw (good, sym (c .before .before .before .find .ensures) ∙ c .before .enum-told .given .1)
+    (c .answered2 .ensures lent)
 
 drop-at-requires : tie.Need-drop-at-requires
 drop-at-requires c κs =
-    let a = c .before .before .before .before .before .before .before .before .before .before .before .before .args in
-    let stores : Stores = record { header = c .before .before .before .before .before .before .before .before .before .before .before .before .args .header .now; body = c .before .before .before .before .before .before .before .before .before .before .before .before .args .body .now; marks = c .before .before .before .before .before .before .before .before .before .before .before .before .args .marks .now } in
-    let within = found-inside (a .self .limit) (a .self .count) (a .self .slots) stores (state-slots (a .self) (a .counts) stores (sym (c .before .before .before .before .before .before .before .is-sound .ensures) ∙ not-false _ (c .before .before .before .before .before .before .if1 .left))) (a .number) _ (sym (c .before .before .before .before .find .ensures) ∙ c .before .before .i .given .1) in
+    let at-if1 = c .before .before .before .before .before .before in
+    let at-is-sound = at-if1 .before in
+    let start = at-is-sound .before .before .before .before .before in
+    let a = start .args in
+    let lent = stores (a .header) (a .body) (a .marks) in
+    let good = sym (at-is-sound .is-sound .ensures) ∙ not-false _ (at-if1 .if1 .left) in
+    let found = sym (c .before .before .before .before .find .ensures) ∙ c .before .before .i .given .1 in
+    let slots = slots-sound (state (a .self) (a .counts) lent) good in
+    let within = found-inside (a .self .limit) (a .self .count) (a .self .slots) lent slots (a .number) _ found in
     (within .slot, within .marks)
 
 answered-requires-3 : tie.Need-answered-requires-3
@@ -69,14 +78,16 @@ same-length-3 c = search needs
 returns-3 : tie.Need-returns-3
 unfolding dropNumber
 returns-3 c =
-    let a = c .before .before .before .before .before .before .before .before .before .before .before .before .before .before .before .before .args in
-    let stores : Stores = record { header = c .before .before .before .before .before .before .before .before .before .before .before .before .before .before .before .before .args .header .now; body = c .before .before .before .before .before .before .before .before .before .before .before .before .before .before .before .before .args .body .now; marks = c .before .before .before .before .before .before .before .before .before .before .before .before .before .before .before .before .args .marks .now } in
-    let e = c .answered3 .ensures in
-    let left = c .before .before .before .drop-at .ensures in
-    let slots = ap (λ (d : DroppedAt). d .slots) left in
-    let marks = ap (λ (d : DroppedAt). d .marks) left in
-    rw (sym (c .before .before .before .before .before .before .before .before .before .before .before .is-sound .ensures) ∙ not-false _ (c .before .before .before .before .before .before .before .before .before .before .if1 .left), sym (c .before .before .before .before .before .before .before .before .find .ensures) ∙ c .before .before .before .before .before .before .i .given .1, ← marks)
-    (answered-as (a .counts) (record { header = a .header .now; body = a .body .now; marks = c .before .before .before .drop-at .last .1 .1 .0 }) (e .0) (e .1 ∙ ap (λ (s : List Slot). withSlots s (a .self)) slots) (e .2))
+    let at-i = c .before .before .before .before .before .before in
+    let at-find = at-i .before .before in
+    let at-if1 = at-find .before .before in
+    let at-is-sound = at-if1 .before in
+    let start = at-is-sound .before .before .before .before .before in
+    let a = start .args in
+    let lent = stores (a .header) (a .body) (a .marks) in
+    let good = sym (at-is-sound .is-sound .ensures) ∙ not-false _ (at-if1 .if1 .left) in
+    rw (good, sym (at-find .find .ensures) ∙ at-i .i .given .1, ← c .before .before .before .drop-at .ensures)
+    (c .answered3 .ensures _)
 
 pub dropped-spec : {M : Type 1} → statement M
 dropped-spec =

@@ -2,8 +2,9 @@
 -- Assumes nothing.
 use Rattle.collector.specs.Calls.{locate}
 use Rattle.slots.specs.laws.Ready.{found-inside}
-use Rattle.slots.specs.Stores.{Stores, freeSlot, slotAt}
-use Rattle.collector.proofs.Laws.{state-slots}
+use Rattle.slots.specs.Stores.{freeSlot, slotAt}
+use Rattle.collector.specs.State.{stores, state}
+use Rattle.collector.specs.laws.State.{slots-sound}
 use borrow.Author.Tests.{not-true, not-false}
 use native.Mathlib.Omega.{arith}
 use mathlib.Core.Path.{sym, _∙_}
@@ -29,14 +30,22 @@ enum-told c = search needs
 
 returns-2 : tie.Need-returns-2
 unfolding locate
-returns-2 c = rw (sym (c .before .before .before .before .before .is-sound .ensures) ∙ not-false _ (c .before .before .before .before .if1 .left), sym (c .before .before .find .ensures) ∙ c .enum-told .given .1)
+returns-2 c =
+    let at-is-sound = c .before .before .before .before .before in
+    let good = sym (at-is-sound .is-sound .ensures) ∙ not-false _ (c .before .before .before .before .if1 .left) in
+    rw (good, sym (c .before .before .find .ensures) ∙ c .enum-told .given .1)
 
 returns-3 : tie.Need-returns-3
 returns-3 c =
-    let a = c .before .before .before .before .before .before .before .before .before .before .before .args in
-    let lends : Stores = record { header = a .header .now; body = a .body .now; marks = a .marks .now } in
-    let sound = state-slots (a .t1) (a .counts) lends (sym (c .before .before .before .before .before .before .before .is-sound .ensures) ∙ not-false _ (c .before .before .before .before .before .before .if1 .left)) in
-    let within = found-inside (a .t1 .limit) (a .t1 .count) (a .t1 .slots) lends sound (a .number) _ (sym (c .before .before .before .before .find .ensures) ∙ c .before .before .i .given .1) in
+    let at-if1 = c .before .before .before .before .before .before in
+    let at-is-sound = at-if1 .before in
+    let start = at-is-sound .before .before .before .before in
+    let a = start .args in
+    let lent = stores (a .header) (a .body) (a .marks) in
+    let good = sym (at-is-sound .is-sound .ensures) ∙ not-false _ (at-if1 .if1 .left) in
+    let found = sym (c .before .before .before .before .find .ensures) ∙ c .before .before .i .given .1 in
+    let slots = slots-sound (state (a .t1) (a .counts) lent) good in
+    let within = found-inside (a .t1 .limit) (a .t1 .count) (a .t1 .slots) lent slots (a .number) _ found in
     absurd (omega (arith, within .slot))
 
 mul-slot : tie.Need-mul-slot
@@ -51,7 +60,11 @@ located-as-requires c κs = search needs
 returns-4 : tie.Need-returns-4
 unfolding locate slotAt freeSlot
 returns-4 c =
-    rw (sym (c .before .before .before .before .before .before .before .before .before .is-sound .ensures) ∙ not-false _ (c .before .before .before .before .before .before .before .before .if1 .left), sym (c .before .before .before .before .before .before .find .ensures) ∙ c .before .before .before .before .i .given .1) (c .located-as .ensures)
+    let at-find = c .before .before .before .before .before .before in
+    let at-if1 = at-find .before .before in
+    let at-is-sound = at-if1 .before in
+    let good = sym (at-is-sound .is-sound .ensures) ∙ not-false _ (at-if1 .if1 .left) in
+    rw (good, sym (at-find .find .ensures) ∙ c .before .before .before .before .i .given .1) (c .located-as .ensures)
 
 pub locate-spec : {M : Type 1} → statement M
 locate-spec =

@@ -27,7 +27,8 @@ shown-at-requires c κs = search needs
 
 returns-2 : tie.Need-returns-2
 unfolding show
-returns-2 c = rw (sym (c .before .before .before .before .locate .ensures) ∙ c .before .before .i .given .1) (c .shown-at .ensures)
+returns-2 c = rw (sym (c .before .before .before .before .locate .ensures) ∙ c .before .before .i .given .1)
+    (c .shown-at .ensures)
 
 pub show-spec : {M : Type 1} → statement M
 show-spec =

@@ -19,7 +19,8 @@ returns : tie.Need-returns
 unfolding shownOf slotAt freeSlot
 returns c =
     let a = c .before .before .before .before .args in
-    let past : slotAt (a .i) (a .t1 .slots) ≡ freeSlot = List·getD-eq-default (a .t1 .slots) freeSlot (omega (arith, sixteen (c .before .before .before .before))) in
+    let past : slotAt (a .i) (a .t1 .slots) ≡ freeSlot =
+    List·getD-eq-default (a .t1 .slots) freeSlot (omega (arith, sixteen (c .before .before .before .before))) in
     rw past refl
 
 mul-slot : tie.Need-mul-slot

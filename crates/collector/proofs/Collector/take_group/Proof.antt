@@ -1,28 +1,16 @@
 -- `collector::Collector::take_group` meets its contract: STATE, a refusal of reading, or the segment.
 -- Assumes nothing.
-use Prim.Native.Nat.{_+_, _-_, _≤_}
+use Prim.Native.Nat.{_+_, _-_}
 use mathlib.Core.Path.{_≡_, refl, sym, ap, _∙_}
 use native.Mathlib.Omega.{arith}
-use lib.ListN.{length}
 use Rattle.wire.specs.laws.Theorems.{inside}
-use Rattle.collector.specs.Calls.{refusalOf, segmentIn, takeGroup}
-use Rattle.collector.proofs.Laws.{state-slots}
+use Rattle.collector.specs.State.{stores, state}
+use Rattle.collector.specs.Calls.{refusalOf, takeSegment, takeGroup}
+use Rattle.collector.specs.laws.State.{slots-sound}
 use borrow.Author.Tests.{not-true, not-false}
 use borrow.Author.Needs.{needs}
 use Rattle.collector.proofs.Collector.take_group.Statement.{statement}
 use Rattle.collector.proofs.Collector.take_group.Tie as tie
-
-abbrev start : tie.After-struct-known → tie.Start
-start c = c .before .before .before .before .before .before .before .before .before .before .before .before .before .before
-
--- the segment lies in the group
-ends : (c : tie.After-struct-known)
-    → let carried = c .before .before .reading .given .0 .0 in
-    carried .start + carried .length ≤ length (start c .args .group .now)
-ends c =
-    let read = sym (c .before .before .before .before .read .ensures) ∙ c .before .before .reading .given .1 in
-    let within = inside (start c .args .group .now) _ read in
-    omega (arith, within .ends)
 
 is-sound-requires : tie.Need-is-sound-requires
 is-sound-requires c κs = search needs
@@ -64,28 +52,48 @@ same-length-6 c = search needs
 returns-2 : tie.Need-returns-2
 unfolding takeGroup
 returns-2 c =
+    let at-is-sound = c .before .before .before .before .before in
+    let good = sym (at-is-sound .is-sound .ensures) ∙ not-false _ (c .before .before .before .before .if1 .left) in
     let told = c .before .enum-told .given .1 in
     let why = c .refusal-of .ensures ∙ ap refusalOf told in
-    (omega arith, rw (sym (c .before .before .before .before .before .is-sound .ensures) ∙ not-false _ (c .before .before .before .before .if1 .left), sym (c .before .before .before .read .ensures) ∙ told, why) refl)
+    (omega arith, rw (good, sym (c .before .before .before .read .ensures) ∙ told, why) refl)
 
 add-end : tie.Need-add-end
-add-end c = omega (arith, ends c)
+add-end c =
+    let start = c .before .before .before .before .before .before .before .before .before .before .before .before
+    .before .before in
+    let a = start .args in
+    let carried = c .before .before .reading .given .0 .0 in
+    let read = sym (c .before .before .before .before .read .ensures) ∙ c .before .before .reading .given .1 in
+    let within = inside (a .group .now) _ read in omega (arith, within .ends)
 
-sub-take-carried : tie.Need-sub-take-carried
-sub-take-carried c = search needs
+heard-as-requires : tie.Need-heard-as-requires
+heard-as-requires c κs = search needs
 
-part-take-carried-start : tie.Need-part-take-carried-start
-part-take-carried-start c = search needs
+sub-take-segment : tie.Need-sub-take-segment
+sub-take-segment c = search needs
 
-part-take-carried-end : tie.Need-part-take-carried-end
-part-take-carried-end c = omega (arith, ends c)
+part-take-segment-start : tie.Need-part-take-segment-start
+part-take-segment-start c = search needs
 
-take-carried-requires : tie.Need-take-carried-requires
-take-carried-requires c κs =
-    let k = c .before .before .before .before .before .before .before .before .before .before in
-    let s = k .before .before .before .before .before .before .before .before in
-    let a = s .args in
-    state-slots (a .self) (a .counts) (record { header = a .header .now; body = a .body .now; marks = a .marks .now }) (sym (k .is-sound .ensures) ∙ not-false _ (c .before .before .before .before .before .before .before .before .before .if1 .left))
+part-take-segment-end : tie.Need-part-take-segment-end
+part-take-segment-end c =
+    let at-read = c .before .before .before .before .before in
+    let start = at-read .before .before .before .before .before .before .before .before .before .before in
+    let a = start .args in
+    let carried = c .before .before .before .reading .given .0 .0 in
+    let read = sym (at-read .read .ensures) ∙ c .before .before .before .reading .given .1 in
+    let within = inside (a .group .now) _ read in omega (arith, within .ends)
+
+take-segment-requires : tie.Need-take-segment-requires
+take-segment-requires c κs =
+    let at-if1 = c .before .before .before .before .before .before .before .before .before .before in
+    let at-is-sound = at-if1 .before in
+    let start = at-is-sound .before .before .before .before .before .before .before .before in
+    let a = start .args in
+    let lent = stores (a .header) (a .body) (a .marks) in
+    let good = sym (at-is-sound .is-sound .ensures) ∙ not-false _ (at-if1 .if1 .left) in
+    slots-sound (state (a .self) (a .counts) lent) good
 
 same-length-7 : tie.Need-same-length-7
 same-length-7 c = search needs
@@ -97,15 +105,22 @@ same-length-9 : tie.Need-same-length-9
 same-length-9 c = search needs
 
 returns-3 : tie.Need-returns-3
-unfolding takeGroup segmentIn
+unfolding takeGroup takeSegment
 returns-3 c =
-    let t = c .before .before .before .before .before .before in
-    let k = t .before .before .before .before .before .before .before .before .before in
-    let a = k .before .before .before .before .before .before .before .before .before .before .args in
-    let carried = t .before .before .before .before .before .before .before .reading .given .0 .0 in
+    let at-take-segment = c .before .before .before .before .before .before in
+    let at-heard-as = at-take-segment .before .before .before .before .before in
+    let at-reading = at-heard-as .before .before .before in
+    let at-read = at-reading .before .before in
+    let at-if1 = at-read .before in
+    let at-is-sound = at-if1 .before in
+    let start = at-is-sound .before .before .before .before .before .before .before .before in
+    let a = start .args in
+    let carried = at-reading .reading .given .0 .0 in
+    let good = sym (at-is-sound .is-sound .ensures) ∙ not-false _ (at-if1 .if1 .left) in
+    let read = sym (at-read .read .ensures) ∙ at-reading .reading .given .1 in
     let long : carried .start + carried .length - carried .start ≡ carried .length = omega arith in
-    let left = rw long at (t .take-carried .ensures .1 (a .counts)) in
-    (t .take-carried .ensures .0, rw (sym (k .before .before .is-sound .ensures) ∙ not-false _ (k .before .if1 .left), sym (k .read .ensures) ∙ t .before .before .before .before .before .before .before .reading .given .1) left)
+    let left = rw (long, at-heard-as .heard-as .ensures) at (at-take-segment .take-segment .ensures .1 (a .counts)) in
+    (at-take-segment .take-segment .ensures .0, rw (good, read, good) left)
 
 pub take-group-spec : {M : Type 1} → statement M
 take-group-spec =
@@ -125,10 +140,11 @@ take-group-spec =
     same-length-6
     returns-2
     add-end
-    sub-take-carried
-    part-take-carried-start
-    part-take-carried-end
-    take-carried-requires
+    heard-as-requires
+    sub-take-segment
+    part-take-segment-start
+    part-take-segment-end
+    take-segment-requires
     same-length-7
     same-length-8
     same-length-9

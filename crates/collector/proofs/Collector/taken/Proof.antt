@@ -1,8 +1,6 @@
 -- `collector::Collector::taken` meets its contract: the change that the group comes to is made.
 -- Assumes nothing.
 use mathlib.Core.Path.{_∙_}
-use Rattle.slots.specs.Stores.{Stores}
-use Rattle.collector.proofs.Laws.{answered-as}
 use borrow.Author.Needs.{needs}
 use Rattle.collector.proofs.Collector.taken.Statement.{statement}
 use Rattle.collector.proofs.Collector.taken.Tie as tie
@@ -23,13 +21,7 @@ same-length-3 : tie.Need-same-length-3
 same-length-3 c = search needs
 
 returns : tie.Need-returns
-returns c =
-    let t = c .before .before .before .before .before .before .before in
-    let a = t .before .before .before .before .before .before .before .before .args in
-    let l = t .take-group .last .1 .1 .1 in
-    let stores : Stores = record { header = l .0; body = l .1 .0; marks = l .1 .1 .0 } in
-    let e = c .changed .ensures in
-    answered-as (a .counts) stores (e .0) (e .1) (e .2) ∙ t .take-group .ensures .1
+returns c = c .changed .ensures _ ∙ c .before .before .before .before .before .before .before .take-group .ensures .1
 
 pub taken-spec : {M : Type 1} → statement M
 taken-spec =

@@ -1,0 +1,51 @@
+-- The table's rows of a kind: where their numbers lie, and that no name is longer than ten letters.
+use Prim.Native.Nat.{ℕ, _≤_}
+use native.Mathlib.Omega.{arith}
+use lib.ListN.{length}
+use Rattle.answer.specs.declared.Refusal.{Refusal}
+use Rattle.answer.specs.declared.Refusal.the-variants.{Length, NoCheck, BadCheck, Kind, NoSegment, Address, Size}
+use Rattle.answer.specs.declared.Reason.{Reason}
+use Rattle.answer.specs.declared.Reason.the-variants.{NotHeld, Unfinished, Header, Duplicate, Core, NotFound, Limits, State}
+use Rattle.answer.specs.declared.Answer.{Answer}
+use Rattle.answer.specs.declared.Answer.the-variants.{Stored, Complete, Repeat, Dropped, Refused, Conflict, Full, Denied}
+use Rattle.answer.specs.Letters.{letters}
+use Rattle.answer.specs.Table.{Row, refusalRow, reasonRow, nameOf}
+
+-- ten letters are room for the name
+abbrev Short : Row → Type 0
+Short row = length (letters (row .name)) ≤ 10
+
+refusal-table : (refusal : Refusal) → (refusalRow refusal .number ≤ 16) × Short (refusalRow refusal)
+refusal-table Length = (omega arith, omega arith)
+refusal-table NoCheck = (omega arith, omega arith)
+refusal-table BadCheck = (omega arith, omega arith)
+refusal-table Kind = (omega arith, omega arith)
+refusal-table NoSegment = (omega arith, omega arith)
+refusal-table Address = (omega arith, omega arith)
+refusal-table Size = (omega arith, omega arith)
+
+reason-table : (reason : Reason) → (19 ≤ reasonRow reason .number) × Short (reasonRow reason)
+reason-table NotHeld = (omega arith, omega arith)
+reason-table Unfinished = (omega arith, omega arith)
+reason-table Header = (omega arith, omega arith)
+reason-table Duplicate = (omega arith, omega arith)
+reason-table Core = (omega arith, omega arith)
+reason-table NotFound = (omega arith, omega arith)
+reason-table Limits = (omega arith, omega arith)
+reason-table State = (omega arith, omega arith)
+
+pub refusal-to : (refusal : Refusal) → refusalRow refusal .number ≤ 16
+refusal-to refusal = refusal-table refusal .0
+
+pub reason-from : (reason : Reason) → 19 ≤ reasonRow reason .number
+reason-from reason = reason-table reason .0
+
+pub name-short : (answer : Answer) → length (letters (nameOf answer)) ≤ 10
+name-short (Stored heard) = omega arith
+name-short (Complete heard) = omega arith
+name-short (Repeat heard) = omega arith
+name-short (Dropped number) = omega arith
+name-short (Refused refusal) = refusal-table refusal .1
+name-short (Conflict heard) = omega arith
+name-short (Full heard) = omega arith
+name-short (Denied reason) = reason-table reason .1
