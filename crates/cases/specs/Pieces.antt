@@ -2,10 +2,10 @@
 use mathlib.Core.Bool.{Bool, true}
 use Prim.Native.Nat.{ℕ, _+_}
 use lib.Dec.{leb, ltb}
-use Rattle.cut.specs.Lists.{pick}
 use Rattle.cut.specs.Decision.{both, addPart, addTop, joins, suits, finished}
 use Rattle.cut.specs.declared.Record.{Record}
 use Rattle.cut.specs.declared.Core.{Core}
+use Rattle.cut.specs.Lists.{pick}
 use Rattle.cases.specs.declared.Piece.{Piece}
 use Rattle.cases.specs.declared.Verdict.{Verdict}
 use Rattle.cases.specs.declared.Verdict.the-variants.{Conflicts, Fits, Completes}

@@ -9,8 +9,9 @@ use Rattle.slots.specs.Stores.{slotsMost, Stores, lentAt}
 use Rattle.slots.specs.Take.{placedAt, among}
 use Rattle.collector.specs.declared.Collector.{Collector}
 use Rattle.collector.specs.State.{state}
-use Rattle.collector.specs.Calls.{Arrival, heardAs, takenBy}
+use Rattle.collector.specs.Calls.{takenBy}
 use Rattle.collector.specs.Changes.{placeOf, Came, offeredAt, leftBy}
+use Rattle.collector.specs.Arrival.{Arrival, heardAs}
 
 -- a segment was offered to a slot, and that is put among the others
 pub put-as : (c : Collector) (i : ℕ) (a : Arrival) (lent : Stores) {came : Came} (slot other : Slot)

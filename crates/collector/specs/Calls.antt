@@ -2,7 +2,7 @@
 use mathlib.Core.Bool.{Bool, true, false}
 use mathlib.Core.List.{List, []}
 use Prim.Native.Nat.{ℕ}
-use lib.ListN.{length, replicate}
+use lib.ListN.{length}
 use Rattle.octets.specs.Octets.{zeros}
 use Rattle.answer.specs.declared.Answer.{Answer}
 use Rattle.answer.specs.declared.Answer.the-variants as Answer
@@ -11,24 +11,22 @@ use Rattle.answer.specs.declared.Heard.{Heard}
 use Rattle.answer.specs.declared.Part.{Part}
 use Rattle.answer.specs.declared.Refusal.{Refusal}
 use Rattle.answer.specs.declared.Refusal.the-variants as Refusal
-use Rattle.counts.specs.declared.Counts.{Counts}
-use Rattle.counts.specs.Counted.{noneYet}
-use Rattle.wire.specs.declared.Carried.{Carried}
+use Rattle.counts.specs.Counted.{noneYet, counted, within}
 use Rattle.wire.specs.declared.Reading.{Reading}
 use Rattle.wire.specs.declared.Reading.the-variants.{Read, Refused}
-use Rattle.wire.specs.Reading.{readingOf, bytesIn}
+use Rattle.wire.specs.Reading.{readingOf}
 use Rattle.cut.specs.Lists.{pick}
-use Rattle.cut.specs.Requirement.{Segment}
+use Rattle.cut.specs.Decision.{both}
 use Rattle.object.specs.declared.Outcome.{Outcome}
 use Rattle.object.specs.declared.Outcome.the-variants.{Stored, Complete, Repeat, Conflict}
 use Rattle.object.specs.declared.Stage.{Stage}
 use Rattle.object.specs.declared.Stage.the-variants.{Free, Gathering, Finished}
+use Rattle.object.specs.declared.Slot.{Slot}
 use Rattle.slots.specs.declared.Found.{Found}
 use Rattle.slots.specs.declared.Found.the-variants.{Nothing, At}
-use Rattle.slots.specs.Stores.{slotsMost, Stores, freeSlot, slotAt}
-use Rattle.slots.specs.Find.{findIn, freeIn}
+use Rattle.slots.specs.Stores.{slotAt}
 use Rattle.slots.specs.Alone.{fitsAlone}
-use Rattle.slots.specs.State.{withinLimits}
+use Rattle.slots.specs.State.{withinLimits, soundSlots}
 use Rattle.slots.specs.Show.{shownOf}
 use Rattle.slots.specs.Take.{TakenAt, takeAt, takeNew, dropAt}
 use Rattle.collector.specs.declared.Collector.{Collector}
@@ -36,39 +34,30 @@ use Rattle.collector.specs.declared.Opening.{Opening}
 use Rattle.collector.specs.declared.Opening.the-variants as Opening
 use Rattle.collector.specs.declared.Located.{Located}
 use Rattle.collector.specs.declared.Located.the-variants as Located
-use Rattle.collector.specs.State.{State, Reply, Start, Opened, state, sound, answering, withSlots}
+use Rattle.collector.specs.State.{State, Reply, Start, Opened, state, find, free, allFree}
+use Rattle.collector.specs.Arrival.{Arrival, heardAs, arrivalIn}
+
+-- ---- what every call begins and ends with
+
+-- the state is not damaged, to every call: document 01's list, the counts last
+unfoldable pub sound : State → Bool
+sound s =
+    both (soundSlots (s .collector .limit) (s .collector .count) (s .collector .slots) (s .stores)) (within (s .counts))
+
+-- the answer is counted, and nothing else changes
+abbrev pub answering : Answer → State → Reply
+answering answer s = record { answer = answer; left = state (s .collector) (counted answer (s .counts)) (s .stores) }
+
+abbrev pub withSlots : List Slot → Collector → Collector
+withSlots slots c = record { limit = c .limit; count = c .count; slots = slots }
 
 -- ---- a segment
-
--- a segment as it comes in: its transport number and its part, and the segment itself
-pub record Arrival : Type 0 where
-  pub number : ℕ
-  pub part : Part
-  pub segment : Segment
-
--- as a contract has it
-abbrev pub arrival : Heard → Bool → List ℕ → Arrival
-arrival heard last bytes = record {
-  number = heard .number;
-  part = heard .part;
-  segment = record { number = heard .segment; last = last; bytes = bytes };
-}
-
-abbrev pub heardAs : Arrival → Heard
-heardAs a = record { number = a .number; part = a .part; segment = a .segment .number }
 
 abbrev pub answerAs : Outcome → Heard → Answer
 answerAs Stored heard = Answer.Stored heard
 answerAs Complete heard = Answer.Complete heard
 answerAs Repeat heard = Answer.Repeat heard
 answerAs Conflict heard = Answer.Conflict heard
-
--- the slot that holds a number, and the lowest one that is free
-abbrev pub find : ℕ → State → Found
-find number s = findIn number (s .collector .count) (s .collector .slots)
-
-abbrev pub free : State → Found
-free s = freeIn (s .collector .count) (s .collector .slots)
 
 -- a slot was offered the segment
 abbrev pub takenBy : Heard → State → TakenAt → Reply
@@ -99,20 +88,6 @@ takeSegment a s = pick (sound s) (intoHeld (find (a .number) s) a s) (answering 
 
 -- ---- a group
 
--- the segment that a group carries
-abbrev pub segmentIn : List ℕ → Carried → Segment
-segmentIn group carried = record { number = carried .segment; last = carried .last; bytes = bytesIn group carried }
-
-abbrev pub arrivalIn : List ℕ → Carried → Arrival
-arrivalIn group carried = record {
-  number = carried .number;
-  part = carried .part;
-  segment = segmentIn group carried;
-}
-
-abbrev pub heardIn : Carried → Heard
-heardIn carried = record { number = carried .number; part = carried .part; segment = carried .segment }
-
 abbrev pub takeRead : Reading → List ℕ → State → Reply
 takeRead (Refused refusal) group s = answering (Answer.Refused refusal) s
 takeRead (Read carried) group s = takeSegment (arrivalIn group carried) s
@@ -142,9 +117,6 @@ dropNumber number s =
     pick (sound s) (dropFound (find number s) number s) (answering (Answer.Denied Reason.State) s)
 
 -- ---- an opening
-
-abbrev pub allFree : ℕ → ℕ → Collector
-allFree limit count = record { limit = limit; count = count; slots = replicate slotsMost freeSlot }
 
 -- the limits are kept, and what is lent has the lengths that they give
 abbrev pub inLimits : Start → Bool

@@ -10,8 +10,9 @@ use Rattle.slots.specs.Stores.{Stores, lentAt}
 use Rattle.slots.specs.Take.{Placed, placedAt}
 use Rattle.collector.specs.declared.Change.{Change}
 use Rattle.collector.specs.declared.Change.the-variants.{Nothing, At}
-use Rattle.collector.specs.Calls.{Arrival, heardAs, answerAs}
-use Rattle.collector.specs.State.{State, Reply, state, answering, withSlots}
+use Rattle.collector.specs.Calls.{answerAs, answering, withSlots}
+use Rattle.collector.specs.State.{State, Reply, state}
+use Rattle.collector.specs.Arrival.{Arrival, heardAs}
 
 abbrev pub answerOf : Change → Answer
 answerOf (Nothing answer) = answer

@@ -1,20 +1,18 @@
 -- A collector's state, as the caller has it in hand between two calls, and what a call answers and leaves. Every call
 -- is defined in these words.
-use mathlib.Core.Bool.{Bool}
 use mathlib.Core.List.{List}
 use Prim.Native.Nat.{ℕ}
 use denote.Ref.{RefT}
 use Rattle.answer.specs.declared.Answer.{Answer}
 use Rattle.counts.specs.declared.Counts.{Counts}
-use Rattle.counts.specs.Counted.{counted, within}
-use Rattle.cut.specs.Decision.{both}
-use Rattle.object.specs.declared.Slot.{Slot}
-use Rattle.slots.specs.Stores.{Stores}
-use Rattle.slots.specs.State.{soundSlots}
+use Rattle.slots.specs.Stores.{Stores, slotsMost, freeSlot}
+use Rattle.slots.specs.declared.Found.{Found}
+use Rattle.slots.specs.Find.{findIn, freeIn}
 use Rattle.collector.specs.declared.Collector.{Collector}
 use Rattle.collector.specs.declared.Opening.{Opening}
 use Rattle.collector.specs.declared.Reply.{Reply as ReplyOf}
 use Rattle.collector.specs.declared.Opened.{Opened as OpenedOf}
+use lib.ListN.{replicate}
 
 pub record State : Type 0 where
   pub collector : Collector
@@ -53,16 +51,12 @@ start limit count counts lent = record { limit = limit; count = count; counts = 
 abbrev pub opened : OpenedOf → Stores → Opened
 opened r lent = record { opening = r .opening; left = state (r .collector) (r .counts) lent }
 
--- ---- what every call begins and ends with
+-- the slot that holds a number, and the lowest one that is free
+abbrev pub find : ℕ → State → Found
+find number s = findIn number (s .collector .count) (s .collector .slots)
 
--- the state is not damaged, to every call: document 01's list, the counts last
-unfoldable pub sound : State → Bool
-sound s =
-    both (soundSlots (s .collector .limit) (s .collector .count) (s .collector .slots) (s .stores)) (within (s .counts))
+abbrev pub free : State → Found
+free s = freeIn (s .collector .count) (s .collector .slots)
 
--- the answer is counted, and nothing else changes
-abbrev pub answering : Answer → State → Reply
-answering answer s = record { answer = answer; left = state (s .collector) (counted answer (s .counts)) (s .stores) }
-
-abbrev pub withSlots : List Slot → Collector → Collector
-withSlots slots c = record { limit = c .limit; count = c .count; slots = slots }
+abbrev pub allFree : ℕ → ℕ → Collector
+allFree limit count = record { limit = limit; count = count; slots = replicate slotsMost freeSlot }

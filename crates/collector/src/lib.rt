@@ -24,9 +24,10 @@ ghost use Rattle.slots.specs.State.{soundSlots};
 ghost use Rattle.slots.specs.Stores.{Stores, slotsMost, slotAt, lentAt};
 ghost use Rattle.slots.specs.Take.{Inside};
 ghost use Rattle.collector.specs.Bounds.{bounds};
-ghost use Rattle.collector.specs.State.{stores, state, reply, start, opened, sound, answering};
-ghost use Rattle.collector.specs.Calls.{heardIn, arrival, answerAs, intoHeld, takeSegment, refusalOf, takeGroup, dropNumber, openWith, locatedAs, locate, show};
+ghost use Rattle.collector.specs.State.{stores, state, reply, start, opened};
+ghost use Rattle.collector.specs.Calls.{answerAs, intoHeld, takeSegment, refusalOf, takeGroup, dropNumber, openWith, locatedAs, locate, show, sound, answering};
 ghost use Rattle.collector.specs.Changes.{placeOf, leftBy, offeredAt};
+ghost use Rattle.collector.specs.Arrival.{heardIn, arrival};
 
 // A collector: the limit on a body, how many slots it has, and the slots.
 pub struct Collector {

@@ -6,7 +6,6 @@ use mathlib.Core.List.{List, [], _∷_}
 use Prim.Native.Nat.{ℕ, zero, suc, _+_, _-_, _*_, _/_, min, max}
 use lib.ListN.{length}
 use lib.Dec.{eqb, leb}
-use Rattle.cut.specs.Lists.{pick}
 use Rattle.cut.specs.Requirement.{headerLeast, headerMost, sizeLeast, sizeMost, headerNumbers, bodyNumbers, bodySize, headerSize, Segment}
 use Rattle.answer.specs.declared.Part.{Part}
 use Rattle.answer.specs.declared.Part.the-variants.{Header, Body}
@@ -14,6 +13,7 @@ use Rattle.cut.specs.declared.Core.{Core}
 use Rattle.cut.specs.declared.Core.the-variants.{Unseen, Seen}
 use Rattle.cut.specs.declared.Bounds.{Bounds}
 use Rattle.cut.specs.declared.Record.{Record}
+use Rattle.cut.specs.Lists.{pick}
 
 abbrev pub both : Bool → Bool → Bool
 both true b = b

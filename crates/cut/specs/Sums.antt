@@ -5,13 +5,13 @@ use Prim.Native.Nat.{ℕ, suc, min}
 use lib.ListN.{drop}
 use lib.Dec.{eqb, leb}
 use Rattle.octets.specs.Octets.{sumOf}
-use Rattle.cut.specs.Lists.{pick}
 use Rattle.answer.specs.declared.Part.{Part}
 use Rattle.cut.specs.declared.Core.{Core}
 use Rattle.cut.specs.declared.Bounds.{Bounds}
 use Rattle.cut.specs.declared.Record.{Record}
 use Rattle.cut.specs.Parts.{otherPart}
 use Rattle.cut.specs.Decision.{both, all, boundsOf, coreFits, room, alone, addPart, joins}
+use Rattle.cut.specs.Lists.{pick}
 
 -- 1 if the last one is in, else 0
 abbrev pub ended : Record → ℕ

@@ -1,3 +1,4 @@
+pub mod Lists
 pub mod Core
 pub mod Segment
 pub mod Decision

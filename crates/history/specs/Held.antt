@@ -5,12 +5,15 @@ use Prim.Native.Nat.{ℕ}
 use Rattle.object.specs.declared.Slot.{Slot}
 use Rattle.object.specs.declared.Stage.{Stage}
 use Rattle.object.specs.declared.Stage.the-variants as Stage
-use Rattle.object.specs.Take.{Lent}
+use Rattle.object.specs.State.{markedSegments}
+use Rattle.object.specs.Parts.{Lent}
 use Rattle.slots.specs.declared.Found.{Found}
 use Rattle.slots.specs.declared.Found.the-variants.{Nothing, At}
 use Rattle.slots.specs.Stores.{lentAt, slotAt}
-use Rattle.collector.specs.State.{State}
-use Rattle.collector.specs.Calls.{find, free}
+use Rattle.collector.specs.State.{State, find, free}
+use mathlib.Core.List.{List, []}
+use Rattle.answer.specs.declared.Part.{Part}
+use Rattle.cut.specs.Requirement.{Segment}
 
 -- the limit on a body
 abbrev pub limitOf : State → ℕ
@@ -44,3 +47,11 @@ pub record Same (number : ℕ) (s t : State) : Type 0 where
   pub slot : (i : ℕ) → find number s ≡ At i → slotOf i t ≡ slotOf i s
   -- its marks, and all bytes of its shares
   pub lent : (i : ℕ) → find number s ≡ At i → lentOf i t ≡ lentOf i s
+
+-- the marked segments of the slot that holds a number
+abbrev pub markedIn : Part → Found → State → List Segment
+markedIn part Nothing s = []
+markedIn part (At i) s = markedSegments part (slotOf i s) (lentOf i s)
+
+abbrev pub markedUnder : Part → ℕ → State → List Segment
+markedUnder part number s = markedIn part (find number s) s

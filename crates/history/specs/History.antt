@@ -15,18 +15,16 @@ use Rattle.wire.specs.declared.Carried.{Carried}
 use Rattle.wire.specs.declared.Reading.{Reading}
 use Rattle.wire.specs.declared.Reading.the-variants.{Read, Refused}
 use Rattle.wire.specs.Reading.{readingOf}
-use Rattle.cut.specs.Lists.{pick, Bytes}
 use Rattle.cut.specs.Requirement.{Segment}
 use Rattle.cut.specs.Parts.{headersWith, bodiesWith}
-use Rattle.slots.specs.State.{Limits}
+use Rattle.cut.specs.Lists.{pick, Bytes}
 use Rattle.collector.specs.declared.Located.{Located}
 use Rattle.collector.specs.State.{Start, Opened, Reply, State}
-use Rattle.collector.specs.Calls.{segmentIn, takeGroup, dropNumber, openWith, locate}
-use Rattle.collector.specs.Calls as calls
-use Rattle.queries.specs.Questions as queries
+use Rattle.collector.specs.Arrival.{segmentIn}
 use Rattle.queries.specs.declared.Asked.{Asked}
 use Rattle.queries.specs.declared.Sought.{Sought}
-use Rattle.history.specs.laws.Ready.{OfBytes}
+use Rattle.history.specs.State.{OfBytes}
+use Rattle.slots.specs.Stores.{Limits}
 
 -- a part of a finished object is asked for, what its header says, its name, or whose a name is
 pub data Question : Type 0 where
@@ -159,22 +157,6 @@ under test part number (asked question said ∷ events) = under test part number
 abbrev pub storedUnder : Part → ℕ → List Event → List Segment
 storedUnder = under isStored
 
--- ---- the collector's own definitions: the laws speak of them, and the promises of our collector, which is made of
--- them
-
 -- a question is lent nothing that it could change
 abbrev pub asking : Question → State → State
 asking question s = s
-
-abbrev pub defined : Collecting
-defined = record {
-  opens = openWith;
-  takes = takeGroup;
-  drops = dropNumber;
-  locates = locate;
-  shows = calls.show;
-  tells = queries.parameters;
-  names = queries.name;
-  finds = queries.find;
-  asks = asking;
-}

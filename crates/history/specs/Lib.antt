@@ -1,4 +1,5 @@
 pub mod Held
+pub mod State
 pub mod History
 pub mod Promise
 pub mod Ours

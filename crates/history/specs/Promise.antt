@@ -21,30 +21,28 @@ use Rattle.counts.specs.Counted.{ceiling, noneYet, oneRepeated, oneRefused}
 use Rattle.wire.specs.declared.Carried.{Carried}
 use Rattle.wire.specs.declared.Reading.the-variants.{Read, Refused}
 use Rattle.wire.specs.Reading.{readingOf}
-use Rattle.cut.specs.Lists.{pick, Each, Among, Bytes}
 use Rattle.cut.specs.Requirement.{headerNumbers, bodyNumbers, Segment, Fits, Finished, joined}
 use Rattle.cut.specs.Decision.{both}
 use Rattle.cut.specs.Parts.{headersWith, bodiesWith}
+use Rattle.cut.specs.Lists.{pick, Each, Among, Bytes}
 use Rattle.header.specs.declared.Reading.{Reading}
 use Rattle.header.specs.Parameters.{readHeader}
+use Rattle.header.specs.Names.{nameData}
 use Rattle.object.specs.declared.Stage.the-variants as Stage
 use Rattle.object.specs.Source.{Source, SentBy}
 use Rattle.slots.specs.declared.Found.the-variants.{Nothing, At}
 use Rattle.slots.specs.Find.{isFree}
 use Rattle.names.specs.Requirement.{Named}
-use Rattle.names.specs.Finding.{nameData}
 use Rattle.collector.specs.declared.Located.the-variants as Located
 use Rattle.collector.specs.declared.Opening.the-variants as Opening
-use Rattle.collector.specs.State.{Start, State}
-use Rattle.collector.specs.Calls.{Arrival, find, free, segmentIn, arrivalIn, heardIn, allFree}
+use Rattle.collector.specs.State.{Start, State, find, free, allFree}
+use Rattle.collector.specs.Arrival.{Arrival, segmentIn, arrivalIn, heardIn}
 use Rattle.queries.specs.declared.Asked.the-variants as Asked
 use Rattle.queries.specs.declared.Sought.the-variants as Sought
-use Rattle.queries.specs.Questions.{askedAs}
-use Rattle.history.specs.Held.{Same, SlotFor, limitOf, slotOf, stageFor}
-use Rattle.history.specs.laws.Ready.{OfBytes}
-use Rattle.history.specs.laws.State.{InOrder}
-use Rattle.history.specs.laws.Answers.{markedUnder}
-use Rattle.history.specs.History.{Question, Call, drop, CallBytes, Elsewhere, shown, read, named, found, Event, handed, dropped, asked, Within, Allowed, Collecting, after, reached, told, under, storedUnder}
+use Rattle.queries.specs.Said.{askedAs}
+use Rattle.history.specs.Held.{Same, SlotFor, limitOf, slotOf, stageFor, markedUnder}
+use Rattle.history.specs.History.{Question, Call, CallBytes, Elsewhere, shown, read, named, found, Event, handed, dropped, asked, Within, Allowed, Collecting, after, reached, told, under, storedUnder}
+use Rattle.history.specs.State.{OfBytes, InOrder}
 
 -- ---- the words
 

@@ -101,3 +101,12 @@ endListed l = cond (ltb 0 (l .listing .kept)) (lineListed l) l
 pub record Reads (l m : Listed) : Type 0 where
   pub input : List ℕ
   pub left : m ≡ inputListed input l
+
+-- what is held, the memory that a group is laid in, and the stores
+abbrev pub leftOf : Listed → Served
+leftOf l = record { held = l .listing .held; group = l .group; stores = l .stores }
+
+-- each line in turn
+unfoldable pub linesServed : List (List ℕ) → Served → Served
+linesServed [] left = left
+linesServed (line ∷ lines) left = linesServed lines (served line (left .held) (left .group) (left .stores))

@@ -1,17 +1,13 @@
 -- Document 01, "Parameters and names": which finished object has a name.
-use mathlib.Core.Bool.{Bool}
 use mathlib.Core.List.{List, [], _∷_}
 use Prim.Native.Nat.{ℕ, suc, min}
-use lib.ListN.{take, drop}
+use lib.ListN.{take}
 use Rattle.cut.specs.Requirement.{headerMost}
 use Rattle.cut.specs.Lists.{pick}
 use Rattle.object.specs.declared.Slot.{Slot}
 use Rattle.object.specs.declared.Stage.{Stage}
 use Rattle.object.specs.declared.Stage.the-variants.{Free, Gathering, Finished}
-use Rattle.header.specs.declared.Name.{Name}
-use Rattle.header.specs.declared.Name.the-variants.{Absent, Data}
-use Rattle.header.specs.Parameters.{readHeader, nameIn}
-use Rattle.header.specs.laws.Search.{namedAs}
+use Rattle.header.specs.Names.{hasName}
 use Rattle.slots.specs.Show.{startOf}
 use Rattle.names.specs.declared.Holder.{Holder}
 use Rattle.names.specs.declared.Holder.the-variants.{Nobody, Number}
@@ -26,18 +22,6 @@ headerAs (Finished header body) i store = startOf headerMost i header store
 
 unfoldable pub headerIn : ℕ → Slot → List ℕ → List ℕ
 headerIn i slot store = headerAs (slot .stage) i store
-
--- ContentName's data as a part of the header, or nothing where the header has none; a refused header has none
-abbrev pub dataAs : List ℕ → Name → List ℕ
-dataAs header Absent = []
-dataAs header (Data start size) = take size (drop start header)
-
-unfoldable pub nameData : List ℕ → List ℕ
-nameData header = dataAs header (nameIn (readHeader header))
-
--- a header that reads has the name that is asked for; a refused one has no name
-unfoldable pub hasName : List ℕ → List ℕ → Bool
-hasName asked header = namedAs header asked (nameIn (readHeader header))
 
 -- ---- all slots
 

@@ -12,7 +12,8 @@ ghost use Prim.Native.Nat.{_+_, _≤_};
 ghost use lib.ListN.{length};
 ghost use Rattle.slots.specs.Stores.{slotsMost};
 ghost use Rattle.header.specs.laws.Search.{isNamed};
-ghost use Rattle.names.specs.Finding.{headerIn, nameData, lower, foundByName};
+ghost use Rattle.header.specs.Names.{nameData};
+ghost use Rattle.names.specs.Finding.{headerIn, lower, foundByName};
 ghost use Rattle.names.specs.laws.Legible.{legible};
 
 // Whose a name is: nobody's, or that of the finished object with this transport number.

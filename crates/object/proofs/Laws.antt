@@ -16,9 +16,9 @@ use Rattle.cut.specs.Requirement.{headerNumbers, bodyNumbers}
 use Rattle.cut.specs.Decision.{boundsOf}
 use Rattle.part.specs.Asked.{Counted}
 use Rattle.cut.specs.laws.Decision.{both-true}
-use Rattle.object.specs.Take.{marksOf}
 use Rattle.object.specs.Sound.{marksRight}
 use Rattle.object.specs.laws.Inside.{bounds-numbers, numbers-most, marks-length, marks-bits}
+use Rattle.object.specs.Parts.{marksOf}
 
 -- ---- a part's marks
 

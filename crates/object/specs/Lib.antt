@@ -1,3 +1,4 @@
+pub mod Parts
 pub mod Take
 pub mod Sound
 pub mod Asked

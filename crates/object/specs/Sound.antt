@@ -10,7 +10,7 @@ use Rattle.part.specs.Asked.{soundPart}
 use Rattle.object.specs.declared.Slot.{Slot}
 use Rattle.object.specs.declared.Stage.{Stage}
 use Rattle.object.specs.declared.Stage.the-variants.{Free, Gathering, Finished}
-use Rattle.object.specs.Take.{Lent, Parts, partsOf, coreIn, stageOf}
+use Rattle.object.specs.Parts.{Lent, Parts, partsOf, coreIn, stageOf}
 
 abbrev pub sameStage : Stage → Stage → Bool
 sameStage Free Free = true

@@ -7,14 +7,14 @@ use lib.ListN.{length, getD}
 use Rattle.answer.specs.declared.Part.{Part}
 use Rattle.answer.specs.declared.Part.the-variants.{Header, Body}
 use Rattle.cut.specs.declared.Record.{Record}
-use Rattle.cut.specs.Lists.{Each}
 use Rattle.cut.specs.Requirement.{Segment, Fits, Finished}
 use Rattle.cut.specs.Decision.{boundsOf, summary, recordOf, coreOf}
+use Rattle.cut.specs.Lists.{Each}
 use Rattle.object.specs.declared.Slot.{Slot}
 use Rattle.part.specs.Memory.{heldIn}
-use Rattle.object.specs.Take.{Lent, partsOf, memoryOf}
 use Rattle.object.specs.declared.Stage.{Stage}
 use Rattle.object.specs.declared.Stage.the-variants as Stage
+use Rattle.object.specs.Parts.{Lent, partsOf, memoryOf}
 
 -- the marked segments of a part, with their recorded lengths and stored bytes
 abbrev pub markedSegments : Part → Slot → Lent → List Segment

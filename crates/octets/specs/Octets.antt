@@ -1,5 +1,5 @@
 -- What the functions on bytes leave and answer.
-use Prim.Native.Nat.{ℕ, _+_, max}
+use Prim.Native.Nat.{ℕ, _+_, max, _*_}
 use mathlib.Core.Bool.{Bool, true, false}
 use mathlib.Core.List.{List, [], _∷_, _++_}
 use lib.Dec.{eqb}
@@ -33,3 +33,11 @@ largestOf (b ∷ l) = max b (largestOf l)
 abbrev pub sumOf : List ℕ → ℕ
 sumOf [] = 0
 sumOf (b ∷ l) = b + sumOf l
+
+-- the `count` bytes from `from` on
+abbrev pub part : List ℕ → ℕ → ℕ → List ℕ
+part l from count = take count (drop from l)
+
+-- share i of a list cut into shares of w bytes
+abbrev pub share : ℕ → ℕ → List ℕ → List ℕ
+share w i l = part l (i * w) w

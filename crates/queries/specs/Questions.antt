@@ -1,37 +1,30 @@
 -- What each question about finished objects is answered; none changes anything.
 use mathlib.Core.List.{List}
-use Prim.Native.Nat.{ℕ}
+use Prim.Native.Nat.{ℕ, _≤_}
 use Rattle.answer.specs.declared.Reason.{Reason}
 use Rattle.answer.specs.declared.Reason.the-variants as Reason
 use Rattle.answer.specs.declared.Part.the-variants.{Header}
-use Rattle.cut.specs.Lists.{pick}
-use Rattle.header.specs.declared.Reading.{Reading}
-use Rattle.header.specs.declared.Reading.the-variants.{Read, Refused}
-use Rattle.header.specs.declared.Refusal.{Refusal}
 use Rattle.header.specs.declared.Refusal.the-variants as Refusal
 use Rattle.header.specs.Parameters.{readHeader}
+use Rattle.header.specs.Names.{nameData}
 use Rattle.names.specs.declared.Holder.{Holder}
 use Rattle.names.specs.declared.Holder.the-variants.{Nobody, Number}
-use Rattle.names.specs.Finding.{nameData, foundByName}
+use Rattle.names.specs.Finding.{foundByName}
+use Rattle.names.specs.Requirement.{Named}
 use Rattle.collector.specs.declared.Located.{Located}
 use Rattle.collector.specs.declared.Located.the-variants as Located
 use Rattle.queries.specs.declared.Asked.{Asked}
 use Rattle.queries.specs.declared.Asked.the-variants as Asked
 use Rattle.queries.specs.declared.Sought.{Sought}
 use Rattle.queries.specs.declared.Sought.the-variants as Sought
-use Rattle.collector.specs.State.{State, sound}
-use Rattle.collector.specs.Calls.{locate, show}
+use Rattle.queries.specs.Said.{askedAs}
+use Rattle.collector.specs.State.{State}
+use Rattle.collector.specs.Calls.{locate, show, sound}
+use Rattle.cut.specs.Lists.{pick}
+use mathlib.Core.Path.{_≡_}
+use Rattle.slots.specs.declared.Found.the-variants.{At}
 
 -- ---- what a header says
-
-abbrev pub reasonOf : Refusal → Reason
-reasonOf Refusal.Core = Reason.Core
-reasonOf Refusal.Header = Reason.Header
-reasonOf Refusal.Duplicate = Reason.Duplicate
-
-abbrev pub askedAs : Reading → Asked
-askedAs (Read fields) = Asked.Fields fields
-askedAs (Refused refusal) = Asked.Denied (reasonOf refusal)
 
 abbrev pub askedOf : Located → List ℕ → Asked
 askedOf (Located.Denied why) header = Asked.Denied why
@@ -56,3 +49,10 @@ unfoldable pub find : List ℕ → State → Sought
 find asked s =
     pick (sound s) (soughtAs (foundByName asked (s .collector .count) (s .collector .slots) (s .stores .header)))
     (Sought.Denied Reason.State)
+
+-- the object of this number is shown, its header has the name, and no object of a lower number does
+pub record Found (asked : List ℕ) (s : State) (number : ℕ) : Type 0 where
+  pub slot : ℕ
+  pub located : locate number s ≡ Located.At slot
+  pub named : Named asked (show number Header s)
+  pub lowest : (other i : ℕ) → locate other s ≡ Located.At i → Named asked (show other Header s) → number ≤ other

@@ -12,7 +12,8 @@ use header::Refusal;
 use names::Holder;
 ghost use mathlib.Core.Path.{_≡_};
 ghost use Rattle.collector.specs.State.{stores, state};
-ghost use Rattle.queries.specs.Questions.{reasonOf, askedAs, soughtAs, parameters, name, find};
+ghost use Rattle.queries.specs.Questions.{soughtAs, parameters, name, find};
+ghost use Rattle.queries.specs.Said.{reasonOf, askedAs};
 
 // What a finished object's header says, or why it is not told.
 pub enum Asked {

@@ -14,8 +14,8 @@ use Rattle.answer.specs.declared.Part.{Part}
 use Rattle.answer.specs.declared.Part.the-variants as Part
 use Rattle.answer.specs.declared.Returned.{Returned}
 use Rattle.answer.specs.declared.Returned.the-variants.{Segment, Number, Nothing}
-use Rattle.cut.specs.Lists.{pick}
 use Rattle.cut.specs.Decision.{both}
+use Rattle.cut.specs.Lists.{pick}
 use Rattle.object.specs.declared.Stage.{Stage}
 use Rattle.slots.specs.Stores.{Stores, slotAt}
 use Rattle.collector.specs.declared.Collector.{Collector}

@@ -2,16 +2,18 @@
 -- just as the one before left them. The latest call comes first, as in a history of the collector.
 use mathlib.Core.Path.{_≡_}
 use mathlib.Core.List.{List, [], _∷_}
-use Prim.Native.Nat.{ℕ}
+use Prim.Native.Nat.{ℕ, _*_}
 use lib.ListN.{length}
-use Rattle.answer.specs.declared.Part.the-variants.{Header}
-use Rattle.cut.specs.Lists.{Bytes}
+use Rattle.answer.specs.declared.Part.the-variants.{Header, Body}
 use Rattle.slots.specs.Stores.{Stores}
 use Rattle.collector.specs.State.{State, Start}
 use Rattle.history.specs.History.{Question, Call, hand, ask, reached}
 use Rattle.history.specs.Ours.{ours}
-use Rattle.layout.specs.Layout.{countsFrom}
-use Rattle.yovtirak.specs.Exports.{Called, answerWord, openCall, takeCall, dropCall, Told, placeTold, finishedCall, fieldsTold, readCall, soughtWord, findCall}
+use Rattle.layout.specs.Layout.{countsFrom, collectorFrom, wordsOf, countWords}
+use Rattle.yovtirak.specs.Exports.{Called, held, answerWord, openCall, takeCall, dropCall, Told, placeTold, finishedCall, fieldsTold, readCall, soughtWord, findCall}
+use Rattle.octets.specs.Octets.{part}
+use Rattle.cut.specs.Lists.{Bytes}
+use Rattle.cut.specs.Requirement.{headerMost}
 
 -- what a head has in hand between two calls
 pub record Lent : Type 0 where
@@ -97,3 +99,21 @@ Fitting (drop number) = Unit {0}
 Fitting (finished number place) = length place ≡ 3
 Fitting (read number told) = length told ≡ 7
 Fitting (find name) = Unit {0}
+
+-- where a finished object stands, in any words: the slot, h and b that are told, such that the first h bytes of the
+-- slot's share of the header store and the first b of its share of the body store are what `show` hands back
+pub record Place (number : ℕ) (state counts : List ℕ) (stores : Stores) (place : List ℕ) : Type 0 where
+  pub slot : ℕ
+  pub header : ℕ
+  pub body : ℕ
+  pub told : finishedCall number state counts stores place .told ≡ slot ∷ header ∷ body ∷ []
+  pub headerThere : ours .shows number Header (held state counts stores)
+      ≡ part (stores .header) (slot * headerMost) header
+  pub bodyThere : ours .shows number Body (held state counts stores)
+      ≡ part (stores .body) (slot * collectorFrom state .limit) body
+
+-- the words and the lent memory are those of a state
+pub record Words (l : Lent) (s : State) : Type 0 where
+  pub state : l .state ≡ wordsOf (s .collector)
+  pub counts : l .counts ≡ countWords (s .counts)
+  pub stores : l .stores ≡ s .stores

@@ -20,11 +20,11 @@ use queries::Sought;
 ghost use mathlib.Core.Path.{_≡_};
 ghost use Prim.Native.Nat.{_<_};
 ghost use lib.ListN.{length};
-ghost use Rattle.cut.specs.Lists.{pick};
 ghost use Rattle.slots.specs.Stores.{slotAt};
 ghost use Rattle.layout.specs.Layout.{wordsOf, countWords};
 ghost use Rattle.collector.specs.State.{stores};
 ghost use Rattle.yovtirak.specs.Exports.{called, openingWord, isOpen, openCall, partWord, heardWord, returnedWord, answerWord, changes, takeCall, dropCall, refusedWord, placeWords, finishedCall, priorityWord, nameStart, nameLength, fieldWords, unreadWord, readCall, soughtWord, findCall};
+ghost use Rattle.cut.specs.Lists.{pick};
 
 // The answers that are given of wrong words, before there is a collector.
 const LIMITS: u64 = answer::LIMITS as u64;

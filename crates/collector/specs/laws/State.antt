@@ -4,7 +4,8 @@ use mathlib.Core.Bool.{true}
 use Rattle.counts.specs.Counted.{within}
 use Rattle.cut.specs.laws.Decision.{both-true}
 use Rattle.slots.specs.State.{soundSlots}
-use Rattle.collector.specs.State.{State, sound}
+use Rattle.collector.specs.State.{State}
+use Rattle.collector.specs.Calls.{sound}
 
 -- its slots are sound
 pub slots-sound : (s : State) → sound s ≡ true

@@ -10,7 +10,6 @@ use native.Mathlib.Omega.{arith}
 use lib.ListN.{replicate}
 use lib.Dec.{eqb, leb}
 use borrow.Author.Tests.{eqb-true, eqb-false, leb-true, not-true}
-use Rattle.cut.specs.Lists.{Each, Bytes}
 use Rattle.cut.specs.Requirement.{bodySize, headerSize, contentType, contentSubType, Segment, Fits, Finished}
 use Rattle.answer.specs.declared.Part.{Part}
 use Rattle.answer.specs.declared.Part.the-variants.{Header, Body}
@@ -24,6 +23,7 @@ use Rattle.cut.specs.Parts.{headersWith, bodiesWith, those}
 use Rattle.cut.specs.laws.Theorem.{nothing-fits, accepted}
 use Rattle.cut.specs.laws.Finished.{Counted, finished-iff}
 use Rattle.cut.specs.laws.Known.{sizeOf, known-cut}
+use Rattle.cut.specs.Lists.{Each, Bytes}
 
 abbrev limit : ℕ
 limit = 12288

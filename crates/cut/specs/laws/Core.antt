@@ -6,8 +6,8 @@ use native.Mathlib.Nat.{div-div-eq-div-mul}
 use native.Mathlib.Omega.{arith}
 use lib.ListN.{take}
 use lib.Seq.{getD-take}
-use Rattle.cut.specs.Lists.{Bytes}
 use Rattle.cut.specs.Requirement.{headerLeast, bodySize, headerSize, contentType, contentSubType}
+use Rattle.cut.specs.Lists.{Bytes}
 
 -- the core of a header of H bytes whose body has B, of type T and subtype U
 unfoldable pub coreBytes : ℕ → ℕ → ℕ → ℕ → List ℕ

@@ -11,7 +11,7 @@ use lib.ListN.{length, take, drop, drop-of-length-le}
 use lib.Seq.{take-add, take-all, take-nil}
 use lib.Dec.{eqb, leb}
 use borrow.Author.Tests.{ne-eqb, eqb-true, eqb-false, le-leb}
-use Rattle.cut.specs.Lists.{pick, Each, Among, each-map, each-among}
+use Rattle.cut.specs.laws.Lists.{each-map, each-among}
 use Rattle.cut.specs.Requirement.{headerNumbers, bodyNumbers, IsCut, Segment, Sends, Fits, Whole, Finished, bytesOf, joined}
 use Rattle.cut.specs.declared.Core.{Core}
 use Rattle.cut.specs.declared.Core.the-variants.{Unseen, Seen}
@@ -19,6 +19,7 @@ use Rattle.cut.specs.Decision.{Summary, addPart, summary, coreOf}
 use Rattle.cut.specs.laws.Segment.{Numbered, among-numbered, numbered-among, same-is, sends-same, sends-sits}
 use Rattle.cut.specs.laws.Decision.{EndSits, sits-sum}
 use Rattle.cut.specs.laws.Object.{CoreIs, core-is, core-unseen}
+use Rattle.cut.specs.Lists.{pick, Each, Among}
 
 -- ---- every segment is in: every number is
 

@@ -11,7 +11,7 @@ use native.Mathlib.Omega.{arith}
 use lib.ListN.{length, replicate}
 use lib.Dec.{leb}
 use borrow.Author.Tests.{leb-true, le-leb, eq-eqb, ne-eqb}
-use Rattle.cut.specs.Lists.{pick, Each, bytes-zeros}
+use Rattle.cut.specs.laws.Lists.{bytes-zeros}
 use Rattle.cut.specs.Requirement.{limitLeast, limitMost, sizeLeast, sizeMost, Segment, Fits}
 use Rattle.answer.specs.declared.Part.{Part}
 use Rattle.answer.specs.declared.Part.the-variants.{Header, Body}
@@ -23,6 +23,7 @@ use Rattle.cut.specs.laws.Segment.{PartSits, Sits, sends-sits}
 use Rattle.cut.specs.laws.Decision.{all-true, TopSits, EndSits, SumSits, sits-sum, sum-sits}
 use Rattle.cut.specs.laws.Object.{WithinOf, fits-within, fits-sits, fits-passes, fits-core, sits-object, header-bytes, body-bytes, passes-fits}
 use Rattle.cut.specs.Parts.{those, partOf, cutOf}
+use Rattle.cut.specs.Lists.{pick, Each}
 
 -- ---- in numbers
 

@@ -13,7 +13,7 @@ use lib.Seq.{getD-drop}
 use lib.Dec.{eqb, leb}
 use borrow.Author.Tests.{eqb-true, eqb-false, eq-eqb, ne-eqb, le-leb}
 use Rattle.octets.specs.Octets.{sumOf}
-use Rattle.cut.specs.Lists.{Each, Among, each-among, each-drop}
+use Rattle.cut.specs.laws.Lists.{each-among, each-drop}
 use Rattle.cut.specs.Requirement.{Segment, Fits, Finished}
 use Rattle.answer.specs.declared.Part.{Part}
 use Rattle.answer.specs.declared.Part.the-variants.{Header, Body}
@@ -26,6 +26,7 @@ use Rattle.cut.specs.laws.Object.{fits-within, fits-sits}
 use Rattle.cut.specs.Parts.{those, partOf, cutOf}
 use Rattle.cut.specs.laws.Order.{Knows, knows-each, knows-last, knows-full, EndFrom, TopFrom, end-from, top-from, agree-same}
 use Rattle.cut.specs.laws.Finished.{Counted, finished-iff, finished-core}
+use Rattle.cut.specs.Lists.{Each, Among}
 
 -- 1 + the highest marked number but the last segment's, which is number end - 1, or 0
 abbrev pub topOne : ℕ → Bool → ℕ → ℕ

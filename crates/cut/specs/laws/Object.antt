@@ -9,7 +9,7 @@ use native.Mathlib.Omega.{arith}
 use lib.ListN.{length, take, drop, replicate, length-replicate, length-append}
 use lib.Dec.{eqb}
 use borrow.Author.Tests.{eqb-true, eqb-false, leb-true, le-leb}
-use Rattle.cut.specs.Lists.{pick, Each, Bytes, each-map, bytes-append, bytes-zeros}
+use Rattle.cut.specs.laws.Lists.{each-map, bytes-append, bytes-zeros}
 use Rattle.cut.specs.Requirement.{headerLeast, headerMost, limitMost, sizeLeast, headerNumbers, bodyNumbers, bodySize, headerSize, IsObject, IsCut, Segment, Sends, Fits}
 use Rattle.answer.specs.declared.Part.{Part}
 use Rattle.answer.specs.declared.Part.the-variants.{Header, Body}
@@ -21,6 +21,7 @@ use Rattle.cut.specs.laws.Core.{coreBytes, core-body, core-header, core-
 use Rattle.cut.specs.Parts.{those, partOf, cutOf}
 use Rattle.cut.specs.laws.Segment.{Sits, Agree, Within, PartFits, PartSits, sits-fits, sends-agree, sends-sits, sent-bytes, fill, fill-length, fill-bytes, fill-sends, fill-front}
 use Rattle.cut.specs.laws.Decision.{Clear, all-true, true-all, sits-possible, possible-sits}
+use Rattle.cut.specs.Lists.{pick, Each, Bytes}
 
 -- ---- what header segment 0 says
 

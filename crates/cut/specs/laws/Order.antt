@@ -9,7 +9,7 @@ use native.Mathlib.Omega.{arith}
 use lib.ListN.{length}
 use lib.Dec.{eqb}
 use borrow.Author.Tests.{eqb-true, eqb-false, ne-eqb}
-use Rattle.cut.specs.Lists.{pick, Each, Among, each-map, each-among, among-each}
+use Rattle.cut.specs.laws.Lists.{each-map, each-among, among-each}
 use Rattle.cut.specs.Requirement.{bodySize, headerSize, Segment, Fits}
 use Rattle.cut.specs.declared.Core.{Core}
 use Rattle.cut.specs.declared.Core.the-variants.{Unseen, Seen}
@@ -18,6 +18,7 @@ use Rattle.cut.specs.Decision.{Summary, addPart, addTop, summary, coreOf
 use Rattle.cut.specs.laws.Segment.{Numbered, Same, Agree, same-is, among-numbered}
 use Rattle.cut.specs.laws.Decision.{SizeIs, EndIs, JoinsAs, Clear}
 use Rattle.cut.specs.laws.Object.{fits-passes}
+use Rattle.cut.specs.Lists.{pick, Each, Among}
 
 -- ---- what a summary says of a segment that is in
 

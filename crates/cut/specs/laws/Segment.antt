@@ -14,8 +14,9 @@ use lib.Dec.{leb}
 use borrow.Author.Tests.{leb-true, leb-false, le-leb, lt-leb}
 use Rattle.octets.specs.Octets.{over}
 use Rattle.octets.specs.laws.Over.{over-length, over-inside, over-after, over-before}
-use Rattle.cut.specs.Lists.{Each, Among, Bytes, each-map, each-zip, each-zip3, bytes-take, bytes-drop, bytes-zeros, over-bytes}
+use Rattle.cut.specs.laws.Lists.{each-map, each-zip, each-zip3, bytes-take, bytes-drop, bytes-zeros, over-bytes}
 use Rattle.cut.specs.Requirement.{sizeLeast, sizeMost, IsCut, Segment, Sends}
+use Rattle.cut.specs.Lists.{Each, Among, Bytes}
 
 -- ---- one segment, in numbers
 

@@ -10,7 +10,6 @@ use lib.ListN.{length, drop, getD}
 use lib.Dec.{eqb, leb}
 use borrow.Author.Tests.{eq-eqb, ne-eqb, le-leb, lt-leb, eqb-true, leb-true}
 use Rattle.octets.specs.Octets.{sumOf}
-use Rattle.cut.specs.Lists.{pick, Each, Bytes}
 use Rattle.cut.specs.Requirement.{limitMost, Segment, Fits}
 use Rattle.answer.specs.declared.Part.{Part}
 use Rattle.answer.specs.declared.Part.the-variants.{Header, Body}
@@ -25,6 +24,7 @@ use Rattle.cut.specs.laws.Decision.{Clear, all-true}
 use Rattle.cut.specs.laws.Object.{Passes, fits-passes}
 use Rattle.cut.specs.laws.Theorem.{end-numbered, accepted}
 use Rattle.cut.specs.laws.Marks.{total-some, topFrom, Marked, top-kept, top-open, top-ended}
+use Rattle.cut.specs.Lists.{pick, Each, Bytes}
 
 -- a number is below a bound, by a sum
 by-sum : (t b x y : ℕ) → (t ≤ b) ↔ (x ≡ y) → leb t b ≡ eqb x y

@@ -9,7 +9,7 @@ use native.Mathlib.Omega.{arith}
 use lib.ListN.{length}
 use lib.Dec.{eqb, leb}
 use borrow.Author.Tests.{eqb-true, eq-eqb, le-leb}
-use Rattle.cut.specs.Lists.{Among, Bytes, each-among, among-each}
+use Rattle.cut.specs.laws.Lists.{each-among, among-each}
 use Rattle.cut.specs.Requirement.{limitMost, Segment, Sends, Fits}
 use Rattle.answer.specs.declared.Part.{Part}
 use Rattle.answer.specs.declared.Part.the-variants.{Header, Body}
@@ -19,6 +19,7 @@ use Rattle.cut.specs.laws.Segment.{Numbered, same-is, sends-same, agree-
 use Rattle.cut.specs.laws.Decision.{JoinsAs, SizeIs, EndIs, both-true, true-both}
 use Rattle.cut.specs.laws.Object.{Passes, fits-passes, passes-fits, header-bytes, body-bytes}
 use Rattle.cut.specs.Parts.{headersWith, bodiesWith, those}
+use Rattle.cut.specs.Lists.{Among, Bytes}
 
 -- nothing at all always fits: a first segment is looked at alone
 pub nothing-fits : (limit : ℕ) → limit ≤ limitMost → Fits limit [] []

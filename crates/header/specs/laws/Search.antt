@@ -12,11 +12,9 @@ use lib.ListN.{length, take, drop}
 use Rattle.header.specs.declared.Parameter.{Parameter}
 use Rattle.header.specs.declared.Found.{Found}
 use Rattle.header.specs.declared.Found.the-variants.{Nothing, One}
-use Rattle.header.specs.declared.Name.{Name}
-use Rattle.header.specs.declared.Name.the-variants.{Absent, Data}
 use Rattle.header.specs.declared.Fields.{Fields}
 use Rattle.header.specs.Parameters.{pick, foundAt, Listed, broken, listed, put, follow, parametersFrom, count, find, nameOf, fieldsOf}
-use Rattle.header.specs.Names.{nameMatches}
+use Rattle.header.specs.Names.{nameMatches, namedAs}
 use Rattle.header.specs.laws.Parameters.{from-step}
 use Rattle.header.specs.laws.Exact.{count-same, count-other, orElse-nothing}
 use Rattle.header.specs.laws.Theorems.{ReadFrom, read-once, find-none}
@@ -52,11 +50,6 @@ isNamed h asked p = pick (eqb (p .identifier) 0x0C) (nameMatches (take (p .size)
 unfoldable pub someNamed : List ℕ → List ℕ → List Parameter → Bool
 someNamed h asked [] = false
 someNamed h asked (p ∷ ps) = pick (isNamed h asked p) true (someNamed h asked ps)
-
--- the header's name is
-abbrev pub namedAs : List ℕ → List ℕ → Name → Bool
-namedAs h asked Absent = false
-namedAs h asked (Data start size) = nameMatches (take size (drop start h)) asked
 
 pick-bool : (t : Bool) → pick t true false ≡ t
 pick-bool true = refl

@@ -9,25 +9,25 @@ use Rattle.answer.specs.declared.Answer.the-variants as Answer
 use Rattle.answer.specs.declared.Heard.{Heard}
 use Rattle.answer.specs.declared.Part.{Part}
 use Rattle.answer.specs.declared.Part.the-variants.{Header, Body}
-use Rattle.wire.specs.declared.Carried.{Carried}
-use Rattle.cut.specs.Lists.{Among, Bytes}
 use Rattle.cut.specs.Requirement.{limitMost, Segment, Fits, Finished}
 use Rattle.cut.specs.Parts.{headersWith, bodiesWith, those}
 use Rattle.cut.specs.laws.Decision.{false-true}
+use Rattle.cut.specs.Lists.{Among, Bytes}
 use Rattle.object.specs.declared.Slot.{Slot}
 use Rattle.object.specs.declared.Outcome.{Outcome}
 use Rattle.object.specs.declared.Outcome.the-variants.{Stored, Complete, Repeat, Conflict}
-use Rattle.object.specs.Take.{Lent, partsOf, takeInto}
+use Rattle.object.specs.Take.{takeInto}
 use Rattle.object.specs.laws.Held.{Gathers}
-use Rattle.object.specs.State.{markedSegments}
 use Rattle.object.specs.laws.StateExact.{sound-holds}
 use Rattle.object.specs.laws.Step.{conflict-exactly, repeat-exactly, complete-exactly, stored-exactly}
+use Rattle.object.specs.Parts.{Lent, partsOf}
 use Rattle.slots.specs.declared.Found.{Found}
 use Rattle.slots.specs.declared.Found.the-variants.{Nothing, At}
 use Rattle.slots.specs.Stores.{freshSlot}
-use Rattle.collector.specs.State.{Reply, State}
-use Rattle.collector.specs.Calls.{Arrival, answerAs, find, free, heardAs}
-use Rattle.history.specs.Held.{SlotFor, lentOf, limitOf, slotOf}
+use Rattle.collector.specs.State.{Reply, State, find, free}
+use Rattle.collector.specs.Calls.{answerAs}
+use Rattle.collector.specs.Arrival.{Arrival, heardAs}
+use Rattle.history.specs.Held.{SlotFor, lentOf, limitOf, slotOf, markedUnder}
 use Rattle.history.specs.laws.Call.{Came, alone, full, first, more}
 use Rattle.history.specs.laws.Ready.{limit-low, used-lent, found-used, found-sound, free-used, free-marks}
 use Rattle.history.specs.laws.Taken.{fresh-gathers, alone-fits}
@@ -226,14 +226,6 @@ came-named arrived s t (more i n e) =
     )
 
 -- ---- any state that is not damaged, however it came about
-
--- the marked segments of the slot that holds a number
-abbrev pub markedIn : Part → Found → State → List Segment
-markedIn part Nothing s = []
-markedIn part (At i) s = markedSegments part (slotOf i s) (lentOf i s)
-
-abbrev pub markedUnder : Part → ℕ → State → List Segment
-markedUnder part number s = markedIn part (find number s) s
 
 pub marked-stands : (number : ℕ) (s : State) → Intact s
     → StandsFor number s (markedUnder Header number s) (markedUnder Body number s)

@@ -5,9 +5,8 @@ use mathlib.Core.List.{List, append-assoc}
 use Prim.Native.Nat.{ℕ, _+_, _*_, _≤_}
 use lib.ListN.{length, drop, set, take-append-drop}
 use lib.Seq.{drop-drop}
-use Rattle.octets.specs.Octets.{over, zeros}
+use Rattle.octets.specs.Octets.{over, zeros, share}
 use Rattle.octets.specs.laws.Over.{part-length}
-use Rattle.octets.specs.laws.Shares.{share}
 use Rattle.answer.specs.declared.Answer.{Answer}
 use Rattle.answer.specs.declared.Answer.the-variants as Answer
 use Rattle.answer.specs.declared.Reason.the-variants as Reason
@@ -18,16 +17,19 @@ use Rattle.wire.specs.declared.Reading.the-variants.{Read, Refused}
 use Rattle.wire.specs.Reading.{readingOf}
 use Rattle.cut.specs.Requirement.{headerMost}
 use Rattle.object.specs.declared.Slot.{Slot}
-use Rattle.object.specs.Take.{Lent, Taken, takeInto}
+use Rattle.object.specs.Take.{Taken, takeInto}
+use Rattle.object.specs.Parts.{Lent}
 use Rattle.slots.specs.declared.Found.{Found}
 use Rattle.slots.specs.declared.Found.the-variants.{Nothing, At}
 use Rattle.slots.specs.Stores.{slotMarks, Stores, lentAt, withLent, freeSlot, freshSlot}
 use Rattle.slots.specs.Alone.{fitsAlone}
 use Rattle.slots.specs.Take.{Inside, takeAt, takeNew, dropAt}
-use Rattle.history.specs.laws.Slots.{Used}
-use Rattle.collector.specs.State.{State, Reply, Start, state, sound, answering, withSlots}
-use Rattle.collector.specs.Calls.{Arrival, heardAs, answerAs, find, free, intoFree, ifAlone, intoHeld, takeSegment, arrivalIn, takeGroup, dropNumber, allFree, inLimits, openWith}
+use Rattle.collector.specs.State.{State, Reply, Start, state, find, free, allFree}
+use Rattle.collector.specs.Calls.{answerAs, intoFree, ifAlone, intoHeld, takeSegment, takeGroup, dropNumber, inLimits, openWith, locate, sound, answering, withSlots}
+use Rattle.collector.specs.Arrival.{Arrival, heardAs, arrivalIn}
 use Rattle.history.specs.Held.{limitOf, slotOf, lentOf}
+use Rattle.collector.specs.Calls as calls
+use Rattle.queries.specs.Questions as queries
 
 -- what a group is answered, and what it leaves
 abbrev pub groupAnswer : List ℕ → State → Answer
@@ -42,10 +44,6 @@ dropAnswer number s = dropNumber number s .answer
 
 abbrev pub dropLeaves : ℕ → State → State
 dropLeaves number s = dropNumber number s .left
-
--- slot i is one of those in use
-abbrev pub InUse : ℕ → State → Type 0
-InUse i s = Used (s .collector .count) i (s .collector .slots)
 
 -- ---- what a call can come to
 
@@ -194,3 +192,17 @@ pub opened-none : (start : Start) → inLimits start ≡ false
     → openWith start .left ≡ state (allFree 0 0) (start .counts) (start .stores)
 unfolding openWith
 opened-none start e = rw e refl
+
+-- the collector's own definitions, of which the laws speak
+abbrev pub defined : Collecting
+defined = record {
+  opens = openWith;
+  takes = takeGroup;
+  drops = dropNumber;
+  locates = locate;
+  shows = calls.show;
+  tells = queries.parameters;
+  names = queries.name;
+  finds = queries.find;
+  asks = asking;
+}

@@ -18,28 +18,31 @@ use Rattle.wire.specs.declared.Carried.{Carried}
 use Rattle.wire.specs.declared.Reading.{Reading}
 use Rattle.wire.specs.declared.Reading.the-variants.{Read, Refused}
 use Rattle.wire.specs.Reading.{readingOf}
-use Rattle.cut.specs.Lists.{pick, bytes-zeros}
+use Rattle.cut.specs.laws.Lists.{bytes-zeros}
 use Rattle.cut.specs.Requirement.{headerMost, limitLeast}
 use Rattle.cut.specs.Decision.{both}
+use Rattle.cut.specs.Lists.{pick}
 use Rattle.slots.specs.declared.Found.{Found}
 use Rattle.slots.specs.declared.Found.the-variants.{Nothing, At}
 use Rattle.slots.specs.Stores.{slotsMost, Stores}
 use Rattle.slots.specs.State.{soundSlots}
 use Rattle.collector.specs.declared.Opening.the-variants as Opening
-use Rattle.collector.specs.State.{Start, Opened, Reply, State, answering, sound}
-use Rattle.collector.specs.Calls.{allFree, dropFound, dropNumber, find, free, inLimits, openWith, segmentIn, arrivalIn, intoHeld, takeGroup}
+use Rattle.collector.specs.State.{Start, Opened, Reply, State, allFree, find, free}
+use Rattle.collector.specs.Calls.{dropFound, dropNumber, inLimits, openWith, intoHeld, takeGroup, answering, sound}
+use Rattle.collector.specs.Arrival.{segmentIn, arrivalIn}
 use Rattle.queries.specs.Questions as queries
 use Rattle.queries.specs.declared.Sought.{Sought}
 use Rattle.queries.specs.declared.Sought.the-variants as Sought
 use Rattle.history.specs.Held.{limitOf}
-use Rattle.history.specs.laws.Ready.{OfBytes}
 use Rattle.history.specs.laws.State.{in-order-exactly}
-use Rattle.history.specs.History.{Collecting, Within, defined}
+use Rattle.history.specs.History.{Collecting, Within}
 use Rattle.history.specs.laws.Demands.{marked-answered}
 use Rattle.history.specs.Promise.{reachedBy, heardOf, byMarks, AnsweredBy, UnansweredLeaves, RepeatLeaves, StateExactly, MarkedExactly, LimitsExactly, OpenedLeaves, UnopenedLeaves, UndroppedLeaves, StateDropExactly, DropKeepsStores}
 use Rattle.history.specs.laws.Samples.{computing, small, bodyLast}
 use Rattle.history.specs.laws.Trials.{fits, five, otherKind, groupFive, groupSix, groupLast, none, one, many, named, wornOne, worn, worn-allowed, withCounts, withStores, withHeader, withBody, withMarks, recounted-bytes, recounted, damaged, is-damaged, uneven, doubted, foundSlot, openingNumber, openingBy, takingBy, droppingBy, findingBy}
 use Rattle.history.specs.laws.Worthless.{choosing, kindFirst}
+use Rattle.history.specs.State.{OfBytes}
+use Rattle.history.specs.laws.Call.{defined}
 
 -- ---- an opening is LIMITS
 

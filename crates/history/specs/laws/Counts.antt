@@ -10,14 +10,7 @@ use Rattle.answer.specs.declared.Answer.the-variants as Answer
 use Rattle.counts.specs.declared.Counts.{Counts}
 use Rattle.counts.specs.Counted.{ceiling, risen, counted, within}
 use Rattle.cut.specs.laws.Decision.{false-true}
-
--- no count is above the ceiling
-pub record Low (c : Counts) : Type 0 where
-  pub taken : c .taken ≤ ceiling
-  pub repeated : c .repeated ≤ ceiling
-  pub refused : c .refused ≤ ceiling
-  pub completed : c .completed ≤ ceiling
-  pub dropped : c .dropped ≤ ceiling
+use Rattle.history.specs.State.{Low}
 
 and-true : (a b : Bool) → (a && b) ≡ true → (a ≡ true) × (b ≡ true)
 and-true true b e = (refl, e)

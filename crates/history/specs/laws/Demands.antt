@@ -10,30 +10,31 @@ use Rattle.answer.specs.declared.Answer.the-variants as Answer
 use Rattle.answer.specs.declared.Reason.the-variants as Reason
 use Rattle.answer.specs.declared.Part.{Part}
 use Rattle.answer.specs.declared.Part.the-variants.{Header, Body}
-use Rattle.cut.specs.Lists.{Each}
 use Rattle.cut.specs.Requirement.{Segment, Fits, Finished}
 use Rattle.cut.specs.Parts.{those}
+use Rattle.cut.specs.Lists.{Each}
 use Rattle.object.specs.declared.Stage.the-variants as Stage
 use Rattle.object.specs.declared.Outcome.{Outcome}
 use Rattle.object.specs.declared.Outcome.the-variants.{Stored, Complete, Repeat, Conflict}
 use Rattle.slots.specs.declared.Found.{Found}
 use Rattle.slots.specs.declared.Found.the-variants.{Nothing, At}
-use Rattle.collector.specs.State.{Start, Reply, State}
-use Rattle.collector.specs.Calls.{answerAs, find, show, takeGroup}
-use Rattle.history.specs.Held.{Same, limitOf, stageFor}
-use Rattle.history.specs.laws.Call.{dropAnswer, unread, came, none-dropped, found-dropped}
-use Rattle.history.specs.laws.Ready.{OfBytes, used-inside, found-used}
+use Rattle.collector.specs.State.{Start, Reply, State, find}
+use Rattle.collector.specs.Calls.{answerAs, show, takeGroup}
+use Rattle.history.specs.Held.{Same, limitOf, stageFor, markedUnder}
+use Rattle.history.specs.laws.Call.{dropAnswer, unread, came, none-dropped, found-dropped, defined}
+use Rattle.history.specs.laws.Ready.{used-inside, found-used}
 use Rattle.history.specs.laws.Sound.{Intact, segment-bytes, group-intact}
-use Rattle.history.specs.laws.State.{InOrder, in-order-exactly, group-never, drop-never, located-never, told-never, found-never}
+use Rattle.history.specs.laws.State.{in-order-exactly, group-never, drop-never, located-never, told-never, found-never}
 use Rattle.history.specs.laws.Others.{same-shown}
-use Rattle.history.specs.History.{Question, Call, hand, drop, ask, CallBytes, Elsewhere, event, after, Allowed, reached, told, defined}
+use Rattle.history.specs.History.{Question, Call, hand, drop, ask, CallBytes, Elsewhere, event, after, Allowed, reached, told}
 use Rattle.history.specs.laws.Stands.{StandsFor, came-lowest}
 use Rattle.history.specs.laws.Reached.{reached-intact, reached-stands, reached-limit, others-same}
-use Rattle.history.specs.laws.Answers.{Meets, Room, came-exactly, came-full, markedUnder, marked-stands}
+use Rattle.history.specs.laws.Answers.{Meets, Room, came-exactly, came-full, marked-stands}
 use Rattle.history.specs.laws.Stage.{all-finished, finished-all, finished-shown, unfinished-shown}
 use Rattle.history.specs.laws.Told.{not-held, unfinished, located-exactly, read-exactly, name-finished, name-missing, found-exactly, nobody-exactly}
 use Rattle.history.specs.laws.Room.{unheld-exactly}
 use Rattle.history.specs.Promise.{Run, reachedBy, stored, Passing, arrivalOf, segmentOf, heardOf, View, since, byMarks, answerTo, FitsStored, NotState, ConflictBy, FullBy, RepeatBy, CompleteBy, StoredBy, LowestFreeBy, UnreadBy, DropBy, UnheldBy, NotHeldBy, UnfinishedBy, LocatedBy, ShownBy, UnshownBy, ReadBy, NamedBy, FoundBy, NotFoundBy, AnsweredBy}
+use Rattle.history.specs.State.{OfBytes, InOrder}
 
 -- ---- by what is stored
 

@@ -11,8 +11,8 @@ use Rattle.answer.specs.declared.Heard.{Heard}
 use Rattle.answer.specs.declared.Part.{Part}
 use Rattle.answer.specs.declared.Part.the-variants.{Header, Body}
 use Rattle.answer.specs.declared.Refusal.the-variants as Refusal
-use Rattle.cut.specs.Lists.{Each, Among}
 use Rattle.cut.specs.Requirement.{Segment}
+use Rattle.cut.specs.Lists.{Each, Among}
 use Rattle.header.specs.declared.Fields.{Fields}
 use Rattle.header.specs.declared.Name.the-variants as Name
 use Rattle.header.specs.declared.Priority.the-variants as Priority

@@ -14,34 +14,37 @@ use Rattle.answer.specs.declared.Part.{Part}
 use Rattle.answer.specs.declared.Part.the-variants.{Header, Body}
 use Rattle.answer.specs.Table.{numberOf}
 use Rattle.counts.specs.Counted.{ceiling, noneYet, oneRefused}
-use Rattle.cut.specs.Lists.{pick}
 use Rattle.cut.specs.Requirement.{headerSize}
+use Rattle.cut.specs.Lists.{pick}
 use Rattle.header.specs.declared.Reading.the-variants as Reading
 use Rattle.header.specs.declared.Refusal.the-variants as Refusal
 use Rattle.header.specs.Parameters.{readHeader}
+use Rattle.header.specs.Names.{nameData, hasName}
 use Rattle.object.specs.declared.Slot.{Slot}
 use Rattle.slots.specs.declared.Found.{Found}
 use Rattle.slots.specs.declared.Found.the-variants.{Nothing, At}
 use Rattle.names.specs.declared.Holder.{Holder}
 use Rattle.names.specs.declared.Holder.the-variants.{Nobody, Number}
-use Rattle.names.specs.Finding.{headerIn, nameData, hasName, lower, foundByName}
+use Rattle.names.specs.Finding.{headerIn, lower, foundByName}
 use Rattle.collector.specs.declared.Located.{Located}
 use Rattle.collector.specs.declared.Located.the-variants as Located
-use Rattle.collector.specs.State.{State}
-use Rattle.collector.specs.Calls.{find, locate, locatedIn, show, shownAt}
+use Rattle.collector.specs.State.{State, find}
+use Rattle.collector.specs.Calls.{locate, locatedIn, show, shownAt}
 use Rattle.queries.specs.Questions as queries
 use Rattle.queries.specs.declared.Asked.{Asked}
 use Rattle.queries.specs.declared.Asked.the-variants as Asked
 use Rattle.queries.specs.declared.Sought.{Sought}
 use Rattle.queries.specs.declared.Sought.the-variants as Sought
-use Rattle.queries.specs.Questions.{askedAs, askedOf, soughtAs}
+use Rattle.queries.specs.Questions.{askedOf, soughtAs}
+use Rattle.queries.specs.Said.{askedAs}
 use Rattle.history.specs.Held.{lentOf}
-use Rattle.history.specs.History.{Question, defined}
+use Rattle.history.specs.History.{Question}
 use Rattle.history.specs.laws.Stage.{none-finished}
 use Rattle.history.specs.laws.Demands.{run-answered}
 use Rattle.history.specs.Promise.{reachedBy, StateAskExactly, AskedLeaves, NotHeldExactly, UnfinishedExactly, LocatedExactly, ReadExactly, NamesRead, FoundExactly, NotFoundExactly}
 use Rattle.history.specs.laws.Samples.{computing, small, pair}
 use Rattle.history.specs.laws.Trials.{core, none, one, waiting, namedWaiting, named, spoilt, crossed, withCounts, recounted-bytes, recounted, damaged, is-damaged, uneven, doubted, foundSlot, locatedNumber, askedNumber, soughtNumber, locatingBy, showingBy, tellingBy, namingBy, findingBy, askingBy}
+use Rattle.history.specs.laws.Call.{defined}
 
 -- ---- in a damaged state
 

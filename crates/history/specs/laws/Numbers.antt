@@ -10,20 +10,21 @@ use Rattle.wire.specs.declared.Reading.the-variants.{Read, Refused}
 use Rattle.wire.specs.Wire.{byteAt, userAccess}
 use Rattle.wire.specs.Reading.{segmentOf, readingOf}
 use Rattle.wire.specs.laws.Theorems.{read-passes}
-use Rattle.cut.specs.Lists.{Each, Bytes}
 use Rattle.cut.specs.Requirement.{Segment}
+use Rattle.cut.specs.Lists.{Each, Bytes}
 use Rattle.object.specs.declared.Slot.{Slot}
 use Rattle.slots.specs.declared.Found.{Found}
 use Rattle.slots.specs.declared.Found.the-variants.{Nothing, At}
 use Rattle.slots.specs.Stores.{slotsMost, freeSlot, freshSlot, slotAt}
-use Rattle.collector.specs.State.{Start, Reply, State}
-use Rattle.collector.specs.Calls.{Arrival, arrivalIn, dropNumber, find, takeGroup}
+use Rattle.collector.specs.State.{Start, Reply, State, find}
+use Rattle.collector.specs.Calls.{dropNumber, takeGroup}
+use Rattle.collector.specs.Arrival.{Arrival, arrivalIn}
 use Rattle.history.specs.Held.{lentOf, limitOf, slotOf}
-use Rattle.history.specs.laws.Call.{Came, alone, full, first, more, unread, came, none-dropped, found-dropped}
+use Rattle.history.specs.laws.Call.{Came, alone, full, first, more, unread, came, none-dropped, found-dropped, defined}
 use Rattle.history.specs.laws.Ready.{used-inside, found-used}
 use Rattle.history.specs.laws.Taken.{taken-number}
 use Rattle.history.specs.laws.Sound.{Intact}
-use Rattle.history.specs.History.{Call, hand, drop, ask, CallBytes, leaves, Allowed, defined, reached}
+use Rattle.history.specs.History.{Call, hand, drop, ask, CallBytes, leaves, Allowed, reached}
 use Rattle.history.specs.laws.Reached.{start-is, reached-intact}
 
 -- a number of 16 bits

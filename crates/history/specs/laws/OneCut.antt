@@ -18,19 +18,20 @@ use Rattle.wire.specs.declared.Carried.{Carried}
 use Rattle.wire.specs.declared.Reading.{Reading}
 use Rattle.wire.specs.declared.Reading.the-variants.{Read, Refused}
 use Rattle.wire.specs.Reading.{readingOf}
-use Rattle.cut.specs.Lists.{pick, Each, Among, Bytes}
 use Rattle.cut.specs.Requirement.{Segment, Fits, Finished}
 use Rattle.cut.specs.Parts.{headersWith, bodiesWith}
+use Rattle.cut.specs.Lists.{pick, Each, Among, Bytes}
 use Rattle.object.specs.declared.Stage.the-variants as Stage
 use Rattle.object.specs.declared.Outcome.{Outcome}
 use Rattle.object.specs.declared.Outcome.the-variants.{Stored, Complete, Repeat, Conflict}
 use Rattle.object.specs.Source.{Source, SentBy}
 use Rattle.object.specs.laws.OffersKept.{source-fits}
-use Rattle.collector.specs.Calls.{answerAs, arrivalIn, heardAs, heardIn, segmentIn, show, takeGroup}
+use Rattle.collector.specs.Calls.{answerAs, show, takeGroup}
 use Rattle.collector.specs.State.{Start}
+use Rattle.collector.specs.Arrival.{arrivalIn, heardAs, heardIn, segmentIn}
 use Rattle.history.specs.Held.{stageFor}
-use Rattle.history.specs.laws.Call.{groupAnswer, dropAnswer, came}
-use Rattle.history.specs.History.{Call, hand, drop, ask, CallBytes, Allowed, reached, told, isStored, isDropped, with, afterGroup, under, storedUnder, defined}
+use Rattle.history.specs.laws.Call.{groupAnswer, dropAnswer, came, defined}
+use Rattle.history.specs.History.{Call, hand, drop, ask, CallBytes, Allowed, reached, told, isStored, isDropped, with, afterGroup, under, storedUnder}
 use Rattle.history.specs.laws.Reached.{reached-intact}
 use Rattle.history.specs.laws.Answers.{came-named}
 use Rattle.history.specs.Promise.{Run, reachedBy, toldBy, stored, Passing, segmentOf, heardOf, since, answerTo, FitsStored, StoredFrom, hadSlot, cameUnder}

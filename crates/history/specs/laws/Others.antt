@@ -13,25 +13,28 @@ use Rattle.wire.specs.declared.Carried.{Carried}
 use Rattle.wire.specs.declared.Reading.{Reading}
 use Rattle.wire.specs.declared.Reading.the-variants.{Read, Refused}
 use Rattle.wire.specs.Reading.{readingOf}
-use Rattle.cut.specs.Lists.{Bytes}
 use Rattle.cut.specs.Requirement.{Segment}
 use Rattle.cut.specs.laws.Decision.{false-true}
+use Rattle.cut.specs.Lists.{Bytes}
 use Rattle.object.specs.declared.Slot.{Slot}
-use Rattle.object.specs.Take.{Lent, Taken, takeInto}
+use Rattle.object.specs.Take.{Taken, takeInto}
+use Rattle.object.specs.Parts.{Lent}
 use Rattle.slots.specs.declared.Found.{Found}
 use Rattle.slots.specs.declared.Found.the-variants.{Nothing, At}
 use Rattle.slots.specs.Stores.{freeSlot, freshSlot}
 use Rattle.slots.specs.Find.{isFree, holds, findIn}
 use Rattle.slots.specs.laws.Shares.{Wide, lent-other}
-use Rattle.collector.specs.State.{Reply, State, answering, sound}
-use Rattle.collector.specs.Calls.{Arrival, answerAs, arrivalIn, dropNumber, find, heardAs, show, takeGroup}
+use Rattle.collector.specs.State.{Reply, State, find}
+use Rattle.collector.specs.Calls.{answerAs, dropNumber, show, takeGroup, answering, sound}
+use Rattle.collector.specs.Arrival.{Arrival, arrivalIn, heardAs}
 use Rattle.history.specs.laws.Slots.{held-is, free-holds, slot-there, same-found}
 use Rattle.history.specs.Held.{Same, lentOf, limitOf, slotOf}
-use Rattle.history.specs.laws.Call.{groupLeaves, dropLeaves, InUse, replacing, Came, alone, full, first, more, unread, came, none-dropped, found-dropped, cleared}
+use Rattle.history.specs.laws.Call.{groupLeaves, dropLeaves, replacing, Came, alone, full, first, more, unread, came, none-dropped, found-dropped, cleared}
 use Rattle.history.specs.laws.Ready.{used-inside, used-lent, found-used, found-holds, free-used, free-free}
 use Rattle.history.specs.laws.Taken.{taken-number}
 use Rattle.history.specs.laws.Shown.{unheld-shown, held-shown}
 use Rattle.history.specs.laws.Sound.{Intact, lent-is-wide, more-lent, first-lent, cleared-lent, segment-bytes, group-intact, drop-intact}
+use Rattle.history.specs.State.{InUse}
 
 same-all : (number : ℕ) (s : State) (answer : Answer) → Same number s (answering answer s .left)
 same-all number s answer = record { limit = refl; found = refl; slot = λ i e. refl; lent = λ i e. refl }

@@ -10,22 +10,23 @@ use Rattle.wire.specs.declared.Carried.{Carried}
 use Rattle.wire.specs.declared.Reading.{Reading}
 use Rattle.wire.specs.declared.Reading.the-variants.{Read, Refused}
 use Rattle.wire.specs.Reading.{readingOf}
-use Rattle.cut.specs.Lists.{Each}
 use Rattle.cut.specs.Requirement.{Segment}
+use Rattle.cut.specs.Lists.{Each}
 use Rattle.slots.specs.declared.Found.{Found}
 use Rattle.slots.specs.declared.Found.the-variants.{Nothing, At}
 use Rattle.slots.specs.Stores.{slotsMost, freeSlot, slotAt}
 use Rattle.slots.specs.Find.{isFree, holds, findIn}
 use Rattle.counts.specs.Counted.{noneYet}
-use Rattle.collector.specs.State.{Start, Reply, State}
-use Rattle.collector.specs.Calls.{Arrival, allFree, arrivalIn, dropNumber, find, openWith, takeGroup}
+use Rattle.collector.specs.State.{Start, Reply, State, allFree, find}
+use Rattle.collector.specs.Calls.{dropNumber, openWith, takeGroup}
+use Rattle.collector.specs.Arrival.{Arrival, arrivalIn}
 use Rattle.history.specs.laws.Slots.{free-holds, none-found, limits-within}
 use Rattle.history.specs.Held.{Same, limitOf}
-use Rattle.history.specs.laws.Call.{Came, alone, full, first, more, unread, came, none-dropped, found-dropped, opened-all}
+use Rattle.history.specs.laws.Call.{Came, alone, full, first, more, unread, came, none-dropped, found-dropped, opened-all, defined}
 use Rattle.history.specs.laws.Ready.{used-inside, found-used}
 use Rattle.history.specs.laws.Sound.{Intact, group-intact, drop-intact, opening-intact}
 use Rattle.history.specs.laws.Others.{same-then, same-self, group-others, drop-others}
-use Rattle.history.specs.History.{Call, hand, drop, ask, CallBytes, Elsewhere, Event, leaves, event, after, Allowed, defined, reached, told, under}
+use Rattle.history.specs.History.{Call, hand, drop, ask, CallBytes, Elsewhere, Event, leaves, event, after, Allowed, reached, told, under}
 use Rattle.history.specs.laws.Stands.{Stands, group-stands, drop-stands}
 
 -- ---- the opening

@@ -7,29 +7,24 @@ use native.Mathlib.Omega.{arith}
 use lib.ListN.{length, drop}
 use Rattle.octets.specs.Octets.{sumOf}
 use Rattle.counts.specs.Counted.{within}
-use Rattle.cut.specs.Lists.{Bytes, bytes-take, bytes-drop}
+use Rattle.cut.specs.laws.Lists.{bytes-take, bytes-drop}
 use Rattle.cut.specs.Requirement.{headerMost, limitMost}
 use Rattle.cut.specs.laws.Decision.{both-true}
 use Rattle.object.specs.Sound.{soundSlot}
 use Rattle.object.specs.laws.Shape.{IsLent}
 use Rattle.slots.specs.declared.Found.the-variants.{Nothing, At}
-use Rattle.slots.specs.Stores.{slotMarks, Stores, lentAt}
+use Rattle.slots.specs.Stores.{slotMarks, lentAt, Limits}
 use Rattle.slots.specs.Find.{isFree, holds, findIn, freeIn}
-use Rattle.slots.specs.State.{soundSlots, Limits}
+use Rattle.slots.specs.State.{soundSlots}
 use Rattle.slots.specs.Take.{Inside}
 use Rattle.slots.specs.laws.Shares.{lent-wide}
 use Rattle.slots.specs.laws.Ready.{inside-store, held-sound, free-unmarked}
-use Rattle.collector.specs.State.{State, sound}
-use Rattle.collector.specs.Calls.{find, free}
-use Rattle.history.specs.laws.Counts.{Low, within-low}
+use Rattle.collector.specs.State.{State, find, free}
+use Rattle.collector.specs.Calls.{sound}
+use Rattle.history.specs.laws.Counts.{within-low}
 use Rattle.history.specs.laws.Slots.{Undamaged, found-at, found-none, sound-undamaged}
 use Rattle.history.specs.Held.{lentOf, limitOf, slotOf}
-use Rattle.history.specs.laws.Call.{InUse}
-
--- what is lent are bytes, as all memory is
-pub record OfBytes (stores : Stores) : Type 0 where
-  pub header : Bytes (stores .header)
-  pub body : Bytes (stores .body)
+use Rattle.history.specs.State.{InUse, OfBytes, Low}
 
 -- within the limits each slot has its shares
 module _ (s : State) (i : ℕ) (w : Limits (limitOf s) (s .collector .count) (length (s .stores .header))

@@ -22,9 +22,9 @@ use Rattle.wire.specs.declared.Carried.{Carried}
 use Rattle.wire.specs.declared.Reading.{Reading}
 use Rattle.wire.specs.declared.Reading.the-variants.{Read, Refused}
 use Rattle.wire.specs.Reading.{readingOf}
-use Rattle.cut.specs.Lists.{pick}
 use Rattle.cut.specs.Requirement.{limitLeast, Segment}
 use Rattle.cut.specs.laws.Decision.{false-true}
+use Rattle.cut.specs.Lists.{pick}
 use Rattle.object.specs.declared.Slot.{Slot}
 use Rattle.object.specs.declared.Stage.{Stage}
 use Rattle.object.specs.declared.Stage.the-variants as Stage
@@ -32,8 +32,9 @@ use Rattle.object.specs.declared.Outcome.{Outcome}
 use Rattle.object.specs.declared.Outcome.the-variants.{Stored, Complete, Repeat, Conflict}
 use Rattle.object.specs.declared.Decided.{Decided}
 use Rattle.object.specs.declared.Decided.the-variants as Decided
-use Rattle.object.specs.Take.{Lent, partsOf, decided, partsWith, stageOf, outcomeBy, Taken, unchanged, takenBy, takeInto}
+use Rattle.object.specs.Take.{decided, partsWith, outcomeBy, Taken, unchanged, takenBy, takeInto}
 use Rattle.object.specs.laws.Decided.{ifNew}
+use Rattle.object.specs.Parts.{Lent, partsOf, stageOf}
 use Rattle.slots.specs.declared.Found.{Found}
 use Rattle.slots.specs.declared.Found.the-variants.{Nothing, At}
 use Rattle.slots.specs.Stores.{freeSlot, freshSlot, slotAt}
@@ -41,14 +42,15 @@ use Rattle.slots.specs.Alone.{fitsAlone}
 use Rattle.slots.specs.laws.Fresh.{fresh-taken}
 use Rattle.slots.specs.laws.StateTests.{limits-hold}
 use Rattle.collector.specs.declared.Opening.the-variants as Opening
-use Rattle.collector.specs.State.{Start, Reply, State, answering, sound}
-use Rattle.collector.specs.Calls.{Arrival, allFree, answerAs, arrivalIn, dropFound, dropNumber, find, heardAs, inLimits, openWith, takeGroup}
-use Rattle.history.specs.laws.Slots.{Used, limits-within}
+use Rattle.collector.specs.State.{Start, Reply, State, allFree, find}
+use Rattle.collector.specs.Calls.{answerAs, dropFound, dropNumber, inLimits, openWith, takeGroup, answering, sound}
+use Rattle.collector.specs.Arrival.{Arrival, arrivalIn, heardAs}
+use Rattle.history.specs.laws.Slots.{limits-within}
 use Rattle.history.specs.Held.{lentOf, limitOf, slotOf}
 use Rattle.history.specs.laws.Call.{groupAnswer, groupLeaves, dropAnswer, dropLeaves, replacing, offering, Came, alone, full, first, more, group-damaged, unread, came, drop-damaged, none-dropped, found-dropped, lent-same, opened-all, opened-none}
-use Rattle.history.specs.laws.State.{InOrder}
 use Rattle.history.specs.History.{Within}
 use Rattle.history.specs.laws.Ready.{used-inside, found-used, free-marks}
+use Rattle.history.specs.State.{Used, InOrder}
 
 -- ---- the offer of a segment
 

@@ -12,26 +12,28 @@ use Rattle.wire.specs.declared.Carried.{Carried}
 use Rattle.wire.specs.declared.Reading.{Reading}
 use Rattle.wire.specs.declared.Reading.the-variants.{Read, Refused}
 use Rattle.wire.specs.Reading.{readingOf}
-use Rattle.cut.specs.Lists.{Each}
 use Rattle.cut.specs.Requirement.{headerNumbers, Segment}
 use Rattle.cut.specs.laws.Marks.{Marked}
-use Rattle.object.specs.Take.{partsOf}
+use Rattle.cut.specs.Lists.{Each}
 use Rattle.object.specs.laws.Inside.{sound-slot}
 use Rattle.object.specs.laws.Held.{Holds}
+use Rattle.object.specs.Parts.{partsOf}
 use Rattle.slots.specs.declared.Found.{Found}
 use Rattle.slots.specs.declared.Found.the-variants.{Nothing, At}
 use Rattle.slots.specs.Stores.{slotsMost, freeSlot}
 use Rattle.slots.specs.Find.{isFree, holds, findIn, freeIn}
-use Rattle.collector.specs.State.{Start, Reply, State, sound}
-use Rattle.collector.specs.Calls.{Arrival, arrivalIn, dropNumber, find, free, takeGroup}
+use Rattle.collector.specs.State.{Start, Reply, State, find, free}
+use Rattle.collector.specs.Calls.{dropNumber, takeGroup, sound}
+use Rattle.collector.specs.Arrival.{Arrival, arrivalIn}
 use Rattle.history.specs.laws.Slots.{held-is, is-held, found-none, none-found, only-found}
 use Rattle.history.specs.Held.{lentOf, limitOf, slotOf}
-use Rattle.history.specs.laws.Call.{InUse, Came, alone, full, first, more, unread, came, none-dropped, found-dropped}
+use Rattle.history.specs.laws.Call.{Came, alone, full, first, more, unread, came, none-dropped, found-dropped, defined}
 use Rattle.history.specs.laws.Ready.{slots-right, used-inside, found-used, found-holds, found-sound}
 use Rattle.history.specs.laws.Sound.{Intact}
-use Rattle.history.specs.History.{Call, hand, ask, CallBytes, leaves, Allowed, defined, reached}
+use Rattle.history.specs.History.{Call, hand, ask, CallBytes, leaves, Allowed, reached}
 use Rattle.history.specs.laws.Stands.{StandsFor}
 use Rattle.history.specs.laws.Reached.{start-is, reached-intact, reached-count}
+use Rattle.history.specs.State.{InUse}
 
 -- ---- a number holds a slot exactly when something is stored under it
 

@@ -14,28 +14,31 @@ use Rattle.counts.specs.Counted.{noneYet, risen, within}
 use Rattle.wire.specs.declared.Carried.{Carried}
 use Rattle.wire.specs.declared.Reading.the-variants.{Read}
 use Rattle.wire.specs.Reading.{kindOf, checkHolds, sizeWrong, segmentOf, readingOf}
-use Rattle.cut.specs.Lists.{Each, Among, bytes-zeros}
+use Rattle.cut.specs.laws.Lists.{bytes-zeros}
 use Rattle.cut.specs.Requirement.{bodySize, headerSize, contentType, contentSubType, Segment}
 use Rattle.cut.specs.Decision.{boundsOf, coreFits, room, largest, alone, settle}
 use Rattle.cut.specs.Sums.{possibleIn, fitsIn}
 use Rattle.cut.specs.laws.Segment.{Numbered}
 use Rattle.cut.specs.laws.Finished.{whole-numbers}
+use Rattle.cut.specs.Lists.{Each, Among}
 use Rattle.header.specs.Parameters.{lengthAt, parameterAt, within as inHeader, foundAt, turns, parametersFrom, widthFits, allFit, single, count, twice, find as findParameter, fieldsOf, judged, readHeader}
-use Rattle.header.specs.Names.{unslashed, nameMatches}
+use Rattle.header.specs.Names.{unslashed, nameMatches, nameData, hasName}
 use Rattle.part.specs.Memory.{segmentAt, settled, put}
-use Rattle.object.specs.Take.{partsOf, lentOf, coreIn, takesIn, decided, partsWith, stageOf, slotWith, takeInto}
+use Rattle.object.specs.Take.{takesIn, decided, partsWith, slotWith, takeInto}
 use Rattle.part.specs.Asked.{recordWith, recordWithin, sameSegment, recordRight, soundPart}
 use Rattle.object.specs.Sound.{soundParts, soundSlot}
 use Rattle.object.specs.Source.{Source, SentBy}
+use Rattle.object.specs.Parts.{partsOf, lentOf, coreIn, stageOf}
 use Rattle.slots.specs.Alone.{fitsAlone}
 use Rattle.slots.specs.Find.{isFree, holds, firstFrom, findIn, freeIn}
 use Rattle.slots.specs.State.{withinLimits, heldAmong, unlike, distinct, rightSlot, rightFrom, soundSlots}
 use Rattle.slots.specs.Stores.{lentAt, withLent, freeSlot, freshSlot, slotAt}
 use Rattle.slots.specs.Show.{startOf, shownOf}
 use Rattle.slots.specs.Take.{takeAt, takeNew, dropAt}
-use Rattle.names.specs.Finding.{headerIn, nameData, hasName, holderIn, lowestFrom, foundByName}
-use Rattle.collector.specs.State.{Start, sound}
-use Rattle.collector.specs.Calls.{segmentIn, takeSegment, takeGroup, dropNumber, openWith, locate, show}
+use Rattle.names.specs.Finding.{headerIn, holderIn, lowestFrom, foundByName}
+use Rattle.collector.specs.State.{Start}
+use Rattle.collector.specs.Calls.{takeSegment, takeGroup, dropNumber, openWith, locate, show, sound}
+use Rattle.collector.specs.Arrival.{segmentIn}
 use Rattle.queries.specs.Questions.{parameters, name, find as findByName}
 use Rattle.history.specs.History.{Call, hand, CallBytes, Allowed, under}
 

@@ -8,24 +8,24 @@ use native.Mathlib.Omega.{arith}
 use lib.ListN.{length, take, drop}
 use lib.Seq.{take-take}
 use borrow.Author.Tests.{le-leb}
-use Rattle.octets.specs.laws.Shares.{share}
 use Rattle.answer.specs.declared.Part.{Part}
 use Rattle.answer.specs.declared.Part.the-variants.{Header, Body}
 use Rattle.cut.specs.Requirement.{headerMost}
 use Rattle.object.specs.declared.Stage.{Stage}
 use Rattle.object.specs.declared.Stage.the-variants.{Free, Gathering, Finished}
-use Rattle.object.specs.Take.{Lent, partsOf}
 use Rattle.object.specs.Sound.{soundParts}
 use Rattle.object.specs.laws.Inside.{sound-slot}
 use Rattle.object.specs.laws.StageInside.{finished-inside}
+use Rattle.object.specs.Parts.{Lent, partsOf}
 use Rattle.slots.specs.declared.Found.the-variants.{Nothing, At}
 use Rattle.slots.specs.Stores.{Stores, lentAt}
 use Rattle.slots.specs.Take.{Inside}
 use Rattle.slots.specs.Show.{startOf, shownAs, shownOf}
-use Rattle.collector.specs.State.{State, sound}
-use Rattle.collector.specs.Calls.{find, locate, locatedAs, show, shownAt}
+use Rattle.collector.specs.State.{State, find}
+use Rattle.collector.specs.Calls.{locate, locatedAs, show, shownAt, sound}
 use Rattle.history.specs.Held.{lentOf, limitOf, slotOf}
 use Rattle.history.specs.laws.Ready.{used-inside, found-used, found-sound}
+use Rattle.octets.specs.Octets.{share}
 
 -- the first bytes of a share, as many as the stage says
 abbrev pub frontOf : Part → Stage → Lent → List ℕ

@@ -13,23 +13,19 @@ use lib.ListN.{length, take, getD, set, length-take, length-set}
 use lib.Seq.{getD-take, getD-set-same, getD-set-other, take-set-lt}
 use borrow.Author.Tests.{eqb-true, eq-eqb, le-leb}
 use Rattle.cut.specs.Requirement.{headerMost, limitLeast, limitMost}
-use Rattle.cut.specs.Lists.{pick}
 use Rattle.cut.specs.laws.Decision.{false-true, both-true, true-both, all-true, true-all}
+use Rattle.cut.specs.Lists.{pick}
 use Rattle.object.specs.declared.Slot.{Slot}
-use Rattle.object.specs.Take.{Lent}
+use Rattle.object.specs.Parts.{Lent}
 use Rattle.slots.specs.declared.Found.{Found}
 use Rattle.slots.specs.declared.Found.the-variants.{Nothing, At}
-use Rattle.slots.specs.Stores.{slotsMost, slotMarks, Stores, lentAt, withLent, freeSlot, slotAt}
+use Rattle.slots.specs.Stores.{slotsMost, slotMarks, Stores, lentAt, withLent, freeSlot, slotAt, Limits}
 use Rattle.slots.specs.Find.{freeStage, isFree, holds, firstFrom}
-use Rattle.slots.specs.State.{withinLimits, heldAmong, unlike, distinct, rightSlot, rightFrom, soundSlots, Limits}
+use Rattle.slots.specs.State.{withinLimits, heldAmong, unlike, distinct, rightSlot, rightFrom, soundSlots}
 use Rattle.slots.specs.Take.{Inside}
 use Rattle.slots.specs.laws.Shares.{Wide, lent-back, lent-other, stores-lengths}
 use Rattle.slots.specs.laws.Ready.{sound-limits, right-at, found-passes}
-
--- slot i is one of those that are in use
-pub record Used (count i : ℕ) (slots : List Slot) : Type 0 where
-  pub counted : i < count
-  pub there : i < length slots
+use Rattle.history.specs.State.{Used}
 
 used-taken : (count i : ℕ) (slots : List Slot) → Used count i slots → i < length (take count slots)
 used-taken count i slots u = rw length-take (omega arith)

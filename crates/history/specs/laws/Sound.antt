@@ -19,14 +19,16 @@ use Rattle.wire.specs.declared.Carried.{Carried}
 use Rattle.wire.specs.declared.Reading.{Reading}
 use Rattle.wire.specs.declared.Reading.the-variants.{Read, Refused}
 use Rattle.wire.specs.Reading.{readingOf}
-use Rattle.cut.specs.Lists.{Bytes, bytes-take, bytes-drop, over-bytes}
+use Rattle.cut.specs.laws.Lists.{bytes-take, bytes-drop, over-bytes}
 use Rattle.cut.specs.Requirement.{headerMost, limitMost, Segment}
 use Rattle.cut.specs.laws.Decision.{false-true, true-both}
+use Rattle.cut.specs.Lists.{Bytes}
 use Rattle.object.specs.declared.Slot.{Slot}
-use Rattle.object.specs.Take.{Lent, Taken, takeInto}
+use Rattle.object.specs.Take.{Taken, takeInto}
 use Rattle.object.specs.laws.Shape.{IsLent}
 use Rattle.object.specs.laws.StepSound.{taken-lent, added-sound}
 use Rattle.object.specs.laws.StateAnswered.{sound-stays, lent-stays}
+use Rattle.object.specs.Parts.{Lent}
 use Rattle.slots.specs.declared.Found.{Found}
 use Rattle.slots.specs.declared.Found.the-variants.{Nothing, At}
 use Rattle.slots.specs.Stores.{slotsMost, slotMarks, Stores, lentAt, withLent, freeSlot, freshSlot, slotAt}
@@ -35,14 +37,16 @@ use Rattle.slots.specs.Alone.{fitsAlone}
 use Rattle.slots.specs.State.{rightSlot, soundSlots}
 use Rattle.slots.specs.laws.StateTests.{limits-hold}
 use Rattle.slots.specs.laws.Shares.{Wide}
-use Rattle.collector.specs.State.{Start, State, Reply, state, sound, answering}
-use Rattle.collector.specs.Calls.{Arrival, allFree, answerAs, arrivalIn, dropNumber, find, free, heardAs, inLimits, openWith, segmentIn, takeGroup}
+use Rattle.collector.specs.State.{Start, State, Reply, state, allFree, find, free}
+use Rattle.collector.specs.Calls.{answerAs, dropNumber, inLimits, openWith, takeGroup, sound, answering}
+use Rattle.collector.specs.Arrival.{Arrival, arrivalIn, heardAs, segmentIn}
 use Rattle.history.specs.laws.Counts.{low-within, counted-low}
-use Rattle.history.specs.laws.Ready.{OfBytes, slots-sound, counts-low, slots-right, limit-low, used-inside, used-lent, found-used, found-holds, found-sound, none-holds, free-used, free-marks}
+use Rattle.history.specs.laws.Ready.{slots-sound, counts-low, slots-right, limit-low, used-inside, used-lent, found-used, found-holds, found-sound, none-holds, free-used, free-marks}
 use Rattle.history.specs.laws.Taken.{sound-right, taken-number, fresh-gathers, fresh-added}
-use Rattle.history.specs.laws.Slots.{Used, Undamaged, held-is, is-held, free-holds, undamaged-sound, replaced}
+use Rattle.history.specs.laws.Slots.{Undamaged, held-is, is-held, free-holds, undamaged-sound, replaced}
 use Rattle.history.specs.Held.{lentOf, limitOf, slotOf}
-use Rattle.history.specs.laws.Call.{groupLeaves, dropLeaves, InUse, replacing, Came, alone, full, first, more, unread, came, none-dropped, found-dropped, cleared, opened-all}
+use Rattle.history.specs.laws.Call.{groupLeaves, dropLeaves, replacing, Came, alone, full, first, more, unread, came, none-dropped, found-dropped, cleared, opened-all}
+use Rattle.history.specs.State.{Used, InUse, OfBytes}
 
 -- a state that is not damaged, and what is lent are bytes, as all memory is
 pub record Intact (s : State) : Type 0 where

@@ -17,8 +17,8 @@ use Rattle.object.specs.laws.Held.{Holds}
 use Rattle.object.specs.laws.Shown.{holds-shows}
 use Rattle.slots.specs.declared.Found.{Found}
 use Rattle.slots.specs.declared.Found.the-variants.{Nothing, At}
-use Rattle.collector.specs.State.{State, sound}
-use Rattle.collector.specs.Calls.{find, show}
+use Rattle.collector.specs.State.{State, find}
+use Rattle.collector.specs.Calls.{show, sound}
 use Rattle.history.specs.Held.{lentOf, limitOf, slotOf, stageAt, stageFor}
 use Rattle.history.specs.laws.Shown.{frontOf, held-shown, unheld-shown}
 use Rattle.history.specs.laws.Stands.{StandsFor}

@@ -21,32 +21,35 @@ use Rattle.wire.specs.declared.Carried.{Carried}
 use Rattle.wire.specs.declared.Reading.{Reading}
 use Rattle.wire.specs.declared.Reading.the-variants.{Read, Refused}
 use Rattle.wire.specs.Reading.{readingOf}
-use Rattle.cut.specs.Lists.{pick, Bytes}
 use Rattle.cut.specs.Requirement.{Segment}
 use Rattle.cut.specs.Parts.{headersWith, bodiesWith}
+use Rattle.cut.specs.Lists.{pick, Bytes}
 use Rattle.object.specs.declared.Slot.{Slot}
 use Rattle.object.specs.declared.Outcome.{Outcome}
 use Rattle.object.specs.declared.Outcome.the-variants.{Stored, Complete, Repeat, Conflict}
-use Rattle.object.specs.Take.{Lent, Taken, takeInto}
+use Rattle.object.specs.Take.{Taken, takeInto}
 use Rattle.object.specs.laws.Shape.{IsLent}
 use Rattle.object.specs.laws.Held.{Holds, Added}
 use Rattle.object.specs.laws.Step.{Tells, outcome-tells}
+use Rattle.object.specs.Parts.{Lent}
 use Rattle.slots.specs.declared.Found.{Found}
 use Rattle.slots.specs.declared.Found.the-variants.{Nothing, At}
 use Rattle.slots.specs.Stores.{freeSlot, freshSlot, slotAt}
 use Rattle.slots.specs.Find.{isFree, holds, findIn, freeIn}
 use Rattle.slots.specs.Alone.{fitsAlone}
 use Rattle.slots.specs.laws.Shares.{lent-back}
-use Rattle.collector.specs.State.{Reply, State, answering, sound}
-use Rattle.collector.specs.Calls.{Arrival, answerAs, arrivalIn, dropNumber, find, free, heardAs, takeGroup}
+use Rattle.collector.specs.State.{Reply, State, find, free}
+use Rattle.collector.specs.Calls.{answerAs, dropNumber, takeGroup, answering, sound}
+use Rattle.collector.specs.Arrival.{Arrival, arrivalIn, heardAs}
 use Rattle.history.specs.laws.Slots.{held-is, is-held, free-holds, found-first, none-found, only-found, slot-here, slot-there, used-before, used-after}
 use Rattle.history.specs.Held.{Same, lentOf, limitOf, slotOf}
-use Rattle.history.specs.laws.Call.{InUse, replacing, offering, Came, alone, full, first, more, unread, came, none-dropped, found-dropped, cleared}
+use Rattle.history.specs.laws.Call.{replacing, offering, Came, alone, full, first, more, unread, came, none-dropped, found-dropped, cleared}
 use Rattle.history.specs.laws.Ready.{slots-right, limit-low, used-inside, used-lent, found-used, found-holds, free-used, free-free, free-marks}
 use Rattle.history.specs.laws.Taken.{holds-held, taken-number, fresh-gathers, fresh-added}
 use Rattle.history.specs.laws.Sound.{Intact, lent-is-wide, more-lent, first-lent, segment-bytes, group-intact}
 use Rattle.history.specs.laws.Others.{came-same, drop-others}
 use Rattle.history.specs.History.{Event, handed, dropped, isStored, isDropped, with, afterGroup, afterDrop, under, storedUnder}
+use Rattle.history.specs.State.{InUse}
 
 -- the slot that holds a number holds just these segments; if none holds it, there are none
 pub record StandsFor (number : ℕ) (s : State) (hs bs : List Segment) : Type 0 where

@@ -5,7 +5,7 @@ use mathlib.Core.Bool.{Bool, true, false}
 use mathlib.Core.List.{List, []}
 use Prim.Native.Nat.{ℕ, _≤_}
 use native.Mathlib.Omega.{arith}
-use lib.ListN.{length, getD}
+use lib.ListN.{getD}
 use borrow.Author.Tests.{eqb-true, eq-eqb}
 use Rattle.octets.specs.Octets.{largestOf}
 use Rattle.octets.specs.laws.Marks.{largest-each}
@@ -15,62 +15,50 @@ use Rattle.answer.specs.declared.Heard.{Heard}
 use Rattle.answer.specs.declared.Part.{Part}
 use Rattle.answer.specs.declared.Part.the-variants.{Header}
 use Rattle.counts.specs.Counted.{within}
-use Rattle.wire.specs.declared.Carried.{Carried}
 use Rattle.wire.specs.declared.Reading.{Reading}
 use Rattle.wire.specs.declared.Reading.the-variants.{Read, Refused}
 use Rattle.wire.specs.Reading.{readingOf}
-use Rattle.cut.specs.Requirement.{limitMost, Segment}
+use Rattle.cut.specs.Requirement.{limitMost}
 use Rattle.cut.specs.laws.Decision.{true-both}
 use Rattle.header.specs.declared.Reading.{Reading as HeaderReading}
 use Rattle.header.specs.declared.Reading.the-variants as HeaderReading
 use Rattle.header.specs.declared.Refusal.the-variants as HeaderRefusal
 use Rattle.header.specs.Parameters.{readHeader}
+use Rattle.header.specs.Names.{nameData}
 use Rattle.object.specs.declared.Slot.{Slot}
 use Rattle.object.specs.declared.Stage.{Stage}
 use Rattle.object.specs.declared.Stage.the-variants as Stage
 use Rattle.object.specs.declared.Outcome.{Outcome}
 use Rattle.object.specs.declared.Outcome.the-variants.{Stored, Complete, Repeat, Conflict}
-use Rattle.object.specs.Take.{Lent, takeInto}
+use Rattle.object.specs.Take.{takeInto}
 use Rattle.object.specs.laws.Shape.{IsLent}
 use Rattle.object.specs.State.{Sound}
 use Rattle.object.specs.laws.StateExact.{sound-exactly}
+use Rattle.object.specs.Parts.{Lent}
 use Rattle.slots.specs.declared.Found.{Found}
 use Rattle.slots.specs.declared.Found.the-variants.{Nothing, At}
 use Rattle.slots.specs.Stores.{freshSlot}
-use Rattle.slots.specs.Find.{isFree, holds}
-use Rattle.slots.specs.State.{rightSlot, soundSlots, Limits}
+use Rattle.slots.specs.Find.{isFree}
+use Rattle.slots.specs.State.{rightSlot, soundSlots}
 use Rattle.collector.specs.declared.Located.{Located}
 use Rattle.collector.specs.declared.Located.the-variants as Located
 use Rattle.names.specs.declared.Holder.{Holder}
 use Rattle.names.specs.declared.Holder.the-variants as Holder
-use Rattle.names.specs.Finding.{nameData, foundByName}
-use Rattle.collector.specs.State.{Reply, State, sound}
-use Rattle.collector.specs.Calls.{Arrival, answerAs, arrivalIn, dropNumber, find, heardAs, locate, locatedAs, locatedIn, show, takeGroup}
+use Rattle.names.specs.Finding.{foundByName}
+use Rattle.collector.specs.State.{Reply, State, find}
+use Rattle.collector.specs.Calls.{answerAs, dropNumber, locate, locatedAs, locatedIn, show, takeGroup, sound}
+use Rattle.collector.specs.Arrival.{Arrival, arrivalIn, heardAs}
 use Rattle.queries.specs.Questions as queries
 use Rattle.queries.specs.declared.Asked.the-variants as Asked
 use Rattle.queries.specs.declared.Sought.the-variants as Sought
-use Rattle.queries.specs.Questions.{askedAs, askedOf, parameters, name, soughtAs, find as findByName}
+use Rattle.queries.specs.Questions.{askedOf, parameters, name, soughtAs, find as findByName}
+use Rattle.queries.specs.Said.{askedAs}
 use Rattle.history.specs.laws.Slots.{undamaged-sound}
 use Rattle.history.specs.Held.{lentOf, limitOf, slotOf}
-use Rattle.history.specs.laws.Call.{groupAnswer, dropAnswer, InUse, Came, alone, full, first, more, group-damaged, unread, came, drop-damaged, none-dropped, found-dropped}
-use Rattle.history.specs.laws.Counts.{Low, low-within}
-use Rattle.history.specs.laws.Ready.{OfBytes, counts-low, slots-right, limit-low, limits-lent, used-inside, used-lent, found-used}
-
--- a state that is not damaged
-pub record InOrder (s : State) : Type 0 where
-  -- the lent lengths are right, and the limit and the number of slots are within their bounds
-  pub limits : Limits (limitOf s) (s .collector .count) (length (s .stores .header)) (length (s .stores .body))
-      (length (s .stores .marks))
-  -- no two slots hold one number
-  pub once : (number i j : ℕ) → InUse i s → InUse j s → holds number (slotOf i s) ≡ true
-      → holds number (slotOf j s) ≡ true → i ≡ j
-  -- no mark is set in a free slot
-  pub unmarked : (i : ℕ) → InUse i s → isFree (slotOf i s) ≡ true → (n : ℕ) → getD (lentOf i s .marks) n 0 ≡ 0
-  -- the marks of a held slot are 0 or 1 and one is set; its marked segments, with their recorded lengths and stored
-  -- bytes, fit some object and cut; and its record and stage are those that these segments give
-  pub held : (i : ℕ) → InUse i s → isFree (slotOf i s) ≡ false → Sound (limitOf s) (slotOf i s) (lentOf i s)
-  -- no count lies outside 0 to 2147483647
-  pub counts : Low (s .counts)
+use Rattle.history.specs.laws.Call.{groupAnswer, dropAnswer, Came, alone, full, first, more, group-damaged, unread, came, drop-damaged, none-dropped, found-dropped}
+use Rattle.history.specs.laws.Counts.{low-within}
+use Rattle.history.specs.laws.Ready.{counts-low, slots-right, limit-low, limits-lent, used-inside, used-lent, found-used}
+use Rattle.history.specs.State.{InUse, OfBytes, InOrder}
 
 -- ---- the test of a state is this list
 

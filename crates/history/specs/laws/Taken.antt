@@ -12,9 +12,10 @@ use Rattle.octets.specs.laws.Over.{zeros-length}
 use Rattle.octets.specs.laws.Marks.{zeros-sum}
 use Rattle.answer.specs.declared.Part.{Part}
 use Rattle.answer.specs.declared.Part.the-variants.{Header, Body}
-use Rattle.cut.specs.Lists.{Bytes, bytes-zeros}
+use Rattle.cut.specs.laws.Lists.{bytes-zeros}
 use Rattle.cut.specs.Requirement.{headerMost, limitMost, Segment, Fits}
 use Rattle.cut.specs.Parts.{headersWith, bodiesWith}
+use Rattle.cut.specs.Lists.{Bytes}
 use Rattle.object.specs.declared.Slot.{Slot}
 use Rattle.object.specs.declared.Stage.{Stage}
 use Rattle.object.specs.declared.Stage.the-variants as Stage
@@ -22,7 +23,7 @@ use Rattle.object.specs.declared.Outcome.{Outcome}
 use Rattle.object.specs.declared.Outcome.the-variants.{Stored, Complete, Repeat, Conflict}
 use Rattle.object.specs.declared.Decided.{Decided}
 use Rattle.object.specs.declared.Decided.the-variants as Decided
-use Rattle.object.specs.Take.{Lent, partsOf, decided, partsWith, stageOf, slotWith, outcomeBy, Taken, takenBy, takeInto}
+use Rattle.object.specs.Take.{decided, partsWith, slotWith, outcomeBy, Taken, takenBy, takeInto}
 use Rattle.object.specs.laws.Decided.{ifNew}
 use Rattle.object.specs.Sound.{soundSlot}
 use Rattle.object.specs.laws.Shape.{IsLent}
@@ -31,6 +32,7 @@ use Rattle.object.specs.laws.Held.{Gathers, Holds, Vacant, Added}
 use Rattle.object.specs.laws.Step.{Tells, outcome-tells, conflict-exactly}
 use Rattle.object.specs.laws.StepSound.{vacant-gathers}
 use Rattle.object.specs.laws.StateExact.{sound-holds}
+use Rattle.object.specs.Parts.{Lent, partsOf, stageOf}
 use Rattle.slots.specs.Stores.{slotMarks, freshSlot}
 use Rattle.slots.specs.Find.{freeStage, isFree}
 use Rattle.slots.specs.Alone.{fitsAlone}

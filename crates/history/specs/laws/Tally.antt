@@ -18,17 +18,18 @@ use Rattle.wire.specs.declared.Carried.{Carried}
 use Rattle.wire.specs.declared.Reading.{Reading}
 use Rattle.wire.specs.declared.Reading.the-variants.{Read, Refused}
 use Rattle.wire.specs.Reading.{readingOf}
-use Rattle.cut.specs.Lists.{pick}
 use Rattle.cut.specs.Requirement.{Segment}
 use Rattle.cut.specs.Decision.{both}
+use Rattle.cut.specs.Lists.{pick}
 use Rattle.slots.specs.declared.Found.{Found}
 use Rattle.slots.specs.declared.Found.the-variants.{Nothing, At}
-use Rattle.collector.specs.State.{Start, Reply, State, sound}
-use Rattle.collector.specs.Calls.{Arrival, arrivalIn, dropNumber, find, takeGroup}
-use Rattle.history.specs.laws.Call.{Came, alone, full, first, more, group-damaged, unread, came, drop-damaged, none-dropped, found-dropped}
+use Rattle.collector.specs.State.{Start, Reply, State, find}
+use Rattle.collector.specs.Calls.{dropNumber, takeGroup, sound}
+use Rattle.collector.specs.Arrival.{Arrival, arrivalIn}
+use Rattle.history.specs.laws.Call.{Came, alone, full, first, more, group-damaged, unread, came, drop-damaged, none-dropped, found-dropped, defined}
 use Rattle.history.specs.laws.Ready.{used-inside, found-used}
 use Rattle.history.specs.Promise.{between, answersFrom, tallied}
-use Rattle.history.specs.History.{Call, hand, drop, ask, Event, dropped, leaves, event, Allowed, defined, reached, told}
+use Rattle.history.specs.History.{Call, hand, drop, ask, Event, dropped, leaves, event, Allowed, reached, told}
 use Rattle.history.specs.laws.Reached.{start-is}
 
 risen-min : (n : ℕ) → risen (min n ceiling) ≡ min (suc n) ceiling

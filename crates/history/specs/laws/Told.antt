@@ -15,23 +15,24 @@ use Rattle.header.specs.declared.Reading.the-variants as Reading
 use Rattle.header.specs.declared.Refusal.{Refusal}
 use Rattle.header.specs.declared.Refusal.the-variants as Refusal
 use Rattle.header.specs.Parameters.{readHeader}
+use Rattle.header.specs.Names.{nameData}
 use Rattle.object.specs.declared.Stage.{Stage}
 use Rattle.object.specs.declared.Stage.the-variants as Stage
 use Rattle.slots.specs.declared.Found.{Found}
 use Rattle.slots.specs.declared.Found.the-variants.{Nothing, At}
 use Rattle.slots.specs.Find.{isFree}
 use Rattle.names.specs.Requirement.{Named}
-use Rattle.names.specs.Finding.{nameData}
 use Rattle.collector.specs.declared.Located.{Located}
 use Rattle.collector.specs.declared.Located.the-variants as Located
-use Rattle.collector.specs.State.{State, sound}
-use Rattle.collector.specs.Calls.{find, locate, locatedAs, locatedIn, show}
+use Rattle.collector.specs.State.{State, find}
+use Rattle.collector.specs.Calls.{locate, locatedAs, locatedIn, show, sound}
 use Rattle.queries.specs.Questions as queries
 use Rattle.queries.specs.declared.Asked.{Asked}
 use Rattle.queries.specs.declared.Asked.the-variants as Asked
 use Rattle.queries.specs.declared.Sought.the-variants as Sought
-use Rattle.queries.specs.Questions.{reasonOf, askedAs, askedOf, parameters, name}
+use Rattle.queries.specs.Questions.{askedOf, parameters, name}
 use Rattle.queries.specs.laws.Theorems.{find-lowest, find-nobody}
+use Rattle.queries.specs.Said.{reasonOf, askedAs}
 use Rattle.history.specs.laws.Slots.{held-is}
 use Rattle.history.specs.Held.{limitOf, slotOf, stageAt, stageFor}
 use Rattle.history.specs.laws.Ready.{found-holds}

@@ -15,11 +15,11 @@ use Rattle.counts.specs.declared.Counts.{Counts}
 use Rattle.counts.specs.Counted.{ceiling, noneYet, within}
 use Rattle.wire.specs.declared.Reading.the-variants.{Read}
 use Rattle.wire.specs.Reading.{readingOf}
-use Rattle.cut.specs.Lists.{Bytes}
 use Rattle.cut.specs.Requirement.{bodySize, headerSize, Segment, Fits, Finished}
 use Rattle.cut.specs.laws.Segment.{Numbered}
 use Rattle.cut.specs.laws.Decision.{true-both}
 use Rattle.cut.specs.laws.Finished.{whole-numbers, whole-empty}
+use Rattle.cut.specs.Lists.{Bytes}
 use Rattle.object.specs.Source.{Source}
 use Rattle.slots.specs.declared.Found.{Found}
 use Rattle.slots.specs.declared.Found.the-variants.{Nothing, At}
@@ -29,20 +29,22 @@ use Rattle.collector.specs.declared.Opening.{Opening}
 use Rattle.collector.specs.declared.Opening.the-variants as Opening
 use Rattle.collector.specs.declared.Located.{Located}
 use Rattle.collector.specs.declared.Located.the-variants as Located
-use Rattle.collector.specs.State.{Start, Opened, Reply, State, sound}
-use Rattle.collector.specs.Calls.{dropNumber, locate, openWith, show, takeGroup}
+use Rattle.collector.specs.State.{Start, Opened, Reply, State}
+use Rattle.collector.specs.Calls.{dropNumber, locate, openWith, show, takeGroup, sound}
 use Rattle.queries.specs.Questions as queries
 use Rattle.queries.specs.declared.Asked.{Asked}
 use Rattle.queries.specs.declared.Asked.the-variants as Asked
 use Rattle.queries.specs.declared.Sought.{Sought}
 use Rattle.queries.specs.declared.Sought.the-variants as Sought
 use Rattle.history.specs.Held.{limitOf}
-use Rattle.history.specs.laws.Ready.{OfBytes, slots-sound}
-use Rattle.history.specs.laws.State.{InOrder, in-order-exactly}
-use Rattle.history.specs.History.{Question, hand, drop, Collecting, Allowed, asking, defined}
+use Rattle.history.specs.laws.Ready.{slots-sound}
+use Rattle.history.specs.laws.State.{in-order-exactly}
+use Rattle.history.specs.History.{Question, hand, drop, Collecting, Allowed, asking}
 use Rattle.history.specs.laws.Reached.{reached-intact}
 use Rattle.history.specs.Promise.{Run, reachedBy, Passing}
 use Rattle.history.specs.laws.Samples.{computing, small, allowed, pair, pair-allowed, bodyLast, header, readAs, oneCut, of-bytes-one}
+use Rattle.history.specs.State.{OfBytes, InOrder}
+use Rattle.history.specs.laws.Call.{defined}
 
 -- ---- an object of one segment: a header of 7 bytes and no body
 

@@ -27,11 +27,11 @@ use Rattle.wire.specs.declared.Reading.the-variants.{Read, Refused}
 use Rattle.wire.specs.Wire.{typeNumber}
 use Rattle.wire.specs.Reading.{kindOf, readingOf}
 use Rattle.wire.specs.declared.Reading.{Reading}
-use Rattle.cut.specs.Lists.{Among, pick}
 use Rattle.cut.specs.Requirement.{Segment, Fits, Finished}
 use Rattle.cut.specs.laws.Segment.{sends-sits, inside}
 use Rattle.cut.specs.Decision.{both}
 use Rattle.cut.specs.laws.Decision.{false-true}
+use Rattle.cut.specs.Lists.{Among, pick}
 use Rattle.object.specs.Source.{SentBy}
 use Rattle.object.specs.declared.Slot.{Slot}
 use Rattle.object.specs.declared.Stage.{Stage}
@@ -41,15 +41,17 @@ use Rattle.slots.specs.declared.Found.the-variants.{Nothing, At}
 use Rattle.slots.specs.Find.{isFree}
 use Rattle.slots.specs.Alone.{fitsAlone}
 use Rattle.collector.specs.declared.Located.the-variants as Located
-use Rattle.collector.specs.State.{Start, Opened, Reply, State, answering, sound, withSlots}
-use Rattle.collector.specs.Calls.{allFree, arrivalIn, dropNumber, find, free, heardAs, heardIn, intoFree, locate, openWith, segmentIn, takeGroup}
+use Rattle.collector.specs.State.{Start, Opened, Reply, State, allFree, find, free}
+use Rattle.collector.specs.Calls.{dropNumber, intoFree, locate, openWith, takeGroup, answering, sound, withSlots}
+use Rattle.collector.specs.Arrival.{arrivalIn, heardAs, heardIn, segmentIn}
 use Rattle.history.specs.Held.{limitOf, slotOf, stageFor}
-use Rattle.history.specs.History.{Question, drop, ask, Collecting, told, under, defined}
+use Rattle.history.specs.History.{Question, drop, ask, Collecting, told, under}
 use Rattle.history.specs.laws.Stage.{none-finished}
 use Rattle.history.specs.laws.Demands.{run-answered, finished-lengths}
 use Rattle.history.specs.Promise.{Run, reachedBy, toldBy, stored, heardOf, since, StoredFrom, cameUnder, between, answersFrom, RefusedLeaves, NeverState, OthersLeave, ShownJoined, UnfinishedUnshown, CountsTold, ConflictExactly, FullExactly, RepeatExactly, CompleteExactly, StoredExactly, LowestFreeTaken, UnreadRefused, DropExactly, UnheldExactly, NoneFreeExactly, FinishedExactly, FinishedLengths, OneCutAgrees, OneCutFinishes}
 use Rattle.history.specs.laws.Samples.{computing, small, pair, bodyLast, bodyFirst, header, readAs, object, oneCut, sent-one, all-sent}
 use Rattle.history.specs.laws.Trials.{core, whole, finished-core, single, six, otherKind, groupFive, groupSix, groupShort, groupLast, none, one, two, dropped, again, many, later, empty, twice, withCounts, foundSlot, openingBy, takingBy, droppingBy, showingBy, askingBy}
+use Rattle.history.specs.laws.Call.{defined}
 
 -- ---- what cannot be the same
 

@@ -9,12 +9,12 @@ use borrow.Author.Tests.{lt-ltb, eq-eqb, le-leb}
 use lib.Dec.{eqb, leb}
 use lib.ListN.{length, getD, drop}
 use lib.Seq.{getD-drop, drop-drop}
-use Rattle.cut.specs.Lists.{pick}
 use Rattle.object.specs.declared.Slot.{Slot}
 use Rattle.object.specs.declared.Stage.{Stage}
 use Rattle.object.specs.declared.Stage.the-variants.{Free, Gathering, Finished}
 use Rattle.collector.specs.declared.Collector.{Collector}
 use Rattle.layout.specs.Layout.{word, stageTag, headerWord, bodyWord, slotWords, slotsWords, wordsOf, stageFrom, stageAt, recordAt, slotIn, slotsFrom, collectorFrom, slotReadable, readableFrom, readable}
+use Rattle.cut.specs.Lists.{pick}
 
 -- transport numbers of 16 bits, as a slot's always are
 abbrev pub Numbered : List Slot → Type 0

@@ -11,19 +11,10 @@ use Rattle.listing_input.specs.Gather.{most}
 use Rattle.listing_input.specs.Line.{Asked, askedOf}
 use Rattle.listing_input.specs.laws.Chunks.{Holds, holds-nothing, holds-more, ended-newline, ended-other, behind-newline, behind-other}
 use Rattle.listing_input.specs.laws.Theorems.{front-asks}
-use Rattle.listing.specs.Listed.{Served, servedAs, served, Listed, lineListed, pieceListed, inputListed, endListed}
+use Rattle.listing.specs.Listed.{Served, servedAs, served, Listed, lineListed, pieceListed, inputListed, endListed, leftOf, linesServed}
 use Rattle.listing.specs.laws.Listed.{listed-newline, listed-other, end-some, end-none}
 
 -- ---- what is asked
-
--- what is held, the memory that a group is laid in, and the stores
-abbrev pub leftOf : Listed → Served
-leftOf l = record { held = l .listing .held; group = l .group; stores = l .stores }
-
--- each line in turn
-unfoldable pub linesServed : List (List ℕ) → Served → Served
-linesServed [] left = left
-linesServed (line ∷ lines) left = linesServed lines (served line (left .held) (left .group) (left .stores))
 
 lines-joined : (first then : List (List ℕ)) (left : Served)
     → linesServed (first ++ then) left ≡ linesServed then (linesServed first left)

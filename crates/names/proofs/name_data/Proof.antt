@@ -6,7 +6,7 @@ use native.Mathlib.Omega.{arith}
 use lib.ListN.{length}
 use Rattle.header.specs.declared.Name.the-variants.{Data}
 use Rattle.header.specs.Parameters.{readHeader, nameIn}
-use Rattle.names.specs.Finding.{nameData}
+use Rattle.header.specs.Names.{nameData}
 use Rattle.names.specs.laws.Theorems.{name-within}
 use borrow.Author.Needs.{needs}
 use Rattle.names.proofs.name_data.Statement.{statement}

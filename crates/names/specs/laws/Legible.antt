@@ -14,7 +14,7 @@ use Rattle.header.specs.Parameters.{foundAt, listed, parametersFrom, readHeader
 use Rattle.header.specs.laws.Parameters.{from-end}
 use Rattle.header.specs.laws.Theorems.{ReadFrom, read-from}
 use Rattle.header.specs.laws.Search.{Next, next, isNamed, someNamed, named-read}
-use Rattle.names.specs.Finding.{hasName}
+use Rattle.header.specs.Names.{hasName}
 
 abbrev pub legibleAs : Reading → List ℕ → List ℕ
 legibleAs (Refused why) header = []

@@ -11,7 +11,8 @@ use Rattle.slots.specs.Stores.{freeSlot}
 use Rattle.slots.specs.laws.StateTests.{spent, one-more}
 use Rattle.names.specs.declared.Holder.{Holder}
 use Rattle.names.specs.declared.Holder.the-variants.{Nobody, Number}
-use Rattle.names.specs.Finding.{headerIn, hasName, lower, holderIn, lowestFrom}
+use Rattle.names.specs.Finding.{headerIn, lower, holderIn, lowestFrom}
+use Rattle.header.specs.Names.{hasName}
 
 -- ---- the lower of two
 

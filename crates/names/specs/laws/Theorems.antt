@@ -21,14 +21,14 @@ use Rattle.header.specs.declared.Name.the-variants.{Absent, Data}
 use Rattle.header.specs.declared.Reading.{Reading}
 use Rattle.header.specs.declared.Reading.the-variants.{Refused, Read}
 use Rattle.header.specs.Parameters.{readHeader, nameIn}
-use Rattle.header.specs.laws.Search.{namedAs}
 use Rattle.header.specs.laws.Theorems.{core, given-only, name-inside, matches-exactly}
+use Rattle.header.specs.Names.{namedAs, dataAs, nameData, hasName}
 use Rattle.slots.specs.Stores.{freeSlot, slotAt}
 use Rattle.slots.specs.Show.{startOf}
 use Rattle.names.specs.declared.Holder.{Holder}
 use Rattle.names.specs.declared.Holder.the-variants.{Nobody, Number}
 use Rattle.names.specs.Requirement.{Object, Named, Lowest}
-use Rattle.names.specs.Finding.{headerAs, headerIn, dataAs, nameData, hasName, lower, holderIn, lowestFrom, foundByName}
+use Rattle.names.specs.Finding.{headerAs, headerIn, lower, holderIn, lowestFrom, foundByName}
 
 -- ---- the name as a part of the header
 

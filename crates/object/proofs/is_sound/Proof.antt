@@ -2,11 +2,11 @@
 -- Assumes nothing.
 use mathlib.Core.Path.{sym, ap, _∙_}
 use mathlib.Core.List.{[]}
-use Rattle.object.specs.Take.{shares}
 use Rattle.object.specs.laws.Decided.{isSound, is-sound}
 use borrow.Author.Needs.{needs}
 use Rattle.object.proofs.is_sound.Statement.{statement}
 use Rattle.object.proofs.is_sound.Tie as tie
+use Rattle.object.specs.Parts.{shares}
 
 soundness-of-requires : tie.Need-soundness-of-requires
 soundness-of-requires c κs = search needs

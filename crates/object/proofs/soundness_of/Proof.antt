@@ -3,13 +3,13 @@
 use mathlib.Core.Path.{sym, _∙_}
 use borrow.Author.Tests.{not-true, not-false}
 use Rattle.answer.specs.declared.Part.the-variants.{Header, Body}
-use Rattle.object.specs.Take.{partsOf, coreIn, stageOf}
 use Rattle.object.specs.Sound.{soundParts, soundSlot}
 use Rattle.object.specs.Asked.{soundness}
 use Rattle.object.proofs.Laws.{counted, right-bits}
 use borrow.Author.Needs.{needs}
 use Rattle.object.proofs.soundness_of.Statement.{statement}
 use Rattle.object.proofs.soundness_of.Tie as tie
+use Rattle.object.specs.Parts.{partsOf, coreIn, stageOf}
 
 marks-right-requires : tie.Need-marks-right-requires
 marks-right-requires c κs = search needs

@@ -2,11 +2,12 @@
 -- Assumes nothing.
 use native.Mathlib.Omega.{arith}
 use Rattle.answer.specs.declared.Part.the-variants.{Header}
-use Rattle.object.specs.Take.{partsOf, coreIn, stageOf, slotWith}
+use Rattle.object.specs.Take.{slotWith}
 use Rattle.object.specs.laws.Inside.{marks-length}
 use borrow.Author.Needs.{needs}
 use Rattle.object.proofs.staged.Statement.{statement}
 use Rattle.object.proofs.staged.Tie as tie
+use Rattle.object.specs.Parts.{partsOf, coreIn, stageOf}
 
 marks-of-requires : tie.Need-marks-of-requires
 marks-of-requires c κs = search needs

@@ -10,13 +10,13 @@ use Rattle.answer.specs.declared.Part.the-variants.{Header, Body}
 use Rattle.cut.specs.Requirement.{headerNumbers, Segment, segment}
 use Rattle.part.specs.Memory.{Memory, settled, put}
 use Rattle.object.specs.declared.Stage.the-variants.{Gathering}
-use Rattle.object.specs.Take.{Lent, shares, partsOf}
 use Rattle.object.specs.Asked.{Fitting}
 use Rattle.object.specs.laws.Stored.{record-is, number-small, can-move, can-put, own-small, still-is, still-move, summed-header, summed-body, stored-header, stored-body}
 use Rattle.object.proofs.Laws.{back-whole}
 use borrow.Author.Needs.{needs}
 use Rattle.object.proofs.store.Statement.{statement}
 use Rattle.object.proofs.store.Tie as tie
+use Rattle.object.specs.Parts.{Lent, shares, partsOf}
 
 bounds-of-requires : tie.Need-bounds-of-requires
 bounds-of-requires c κs = search needs

@@ -2,11 +2,12 @@
 -- Assumes nothing.
 use mathlib.Core.Path.{sym, _∙_}
 use Rattle.cut.specs.Requirement.{Segment, segment}
-use Rattle.object.specs.Take.{Lent, shares, takeInto}
+use Rattle.object.specs.Take.{takeInto}
 use Rattle.object.specs.laws.Decided.{offered-readable, decided-fits}
 use borrow.Author.Needs.{needs}
 use Rattle.object.proofs.take.Statement.{statement}
 use Rattle.object.proofs.take.Tie as tie
+use Rattle.object.specs.Parts.{Lent, shares}
 
 tally-of-requires : tie.Need-tally-of-requires
 tally-of-requires c κs = search needs

@@ -14,6 +14,7 @@ use Rattle.cut.specs.declared.Core.{Core}
 use Rattle.cut.specs.Parts.{otherPart}
 use Rattle.cut.specs.Decision.{coreWith}
 use Rattle.cut.specs.Sums.{takes}
+use Rattle.cut.specs.Lists.{pick}
 use Rattle.part.specs.Memory.{memory, segmentAt}
 use Rattle.part.specs.Asked.{markOf, heldAt, sameSegment, Held}
 use Rattle.object.specs.declared.Slot.{Slot}
@@ -21,11 +22,11 @@ use Rattle.object.specs.declared.Tally.{Tally}
 use Rattle.object.specs.declared.Decided.the-variants.{Fits}
 use Rattle.object.specs.declared.Soundness.{Soundness}
 use Rattle.object.specs.declared.Soundness.the-variants.{Damaged, Sound}
-use Rattle.cut.specs.Lists.{pick}
 use Rattle.object.specs.Sound.{soundSlot}
-use Rattle.object.specs.Take.{Lent, Taken, partsOf, keptOf, marksOf, shareOf, memoryOf, coreIn, takesIn, decidedHeld, decidedNew, decidedBy, decided, takenBy, takeInto}
+use Rattle.object.specs.Take.{Taken, takesIn, decidedHeld, decidedNew, decidedBy, decided, takenBy, takeInto}
 use Rattle.object.specs.Asked.{tallyOf, totalIn, soundness, Readable, Offered, Fitting}
 use Rattle.object.specs.laws.Inside.{marked-inside, lent-shaped, lent-bits}
+use Rattle.object.specs.Parts.{Lent, partsOf, keptOf, marksOf, shareOf, memoryOf, coreIn}
 
 -- ---- what is taken: of a number that is not marked, of one that is, and by the mark
 

@@ -11,10 +11,11 @@ use Rattle.cut.specs.Decision.{boundsOf, coreOf}
 use Rattle.cut.specs.laws.Segment.{Numbered}
 use Rattle.cut.specs.Parts.{headersWith, bodiesWith, those}
 use Rattle.object.specs.declared.Slot.{Slot}
-use Rattle.object.specs.Take.{Lent, Parts, partsOf, Taken}
+use Rattle.object.specs.Take.{Taken}
 use Rattle.part.specs.laws.Keeps.{Keeps}
 use Rattle.object.specs.State.{StageFor}
 use Rattle.object.specs.laws.Shape.{Shaped, IsLent}
+use Rattle.object.specs.Parts.{Lent, Parts, partsOf}
 
 -- a slot's two parts hold these segments of a header and of a body, which fit some object and cut
 pub record Gathers (limit : ℕ) (ps : Parts) (hs bs : List Segment) : Type 0 where

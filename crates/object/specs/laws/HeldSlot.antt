@@ -12,7 +12,7 @@ use lib.Dec.{eqb, leb}
 use borrow.Author.Tests.{eqb-true, eqb-false, le-leb}
 use Rattle.answer.specs.declared.Part.{Part}
 use Rattle.answer.specs.declared.Part.the-variants.{Header, Body}
-use Rattle.cut.specs.Lists.{pick, Each, Bytes, each-zip}
+use Rattle.cut.specs.laws.Lists.{each-zip}
 use Rattle.cut.specs.Requirement.{headerLeast, headerNumbers, bodyNumbers, sizeLeast, limitMost, bodySize, headerSize, Segment, Fits}
 use Rattle.cut.specs.declared.Core.{Core}
 use Rattle.cut.specs.declared.Core.the-variants.{Unseen, Seen}
@@ -28,12 +28,14 @@ use Rattle.cut.specs.laws.Order.{core-absent}
 use Rattle.cut.specs.laws.Marks.{Marked}
 use Rattle.cut.specs.Sums.{fullIn}
 use Rattle.cut.specs.laws.Sums.{full-kept, settle-again, settle-full, settle-last, taken}
+use Rattle.cut.specs.Lists.{pick, Each, Bytes}
 use Rattle.part.specs.Memory.{Memory, placeOf, segmentAt, settled, put}
-use Rattle.object.specs.Take.{Parts, memoryOf, coreIn, takesIn, partsWith}
+use Rattle.object.specs.Take.{takesIn, partsWith}
 use Rattle.part.specs.Asked.{recordWith, recordWithin}
 use Rattle.object.specs.laws.Shape.{Shaped}
 use Rattle.object.specs.laws.Inside.{bounds-most, share-width}
 use Rattle.object.specs.laws.Held.{Gathers}
+use Rattle.object.specs.Parts.{Parts, memoryOf, coreIn}
 use Rattle.part.specs.laws.Keeps.{LaidAs, Laid, Keeps}
 use Rattle.part.specs.laws.Step.{Room, Met, reads, settled-length, settled-keeps, put-length, put-keeps}
 

@@ -13,7 +13,6 @@ use Rattle.octets.specs.Octets.{sumOf, largestOf}
 use Rattle.octets.specs.laws.Marks.{largest-part}
 use Rattle.answer.specs.declared.Part.{Part}
 use Rattle.answer.specs.declared.Part.the-variants.{Header, Body}
-use Rattle.cut.specs.Lists.{Each}
 use Rattle.cut.specs.Requirement.{headerMost, headerNumbers, bodyNumbers, Segment}
 use Rattle.cut.specs.declared.Core.{Core}
 use Rattle.cut.specs.declared.Core.the-variants.{Unseen, Seen}
@@ -22,14 +21,16 @@ use Rattle.cut.specs.Decision.{boundsOf, coreTests, coreFits, coreAfter, coreWi
 use Rattle.cut.specs.laws.Decision.{Suits, both-true, all-true}
 use Rattle.cut.specs.Parts.{otherPart}
 use Rattle.cut.specs.Sums.{possibleIn, fitsIn}
+use Rattle.cut.specs.Lists.{Each}
 use Rattle.object.specs.declared.Slot.{Slot}
 use Rattle.object.specs.declared.Stage.{Stage}
 use Rattle.part.specs.Memory.{Memory, lengthOf}
-use Rattle.object.specs.Take.{marksOf, Lent, Parts, partsOf, memoryOf, coreIn, takesIn, stageOf, recordAfter}
+use Rattle.object.specs.Take.{takesIn, recordAfter}
 use Rattle.part.specs.Asked.{soundPart, recordWith, recordWithin, recordRight}
 use Rattle.part.specs.laws.Inside.{Placed, Moves, sits-before, each-bit, topIn, right-suits, size-known, marked-sits, sits-number, placed, fits-placed, fits-moves, within-moves}
 use Rattle.object.specs.Sound.{marksRight, sameStage, soundParts, soundSlot}
 use Rattle.object.specs.laws.Shape.{widthOf, numbersOf, Shaped, Bits}
+use Rattle.object.specs.Parts.{marksOf, Lent, Parts, partsOf, memoryOf, coreIn, stageOf}
 
 -- ---- the bounds of a part are those of its share
 

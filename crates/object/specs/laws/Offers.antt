@@ -5,16 +5,17 @@ use mathlib.Core.Bool.{true}
 use mathlib.Core.List.{List, [], _∷_}
 use Prim.Native.Nat.{ℕ}
 use Rattle.answer.specs.declared.Part.{Part}
-use Rattle.cut.specs.Lists.{Among, Bytes}
 use Rattle.cut.specs.Requirement.{Segment}
 use Rattle.cut.specs.Parts.{headersWith, bodiesWith}
+use Rattle.cut.specs.Lists.{Among, Bytes}
 use Rattle.object.specs.declared.Slot.{Slot}
 use Rattle.object.specs.declared.Outcome.{Outcome}
 use Rattle.object.specs.declared.Outcome.the-variants.{Stored, Complete, Repeat, Conflict}
-use Rattle.object.specs.Take.{Lent, takeInto}
+use Rattle.object.specs.Take.{takeInto}
 use Rattle.object.specs.Sound.{soundSlot}
 use Rattle.object.specs.Source.{Source, SentBy}
 use Rattle.object.specs.laws.Held.{Holds}
+use Rattle.object.specs.Parts.{Lent}
 
 pub record Offer : Type 0 where
   pub part : Part

@@ -9,17 +9,17 @@ use native.Mathlib.Omega.{arith}
 use lib.ListN.{length, take}
 use Rattle.answer.specs.declared.Part.{Part}
 use Rattle.answer.specs.declared.Part.the-variants.{Header, Body}
-use Rattle.cut.specs.Lists.{Each, Among, Bytes}
 use Rattle.cut.specs.Requirement.{limitMost, Segment, Fits, Finished}
 use Rattle.cut.specs.Parts.{headersWith, bodiesWith, those}
 use Rattle.cut.specs.laws.Order.{SameSet}
 use Rattle.cut.specs.laws.Finished.{segmentOf, segment-sent, finished-every, finished-one}
+use Rattle.cut.specs.Lists.{Each, Among, Bytes}
 use Rattle.object.specs.declared.Slot.{Slot}
 use Rattle.object.specs.declared.Stage.{Stage}
 use Rattle.object.specs.declared.Stage.the-variants as Stage
 use Rattle.object.specs.declared.Outcome.{Outcome}
 use Rattle.object.specs.declared.Outcome.the-variants.{Stored, Complete, Repeat, Conflict}
-use Rattle.object.specs.Take.{Lent, partsOf, Taken, takeInto}
+use Rattle.object.specs.Take.{Taken, takeInto}
 use Rattle.object.specs.laws.Shape.{IsLent}
 use Rattle.object.specs.laws.Held.{Gathers, Vacant}
 use Rattle.object.specs.laws.Step.{Tells, outcome-tells, conflict-exactly}
@@ -30,6 +30,7 @@ use Rattle.object.specs.State.{markedSegments}
 use Rattle.object.specs.laws.StateParts.{part-same}
 use Rattle.object.specs.laws.Offers.{Offer, ifStored, storedHeaders, storedBodies, After, Standing, none, some, AllOffered}
 use Rattle.object.specs.Source.{Source, SentBy}
+use Rattle.object.specs.Parts.{Lent, partsOf}
 
 -- ---- what it holds
 

@@ -5,12 +5,13 @@ use lib.ListN.{length, getD}
 use Rattle.octets.specs.Octets.{largestOf}
 use Rattle.answer.specs.declared.Part.{Part}
 use Rattle.answer.specs.declared.Part.the-variants.{Header, Body}
-use Rattle.cut.specs.Lists.{Bytes}
 use Rattle.cut.specs.Requirement.{headerMost, headerNumbers, bodyNumbers, Segment}
 use Rattle.cut.specs.declared.Record.{Record}
+use Rattle.cut.specs.Lists.{Bytes}
 use Rattle.object.specs.declared.Slot.{Slot}
 use Rattle.part.specs.Memory.{placeOf}
-use Rattle.object.specs.Take.{Lent, Parts, partsOf, memoryOf, keptOf, shareOf, Taken}
+use Rattle.object.specs.Take.{Taken}
+use Rattle.object.specs.Parts.{Lent, Parts, partsOf, memoryOf, keptOf, shareOf}
 
 -- how many bytes a part's share has, and how many marks
 abbrev pub widthOf : Part → ℕ → ℕ

@@ -12,18 +12,18 @@ use lib.ListN.{length, take, drop}
 use Rattle.octets.specs.laws.Over.{part-length, part-part}
 use Rattle.answer.specs.declared.Part.{Part}
 use Rattle.answer.specs.declared.Part.the-variants.{Header, Body}
-use Rattle.cut.specs.Lists.{Each, each-map, each-zip, each-zip3}
+use Rattle.cut.specs.laws.Lists.{each-map, each-zip, each-zip3}
 use Rattle.cut.specs.Requirement.{limitMost, IsCut, Segment, Sends, Fits, Whole, Finished}
 use Rattle.cut.specs.declared.Bounds.{Bounds}
 use Rattle.cut.specs.Decision.{boundsOf, coreOf}
 use Rattle.cut.specs.laws.Segment.{Sits, Stands, inside, sits-sends, Numbered}
 use Rattle.cut.specs.Parts.{those, partOf, cutOf}
 use Rattle.cut.specs.laws.Finished.{whole-numbers, part-joined, finished-joined, finished-every, finished-one}
+use Rattle.cut.specs.Lists.{Each}
 use Rattle.object.specs.declared.Slot.{Slot}
 use Rattle.object.specs.declared.Stage.{Stage}
 use Rattle.object.specs.declared.Stage.the-variants as Stage
 use Rattle.part.specs.Memory.{Memory, placeOf}
-use Rattle.object.specs.Take.{Lent, Parts, partsOf, memoryOf}
 use Rattle.object.specs.Sound.{soundSlot}
 use Rattle.object.specs.laws.Shape.{IsLent, numbersOf}
 use Rattle.object.specs.laws.Held.{Gathers, Holds, Shows}
@@ -33,6 +33,7 @@ use Rattle.part.specs.laws.Bytes.{place-known}
 use Rattle.part.specs.laws.Step.{Room, size-is, size-none, one-last}
 use Rattle.object.specs.laws.HeldSlot.{fits-room, part-keeps}
 use Rattle.object.specs.laws.StateExact.{sound-holds}
+use Rattle.object.specs.Parts.{Lent, Parts, partsOf, memoryOf}
 
 -- ---- one part
 

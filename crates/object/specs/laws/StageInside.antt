@@ -16,10 +16,10 @@ use Rattle.cut.specs.Decision.{boundsOf, coreTests, coreFits, finished}
 use Rattle.cut.specs.laws.Decision.{both-true, all-true, false-true}
 use Rattle.object.specs.declared.Stage.{Stage}
 use Rattle.object.specs.declared.Stage.the-variants.{Free, Gathering, Finished}
-use Rattle.object.specs.Take.{Parts, coreIn, stageBy, stageOf}
 use Rattle.object.specs.Sound.{sameStage, soundParts}
 use Rattle.part.specs.Asked.{soundPart}
 use Rattle.object.specs.laws.Inside.{sound-right}
+use Rattle.object.specs.Parts.{Parts, coreIn, stageBy, stageOf}
 
 pub same-stage : (x y : Stage) → sameStage x y ≡ true → x ≡ y
 same-stage Free Free e = refl

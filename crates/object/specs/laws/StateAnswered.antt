@@ -6,13 +6,13 @@ use mathlib.Core.List.{List}
 use Prim.Native.Nat.{ℕ, _≤_}
 use Rattle.answer.specs.declared.Part.{Part}
 use Rattle.answer.specs.declared.Part.the-variants.{Header, Body}
-use Rattle.cut.specs.Lists.{Among, Bytes}
 use Rattle.cut.specs.Requirement.{limitMost, Segment, Fits, Finished}
 use Rattle.cut.specs.Parts.{headersWith, bodiesWith, those}
+use Rattle.cut.specs.Lists.{Among, Bytes}
 use Rattle.object.specs.declared.Slot.{Slot}
 use Rattle.object.specs.declared.Outcome.{Outcome}
 use Rattle.object.specs.declared.Outcome.the-variants.{Stored, Complete, Repeat, Conflict}
-use Rattle.object.specs.Take.{Lent, partsOf, Taken, takeInto}
+use Rattle.object.specs.Take.{Taken, takeInto}
 use Rattle.object.specs.Sound.{soundSlot}
 use Rattle.object.specs.laws.Shape.{IsLent}
 use Rattle.object.specs.laws.Held.{Gathers}
@@ -20,6 +20,7 @@ use Rattle.object.specs.laws.Step.{Tells, outcome-tells, conflict-exactl
 use Rattle.object.specs.laws.StepSound.{added-sound, taken-lent}
 use Rattle.object.specs.State.{markedSegments}
 use Rattle.object.specs.laws.StateExact.{sound-holds}
+use Rattle.object.specs.Parts.{Lent, partsOf}
 
 module _ (part : Part) (limit : ℕ) (s : Segment) (slot : Slot) (lent : Lent) (z : limit ≤ limitMost) (y : Bytes (s .bytes)) (l : IsLent limit lent) (sound : soundSlot limit slot lent ≡ true) where
   hs : List Segment

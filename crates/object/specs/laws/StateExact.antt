@@ -12,17 +12,17 @@ use Rattle.octets.specs.Octets.{sumOf, largestOf}
 use Rattle.octets.specs.laws.Marks.{sum-split, largest-each}
 use Rattle.answer.specs.declared.Part.{Part}
 use Rattle.answer.specs.declared.Part.the-variants.{Header, Body}
-use Rattle.cut.specs.Lists.{Each, each-map, each-take, each-drop, each-append}
+use Rattle.cut.specs.laws.Lists.{each-map, each-take, each-drop, each-append}
 use Rattle.cut.specs.Requirement.{limitMost, headerNumbers, Segment}
 use Rattle.cut.specs.laws.Decision.{true-both}
 use Rattle.cut.specs.laws.Segment.{Numbered}
 use Rattle.cut.specs.Parts.{those, partOf, cutOf}
 use Rattle.cut.specs.Decision.{boundsOf, summary, recordOf, coreOf}
 use Rattle.cut.specs.laws.Marks.{total-some}
+use Rattle.cut.specs.Lists.{Each}
 use Rattle.object.specs.declared.Slot.{Slot}
 use Rattle.object.specs.declared.Stage.{Stage}
 use Rattle.part.specs.Memory.{heldIn}
-use Rattle.object.specs.Take.{Lent, Parts, partsOf, memoryOf, stageOf}
 use Rattle.object.specs.Sound.{marksRight, soundParts, soundSlot}
 use Rattle.object.specs.laws.Shape.{IsLent, Shaped}
 use Rattle.object.specs.laws.Inside.{lent-shaped, lent-bits, sound-slot}
@@ -36,6 +36,7 @@ use Rattle.part.specs.laws.Step.{reads-keeps}
 use Rattle.object.specs.laws.HeldSlot.{fits-room, part-keeps}
 use Rattle.object.specs.laws.StepStage.{stage-right, stage-one}
 use Rattle.object.specs.laws.StateParts.{sound-gathers, gathers-passes}
+use Rattle.object.specs.Parts.{Lent, Parts, partsOf, memoryOf, stageOf}
 
 -- ---- marks
 

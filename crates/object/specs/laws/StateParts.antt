@@ -9,7 +9,7 @@ use lib.Dec.{eqb, leb}
 use borrow.Author.Tests.{eq-eqb, leb-true, le-leb}
 use Rattle.answer.specs.declared.Part.{Part}
 use Rattle.answer.specs.declared.Part.the-variants.{Header, Body}
-use Rattle.cut.specs.Lists.{pick, Each, Bytes, each-map, bytes-take, bytes-drop}
+use Rattle.cut.specs.laws.Lists.{each-map, bytes-take, bytes-drop}
 use Rattle.cut.specs.Requirement.{headerLeast, limitMost, Segment}
 use Rattle.cut.specs.declared.Core.{Core}
 use Rattle.cut.specs.declared.Core.the-variants.{Unseen, Seen}
@@ -23,10 +23,10 @@ use Rattle.cut.specs.laws.Order.{SameSet, EndFrom, end-from}
 use Rattle.cut.specs.laws.Marks.{Marked}
 use Rattle.cut.specs.Sums.{fullIn, possibleIn}
 use Rattle.cut.specs.laws.Sums.{core-suits, part-suits}
+use Rattle.cut.specs.Lists.{pick, Each, Bytes}
 use Rattle.object.specs.declared.Stage.{Stage}
 use Rattle.object.specs.declared.Stage.the-variants.{Free, Gathering, Finished}
 use Rattle.part.specs.Memory.{Memory, placeOf, lengthOf, segmentAs, segmentAt, heldIn}
-use Rattle.object.specs.Take.{Parts, memoryOf, coreIn, stageOf}
 use Rattle.object.specs.Sound.{sameStage, soundParts}
 use Rattle.part.specs.Asked.{endRight, recordRight, soundPart}
 use Rattle.object.specs.laws.Shape.{Shaped, Bits}
@@ -35,6 +35,7 @@ use Rattle.object.specs.laws.Held.{Gathers}
 use Rattle.part.specs.laws.Keeps.{Laid, Keeps}
 use Rattle.part.specs.laws.Held.{held-reads, held-marked, reads-same, reads-agree}
 use Rattle.object.specs.laws.HeldSlot.{part-keeps, part-reads, core-laid, core-read, full-read}
+use Rattle.object.specs.Parts.{Parts, memoryOf, coreIn, stageOf}
 use Rattle.part.specs.laws.Sound.{cut, long, within, held-sits, held-laid, held-record}
 
 -- ---- the tests pass: the marked segments are held

@@ -12,20 +12,20 @@ use Rattle.octets.specs.Octets.{equal}
 use Rattle.octets.specs.laws.Marks.{equal-exactly}
 use Rattle.answer.specs.declared.Part.{Part}
 use Rattle.answer.specs.declared.Part.the-variants.{Header, Body}
-use Rattle.cut.specs.Lists.{Among, Bytes}
 use Rattle.cut.specs.Requirement.{limitMost, headerNumbers, Segment, Fits, Finished}
 use Rattle.cut.specs.laws.Segment.{Numbered, among-numbered}
 use Rattle.cut.specs.laws.Decision.{both-true, true-both, false-true}
 use Rattle.cut.specs.Parts.{headersWith, bodiesWith, those}
 use Rattle.cut.specs.laws.Theorem.{repeat-fits, same-fits}
 use Rattle.cut.specs.laws.Finished.{finished-every}
+use Rattle.cut.specs.Lists.{Among, Bytes}
 use Rattle.object.specs.declared.Slot.{Slot}
 use Rattle.object.specs.declared.Stage.{Stage}
 use Rattle.object.specs.declared.Stage.the-variants as Stage
 use Rattle.object.specs.declared.Outcome.{Outcome}
 use Rattle.object.specs.declared.Outcome.the-variants.{Stored, Complete, Repeat, Conflict}
 use Rattle.part.specs.Memory.{segmentAt}
-use Rattle.object.specs.Take.{Lent, Parts, partsOf, lentOf, memoryOf, takesIn, partsWith, stageOf, Taken, unchanged, outcomeBy, slotWith, storedAs, takeInto}
+use Rattle.object.specs.Take.{takesIn, partsWith, Taken, unchanged, outcomeBy, slotWith, storedAs, takeInto}
 use Rattle.object.specs.laws.Decided.{ifNew, ifHeld, byMark, take-by-mark}
 use Rattle.part.specs.Asked.{sameFlag, sameSegment}
 use Rattle.object.specs.laws.Held.{Gathers, Holds, Added}
@@ -33,6 +33,7 @@ use Rattle.object.specs.State.{StageFor}
 use Rattle.part.specs.laws.Held.{at-number, at-among}
 use Rattle.object.specs.laws.HeldSlot.{part-keeps, part-reads, takes-fits, fits-less, next-gathers}
 use Rattle.object.specs.laws.StepStage.{stage-right}
+use Rattle.object.specs.Parts.{Lent, Parts, partsOf, lentOf, memoryOf, stageOf}
 
 -- ---- the same segment
 

@@ -18,7 +18,7 @@ use Rattle.cut.specs.declared.Record.{Record}
 use Rattle.cut.specs.Decision.{boundsOf, coreAfter}
 use Rattle.object.specs.declared.Slot.{Slot}
 use Rattle.part.specs.Memory.{Memory, placeOf, segmentAt, movedAs, settled, put}
-use Rattle.object.specs.Take.{Lent, Parts, partsOf, lentOf, memoryOf, coreIn, takesIn, partsWith, slotWith, takeInto, keptOf, shareOf, recordAfter}
+use Rattle.object.specs.Take.{takesIn, partsWith, slotWith, takeInto, recordAfter}
 use Rattle.object.specs.laws.Decided.{ifNew, ifHeld, byMark, take-by-mark}
 use Rattle.part.specs.Asked.{recordWithin, sameSegment}
 use Rattle.object.specs.laws.Shape.{Shaped, Copied, Written, Leaves}
@@ -26,6 +26,7 @@ use Rattle.part.specs.laws.Inside.{Placed, Moves}
 use Rattle.object.specs.laws.Step.{parts-back}
 use Rattle.part.specs.laws.Bytes.{tail-length}
 use Rattle.object.specs.laws.Inside.{takes-inside, settled-inside, body-inside}
+use Rattle.object.specs.Parts.{Lent, Parts, partsOf, lentOf, memoryOf, coreIn, keptOf, shareOf}
 
 -- ---- one byte under a run that is laid over a list
 

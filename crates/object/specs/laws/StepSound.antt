@@ -11,7 +11,7 @@ use Rattle.octets.specs.Octets.{sumOf}
 use Rattle.octets.specs.laws.Marks.{sum-split, sum-none}
 use Rattle.answer.specs.declared.Part.{Part}
 use Rattle.answer.specs.declared.Part.the-variants.{Header, Body}
-use Rattle.cut.specs.Lists.{Each, Bytes, bytes-take, bytes-drop, over-bytes}
+use Rattle.cut.specs.laws.Lists.{bytes-take, bytes-drop, over-bytes}
 use Rattle.cut.specs.Requirement.{headerNumbers, limitMost, Segment}
 use Rattle.cut.specs.declared.Bounds.{Bounds}
 use Rattle.cut.specs.declared.Record.{Record}
@@ -21,11 +21,12 @@ use Rattle.cut.specs.laws.Segment.{Numbered}
 use Rattle.cut.specs.Parts.{headersWith, bodiesWith, those}
 use Rattle.cut.specs.laws.Theorem.{nothing-fits}
 use Rattle.cut.specs.laws.Marks.{Marked}
+use Rattle.cut.specs.Lists.{Each, Bytes}
 use Rattle.object.specs.declared.Slot.{Slot}
 use Rattle.object.specs.declared.Outcome.{Outcome}
 use Rattle.object.specs.declared.Outcome.the-variants.{Stored, Complete, Repeat, Conflict}
 use Rattle.part.specs.Memory.{Memory, placeOf, movedAs, settled, put}
-use Rattle.object.specs.Take.{Lent, Parts, partsOf, lentOf, coreIn, partsWith, Taken, unchanged, decided, takenBy, takeInto}
+use Rattle.object.specs.Take.{partsWith, Taken, unchanged, decided, takenBy, takeInto}
 use Rattle.object.specs.declared.Decided.{Decided}
 use Rattle.object.specs.declared.Decided.the-variants as Decided
 use Rattle.part.specs.Asked.{recordWith, recordWithin}
@@ -36,6 +37,7 @@ use Rattle.object.specs.laws.Held.{Gathers, Vacant, Added}
 use Rattle.part.specs.laws.Keeps.{Keeps}
 use Rattle.object.specs.laws.Step.{Tells, outcome-tells}
 use Rattle.object.specs.laws.StateExact.{holds-sound}
+use Rattle.object.specs.Parts.{Lent, Parts, partsOf, lentOf, coreIn}
 
 -- ---- a slot that holds nothing yet
 

@@ -18,10 +18,10 @@ use Rattle.cut.specs.laws.Marks.{finished-marked}
 use Rattle.object.specs.declared.Slot.{Slot}
 use Rattle.object.specs.declared.Stage.{Stage}
 use Rattle.object.specs.declared.Stage.the-variants as Stage
-use Rattle.object.specs.Take.{Lent, Parts, stageBy, stageOf}
 use Rattle.object.specs.laws.Held.{Gathers, Holds}
 use Rattle.object.specs.State.{StageFor}
 use Rattle.object.specs.laws.HeldSlot.{core-read}
+use Rattle.object.specs.Parts.{Lent, Parts, stageBy, stageOf}
 
 -- only the ends of the records play a part
 finished-kept : (core : Core) (b c : Bounds) (σ τ : Summary) (h k : ℕ) → finished core h (recordOf b σ) k (recordOf c τ) ≡ finished core h (σ .part) k (τ .part)

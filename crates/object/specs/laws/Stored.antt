@@ -19,11 +19,12 @@ use Rattle.object.specs.declared.Slot.{Slot}
 use Rattle.object.specs.declared.Stage.{Stage}
 use Rattle.object.specs.declared.Tally.{Tally}
 use Rattle.object.specs.declared.Took.{Took}
-use Rattle.object.specs.Take.{Lent, shares, partsOf, lentOf, keptOf, marksOf, memoryOf, coreIn, stageOf, slotWith, partsWith, left, tookOf, storedAs, recordAfter}
+use Rattle.object.specs.Take.{slotWith, partsWith, left, tookOf, storedAs, recordAfter}
 use Rattle.object.specs.Asked.{totalIn, Summed, Fitting}
 use Rattle.object.specs.laws.Shape.{numbersOf, Shaped}
 use Rattle.object.specs.laws.Inside.{numbers-most, marks-length, takes-inside, settled-inside, body-inside, lent-shaped, lent-bits}
 use Rattle.object.specs.laws.Decided.{memory-is, tallied-total}
+use Rattle.object.specs.Parts.{Lent, shares, partsOf, lentOf, keptOf, marksOf, memoryOf, coreIn, stageOf}
 
 -- ---- what the code asks of a segment that fits
 

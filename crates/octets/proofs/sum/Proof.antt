@@ -4,8 +4,8 @@ use Prim.Native.Nat.{_≤_, _+_, _-_}
 use mathlib.Core.Path.{_≡_, refl}
 use lib.ListN.{length, take, drop}
 use lib.Seq.{drop-length, drop-drop}
-use Rattle.octets.specs.Octets.{largestOf, sumOf}
-use Rattle.octets.specs.laws.Over.{part, part-length}
+use Rattle.octets.specs.Octets.{largestOf, sumOf, part}
+use Rattle.octets.specs.laws.Over.{part-length}
 use Rattle.octets.specs.laws.Marks.{sum-split, sum-bound, largest-part}
 use native.Mathlib.Omega.{arith}
 use borrow.Author.Needs.{needs}

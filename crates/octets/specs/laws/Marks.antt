@@ -9,8 +9,7 @@ use native.Mathlib.Omega.{arith}
 use borrow.Author.Tests.{eq-eqb, ne-eqb, le-leb}
 use lib.ListN.{length, getD, set, take, drop, length-take, take-append-drop}
 use lib.Seq.{drop-drop, take-add, getD-set-same, getD-set-other}
-use Rattle.octets.specs.Octets.{equal, largestOf, sumOf, zeros}
-use Rattle.octets.specs.laws.Over.{part}
+use Rattle.octets.specs.Octets.{equal, largestOf, sumOf, zeros, part}
 
 -- ---- bytes compared
 

@@ -9,11 +9,7 @@ use native.Mathlib.Omega.{arith}
 use borrow.Rule.Slice.PartMut.{midOf, putMid, post-is}
 use lib.ListN.{length, getD, set, take, drop, length-append, length-take, length-drop, length-replicate, take-append-drop}
 use lib.Seq.{length-take-le, drop-at, take-at, drop-drop, drop-append-le, take-append-le, take-take, take-add, getD-drop, paste-zero, paste-suc, set-split, append-snoc}
-use Rattle.octets.specs.Octets.{over, zeros}
-
--- the `count` bytes from `from` on
-abbrev pub part : List ℕ → ℕ → ℕ → List ℕ
-part l from count = take count (drop from l)
+use Rattle.octets.specs.Octets.{over, zeros, part}
 
 drop-take : (a k : ℕ) (l : List ℕ) → a ≤ length l → drop a (take (a + k) l) ≡ part l a k
 drop-take a k l h = rw take-add (drop-at (take a l) (part l a k) a (length-take-le a l h))

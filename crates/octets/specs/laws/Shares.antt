@@ -9,12 +9,8 @@ use native.Mathlib.Decide.{decLe}
 use native.Mathlib.Omega.{arith}
 use lib.ListN.{length, getD, set, take, drop}
 use lib.Seq.{getD-take, getD-drop}
-use Rattle.octets.specs.Octets.{over}
-use Rattle.octets.specs.laws.Over.{part, part-length, over-before, over-after, over-one, over-within}
-
--- share i of a list cut into shares of w bytes
-abbrev pub share : ℕ → ℕ → List ℕ → List ℕ
-share w i l = part l (i * w) w
+use Rattle.octets.specs.Octets.{over, part, share}
+use Rattle.octets.specs.laws.Over.{part-length, over-before, over-after, over-one, over-within}
 
 -- a byte of a part is a byte of the whole
 pub part-at : (l : List ℕ) (a k i : ℕ) → i < k → getD (part l a k) i 0 ≡ getD l (a + i) 0

@@ -7,10 +7,10 @@ use native.Mathlib.Nat.{zero-div}
 use native.Mathlib.Omega.{arith}
 use lib.Dec.{eqb}
 use borrow.Author.Tests.{le-leb, ne-eqb, eq-eqb}
-use Rattle.cut.specs.Lists.{pick}
 use Rattle.cut.specs.declared.Bounds.{Bounds}
 use Rattle.cut.specs.declared.Record.{Record}
 use Rattle.cut.specs.Decision.{whole, divided, derived}
+use Rattle.cut.specs.Lists.{pick}
 
 pub derived-none : (b : Bounds) (end tail : ℕ) → end < 2 → 0 ≡ derived b end tail
 derived-none b zero tail h = refl

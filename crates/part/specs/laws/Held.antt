@@ -6,11 +6,12 @@ use mathlib.Core.List.{List, [], _∷_}
 use Prim.Native.Nat.{ℕ, zero, suc, _+_, _≤_, _<_}
 use native.Mathlib.Omega.{arith}
 use lib.ListN.{getD}
-use Rattle.cut.specs.Lists.{Each, Among, each-map, each-among}
+use Rattle.cut.specs.laws.Lists.{each-map, each-among}
 use Rattle.cut.specs.Requirement.{Segment}
 use Rattle.cut.specs.laws.Segment.{Numbered, Same, Agree, among-numbered}
 use Rattle.cut.specs.laws.Order.{SameSet}
 use Rattle.cut.specs.laws.Marks.{Marked}
+use Rattle.cut.specs.Lists.{Each, Among}
 use Rattle.part.specs.Memory.{Memory, segmentAt, markedFrom, heldIn}
 
 -- each segment is what is read at its number

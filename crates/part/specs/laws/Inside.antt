@@ -13,7 +13,6 @@ use lib.Dec.{eqb, leb}
 use borrow.Author.Tests.{eqb-true, eqb-false, eq-eqb, ne-eqb, leb-true, le-leb, lt-leb}
 use Rattle.octets.specs.Octets.{sumOf, largestOf}
 use Rattle.octets.specs.laws.Marks.{sum-split}
-use Rattle.cut.specs.Lists.{pick, Each}
 use Rattle.cut.specs.Requirement.{sizeMost}
 use Rattle.cut.specs.declared.Bounds.{Bounds}
 use Rattle.cut.specs.declared.Record.{Record}
@@ -24,6 +23,7 @@ use Rattle.cut.specs.laws.Marks.{topFrom, top-high, top-open, top-ended, total-
 use Rattle.cut.specs.laws.Segment.{SitsAs}
 use Rattle.cut.specs.Sums.{ended, possibleIn, acceptsIn, fullIn, fitsIn}
 use Rattle.cut.specs.laws.Sums.{possible-in}
+use Rattle.cut.specs.Lists.{pick, Each}
 use Rattle.part.specs.Memory.{Memory, placeOf, lengthOf}
 use Rattle.part.specs.Asked.{endRight, recordRight}
 

@@ -4,11 +4,11 @@ use mathlib.Core.Bool.{Bool}
 use mathlib.Core.List.{List}
 use Prim.Native.Nat.{ℕ}
 use lib.ListN.{length, take, drop}
-use Rattle.cut.specs.Lists.{Each}
 use Rattle.cut.specs.Requirement.{Segment}
 use Rattle.cut.specs.declared.Bounds.{Bounds}
 use Rattle.cut.specs.Decision.{summary, recordOf}
 use Rattle.cut.specs.laws.Marks.{Marked}
+use Rattle.cut.specs.Lists.{Each}
 use Rattle.part.specs.Memory.{Memory, placeOf}
 
 -- a segment's bytes are laid in their place in the share, under a size

@@ -8,7 +8,7 @@ use lib.ListN.{length, getD}
 use lib.Dec.{eqb, leb}
 use borrow.Author.Tests.{eqb-true, eq-eqb, le-leb}
 use Rattle.octets.specs.laws.Over.{part-length}
-use Rattle.cut.specs.Lists.{pick, Each, each-zip, each-among, among-each}
+use Rattle.cut.specs.laws.Lists.{each-zip, each-among, among-each}
 use Rattle.cut.specs.Requirement.{Segment}
 use Rattle.cut.specs.declared.Bounds.{Bounds}
 use Rattle.cut.specs.Decision.{derived, settle, summary, recordOf}
@@ -18,6 +18,7 @@ use Rattle.cut.specs.laws.Object.{WithinOf}
 use Rattle.cut.specs.laws.Order.{Knows, knows-each, knows-last, EndFrom, TopFrom, end-from, top-from}
 use Rattle.cut.specs.laws.Marks.{topFrom, top-kept}
 use Rattle.cut.specs.Sums.{possibleIn}
+use Rattle.cut.specs.Lists.{pick, Each}
 use Rattle.part.specs.Memory.{Memory, placeOf, lengthOf, segmentAs, segmentAt, heldIn}
 use Rattle.part.specs.Asked.{recordRight}
 use Rattle.part.specs.laws.Inside.{topIn, right-end, right-size, right-suits, size-known, marked-sits, sits-before, place-lies}

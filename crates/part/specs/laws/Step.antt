@@ -13,7 +13,7 @@ use lib.Dec.{eqb, leb}
 use borrow.Author.Tests.{eqb-true, eq-eqb, ne-eqb, le-leb}
 use Rattle.octets.specs.Octets.{over}
 use Rattle.octets.specs.laws.Over.{over-length}
-use Rattle.cut.specs.Lists.{pick, Each, each-map, each-zip, each-zip3}
+use Rattle.cut.specs.laws.Lists.{each-map, each-zip, each-zip3}
 use Rattle.cut.specs.Requirement.{Segment}
 use Rattle.cut.specs.declared.Bounds.{Bounds}
 use Rattle.cut.specs.declared.Record.{Record}
@@ -23,6 +23,7 @@ use Rattle.cut.specs.laws.Decision.{TopSits, EndSits, SumSits, Clear, sits-sum}
 use Rattle.cut.specs.laws.Object.{WithinOf}
 use Rattle.cut.specs.laws.Order.{KnowsAs, Knows, knows-each}
 use Rattle.cut.specs.laws.Marks.{Marked}
+use Rattle.cut.specs.Lists.{pick, Each}
 use Rattle.part.specs.Memory.{Memory, placeOf, lengthOf, segmentAs, segmentAt, movedAs, settled, put}
 use Rattle.part.specs.laws.Inside.{derived-is, sits-before, place-lies}
 use Rattle.part.specs.laws.Keeps.{Laid, Keeps}

@@ -1,11 +1,11 @@
 -- `queries::name` meets its contract: the name is a part of the header that is shown.
 -- Assumes nothing.
 use mathlib.Core.Path.{ap, _∙_}
-use Rattle.names.specs.Finding.{nameData}
 use Rattle.queries.specs.Questions.{name}
 use borrow.Author.Needs.{needs}
 use Rattle.queries.proofs.name.Statement.{statement}
 use Rattle.queries.proofs.name.Tie as tie
+use Rattle.header.specs.Names.{nameData}
 
 show-requires : tie.Need-show-requires
 show-requires c κs = search needs

@@ -3,10 +3,11 @@
 use mathlib.Core.Path.{sym, ap, _∙_}
 use Rattle.header.specs.Parameters.{readHeader}
 use Rattle.collector.specs.Calls.{show}
-use Rattle.queries.specs.Questions.{askedAs, parameters}
+use Rattle.queries.specs.Questions.{parameters}
 use borrow.Author.Needs.{needs}
 use Rattle.queries.proofs.parameters.Statement.{statement}
 use Rattle.queries.proofs.parameters.Tie as tie
+use Rattle.queries.specs.Said.{askedAs}
 
 locate-requires : tie.Need-locate-requires
 locate-requires c κs = search needs

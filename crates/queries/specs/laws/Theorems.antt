@@ -5,7 +5,7 @@ use mathlib.Core.Path.{_≡_, refl, sym, ap, _∙_}
 use mathlib.Core.Bool.{true}
 use mathlib.Core.List.{List}
 use mathlib.Core.Logic.{_↔_}
-use Prim.Native.Nat.{ℕ, _≤_, _<_}
+use Prim.Native.Nat.{ℕ, _<_}
 use native.Mathlib.Omega.{arith}
 use lib.ListN.{length, length-take}
 use borrow.Author.Tests.{eq-eqb, eqb-true}
@@ -19,10 +19,11 @@ use Rattle.header.specs.declared.Fields.{Fields}
 use Rattle.header.specs.declared.Reading.{Reading}
 use Rattle.header.specs.declared.Reading.the-variants.{Read, Refused}
 use Rattle.header.specs.Parameters.{readHeader}
+use Rattle.header.specs.Names.{dataAs, nameData}
 use Rattle.names.specs.declared.Holder.{Holder}
 use Rattle.names.specs.declared.Holder.the-variants.{Nobody, Number}
 use Rattle.names.specs.Requirement.{Object, Named}
-use Rattle.names.specs.Finding.{dataAs, nameData, foundByName}
+use Rattle.names.specs.Finding.{foundByName}
 use Rattle.names.specs.laws.Theorems.{object-there, found-nobody, found-lowest}
 use Rattle.slots.specs.declared.Found.{Found as SlotFound}
 use Rattle.slots.specs.declared.Found.the-variants.{Nothing, At}
@@ -35,11 +36,11 @@ use Rattle.collector.specs.declared.Located.{Located}
 use Rattle.collector.specs.declared.Located.the-variants as Located
 use Rattle.queries.specs.declared.Asked.the-variants as Asked
 use Rattle.queries.specs.declared.Sought.the-variants as Sought
-use Rattle.collector.specs.State.{State, sound}
-use Rattle.collector.specs.Calls.{locatedAs, locatedIn, locate, show}
-use Rattle.collector.specs.Calls.{find as slotFor}
+use Rattle.collector.specs.State.{State, find as slotFor}
+use Rattle.collector.specs.Calls.{locatedAs, locatedIn, locate, show, sound}
 use Rattle.collector.specs.laws.State.{slots-sound}
-use Rattle.queries.specs.Questions.{askedAs, askedOf, parameters, name, soughtAs, find}
+use Rattle.queries.specs.Questions.{askedOf, parameters, name, soughtAs, find, Found}
+use Rattle.queries.specs.Said.{askedAs}
 
 -- ---- the name and the parameters
 
@@ -135,13 +136,6 @@ module _ (s : State) (good : sound s ≡ true) where
       }
 
 -- ---- what is found by name
-
--- the object of this number is shown, its header has the name, and no object of a lower number does
-pub record Found (asked : List ℕ) (s : State) (number : ℕ) : Type 0 where
-  pub slot : ℕ
-  pub located : locate number s ≡ Located.At slot
-  pub named : Named asked (show number Header s)
-  pub lowest : (other i : ℕ) → locate other s ≡ Located.At i → Named asked (show other Header s) → number ≤ other
 
 module _ (asked : List ℕ) (s : State) (good : sound s ≡ true) where
   -- the answer is what the search over slots gives

@@ -4,7 +4,6 @@ use mathlib.Core.Path.{sym, ap, _∙_}
 use Rattle.octets.specs.Octets.{zeros}
 use Rattle.octets.specs.laws.Marks.{zeros-sum}
 use Rattle.cut.specs.Requirement.{Segment, segment}
-use Rattle.object.specs.Take.{Lent, shares}
 use Rattle.slots.specs.Stores.{slotMarks}
 use Rattle.slots.specs.Alone.{isFits}
 use Rattle.slots.specs.laws.Fresh.{fresh-decided, fresh-readable}
@@ -12,6 +11,7 @@ use Rattle.slots.proofs.Laws.{zeros-long}
 use borrow.Author.Needs.{needs}
 use Rattle.slots.proofs.fits_alone.Statement.{statement}
 use Rattle.slots.proofs.fits_alone.Tie as tie
+use Rattle.object.specs.Parts.{Lent, shares}
 
 no-marks-requires : tie.Need-no-marks-requires
 no-marks-requires c κs = search needs

@@ -22,10 +22,11 @@ use Rattle.cut.specs.Sums.{possibleIn, fitsIn, takes}
 use Rattle.part.specs.Memory.{Memory}
 use Rattle.part.specs.Asked.{recordRight, soundPart}
 use Rattle.object.specs.declared.Stage.the-variants.{Gathering}
-use Rattle.object.specs.Take.{Lent, shares, partsOf, keptOf, marksOf, memoryOf, coreFrom, coreIn, takesIn, stageOf, decided, decidedNew, takeInto}
+use Rattle.object.specs.Take.{takesIn, decided, decidedNew, takeInto}
 use Rattle.object.specs.Sound.{soundParts}
 use Rattle.object.specs.Asked.{tallyOf, Readable, Offered}
 use Rattle.object.specs.laws.Decided.{memory-is, ifNew, byMark, take-by-mark}
+use Rattle.object.specs.Parts.{Lent, shares, partsOf, keptOf, marksOf, memoryOf, coreFrom, coreIn, stageOf}
 use Rattle.slots.specs.Stores.{Stores, lentAt, noRecord, freshSlot}
 use Rattle.slots.specs.Alone.{isFits, fitsAlone}
 use Rattle.slots.specs.Take.{OpenAt}

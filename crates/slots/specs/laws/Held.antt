@@ -9,8 +9,8 @@ use lib.Dec.{eqb}
 use lib.ListN.{length, take, getD, length-take}
 use lib.Seq.{getD-take}
 use borrow.Author.Tests.{eqb-true}
-use Rattle.cut.specs.Lists.{pick}
 use Rattle.cut.specs.laws.Decision.{both-true, all-true}
+use Rattle.cut.specs.Lists.{pick}
 use Rattle.object.specs.declared.Slot.{Slot}
 use Rattle.slots.specs.declared.Found.the-variants.{At}
 use Rattle.slots.specs.Stores.{Stores, freeSlot, slotAt}

@@ -12,16 +12,16 @@ use borrow.Author.Tests.{eqb-true}
 use Rattle.octets.specs.Octets.{sumOf, largestOf}
 use Rattle.octets.specs.laws.Marks.{sum-none, largest-each}
 use Rattle.cut.specs.Requirement.{headerMost}
-use Rattle.cut.specs.Lists.{pick}
 use Rattle.cut.specs.laws.Decision.{both-true, all-true}
+use Rattle.cut.specs.Lists.{pick}
 use Rattle.object.specs.declared.Slot.{Slot}
-use Rattle.object.specs.Take.{Lent}
 use Rattle.object.specs.Sound.{soundSlot}
 use Rattle.object.specs.laws.Inside.{sound-slot}
+use Rattle.object.specs.Parts.{Lent}
 use Rattle.slots.specs.declared.Found.the-variants.{At}
-use Rattle.slots.specs.Stores.{slotMarks, Stores, lentAt, freeSlot, slotAt}
+use Rattle.slots.specs.Stores.{slotMarks, Stores, lentAt, freeSlot, slotAt, Limits}
 use Rattle.slots.specs.Find.{freeStage, isFree, holds, firstFrom, findIn, freeIn}
-use Rattle.slots.specs.State.{withinLimits, distinct, rightSlot, rightFrom, soundSlots, Limits}
+use Rattle.slots.specs.State.{withinLimits, distinct, rightSlot, rightFrom, soundSlots}
 use Rattle.slots.specs.laws.StateTests.{limits-hold}
 use Rattle.slots.specs.Take.{Inside, OfferedAt, OpenAt}
 use Rattle.slots.specs.laws.Shares.{lent-wide}

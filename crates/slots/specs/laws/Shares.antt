@@ -7,13 +7,14 @@ use native.Mathlib.Nat.{add-zero}
 use native.Mathlib.Omega.{arith}
 use lib.ListN.{length, take, drop}
 use borrow.Rule.Slice.PartMut.{putMid}
-use Rattle.octets.specs.Octets.{over, zeros}
+use Rattle.octets.specs.Octets.{over, zeros, share}
 use Rattle.octets.specs.laws.Over.{over-exact, cleared-whole, over-length, over-inside, part-length}
-use Rattle.octets.specs.laws.Shares.{share, share-other}
+use Rattle.octets.specs.laws.Shares.{share-other}
 use Rattle.cut.specs.Requirement.{headerMost}
 use Rattle.object.specs.declared.Slot.{Slot}
 use Rattle.object.specs.declared.Outcome.{Outcome}
-use Rattle.object.specs.Take.{Lent, Taken}
+use Rattle.object.specs.Take.{Taken}
+use Rattle.object.specs.Parts.{Lent}
 use Rattle.slots.specs.Stores.{slotMarks, Stores, lentAt, withLent}
 use Rattle.slots.specs.Take.{Placed, placedAt, Inside}
 

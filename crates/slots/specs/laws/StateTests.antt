@@ -13,10 +13,10 @@ use Rattle.cut.specs.Requirement.{headerMost, limitLeast, limitMost}
 use Rattle.cut.specs.Decision.{both, all}
 use Rattle.cut.specs.laws.Decision.{all-true}
 use Rattle.object.specs.declared.Slot.{Slot}
-use Rattle.object.specs.Take.{partsOf, coreIn, stageOf}
 use Rattle.object.specs.Sound.{soundParts, soundSlot}
-use Rattle.slots.specs.Stores.{slotsMost, slotMarks, Stores, lentAt, freeSlot}
-use Rattle.slots.specs.State.{withinLimits, Limits, rightSlot, rightBy, rightFrom}
+use Rattle.object.specs.Parts.{partsOf, coreIn, stageOf}
+use Rattle.slots.specs.Stores.{slotsMost, slotMarks, Stores, lentAt, freeSlot, Limits}
+use Rattle.slots.specs.State.{withinLimits, rightSlot, rightBy, rightFrom}
 
 -- ---- the limits
 

@@ -9,13 +9,11 @@ use native.Mathlib.Omega.{arith}
 use lib.Dec.{eqb}
 use lib.ListN.{length}
 use borrow.Author.Tests.{le-leb}
-use Rattle.octets.specs.laws.Over.{part}
 use Rattle.answer.specs.declared.Answer.{Answer}
 use Rattle.answer.specs.declared.Answer.the-variants as Answer
-use Rattle.answer.specs.declared.Part.the-variants.{Header, Body}
-use Rattle.cut.specs.Lists.{pick, Each}
 use Rattle.cut.specs.Requirement.{headerMost}
 use Rattle.cut.specs.Decision.{both}
+use Rattle.cut.specs.Lists.{pick, Each}
 use Rattle.object.specs.declared.Slot.{Slot}
 use Rattle.object.specs.declared.Stage.{Stage}
 use Rattle.object.specs.declared.Stage.the-variants as Stage
@@ -26,10 +24,10 @@ use Rattle.slots.specs.Find.{findIn}
 use Rattle.slots.specs.Show.{startOf, shownOf}
 use Rattle.slots.specs.State.{withinLimits}
 use Rattle.slots.specs.laws.StateTests.{limits-hold}
-use Rattle.collector.specs.State.{State, Reply, sound}
-use Rattle.collector.specs.Calls.{takeGroup, dropNumber, openWith, locate, show}
+use Rattle.collector.specs.State.{State, Reply}
+use Rattle.collector.specs.Calls.{takeGroup, dropNumber, openWith, locate, show, sound}
 use Rattle.queries.specs.Questions.{find}
-use Rattle.history.specs.laws.Ready.{OfBytes, used-inside, found-used}
+use Rattle.history.specs.laws.Ready.{used-inside, found-used}
 use Rattle.history.specs.laws.Shown.{held-lengths}
 use Rattle.history.specs.laws.Refused.{Kept, group-kept, drop-kept}
 use Rattle.history.specs.History.{CallBytes, Within, Allowed, told}
@@ -39,18 +37,14 @@ use Rattle.history.specs.laws.Numbers.{Sixteen, reached-low}
 use Rattle.history.specs.Ours.{ours}
 use Rattle.history.specs.Promise.{Run, tallied}
 use Rattle.history.specs.laws.Promises.{promised}
+use Rattle.history.specs.State.{OfBytes}
 use Rattle.layout.specs.Layout.{wordsOf, countWords, collectorFrom, countsFrom}
 use Rattle.layout.specs.laws.ReadBack.{Numbered, written-back, written-reads}
 use Rattle.yovtirak.specs.Exports.{answerWord, held, changes, lentRight, left, takeCall, dropCall, leftOpen, openCall, finishedCall, readCall, findCall}
-use Rattle.yovtirak.specs.Heads.{Lent, HeadCall, GroupBytes, leftBy, begins, leaves, returns, after, asStart, asCalls, reachedBy, inWords, Fitting}
+use Rattle.yovtirak.specs.Heads.{Place, Lent, HeadCall, GroupBytes, leftBy, begins, leaves, returns, after, asStart, asCalls, reachedBy, inWords, Fitting, Words}
+use Rattle.octets.specs.Octets.{part}
 
 -- ---- words and the state that they hold
-
--- the words and the lent memory are those of a state
-pub record Words (l : Lent) (s : State) : Type 0 where
-  pub state : l .state ≡ wordsOf (s .collector)
-  pub counts : l .counts ≡ countWords (s .counts)
-  pub stores : l .stores ≡ s .stores
 
 numbered : (slots : List Slot) → ((j : ℕ) → Sixteen (slotAt j slots .number)) → Numbered slots
 unfolding slotAt
@@ -222,23 +216,13 @@ module _ (number : ℕ) (state counts : List ℕ) (stores : Stores) (place : Lis
   abbrev here : State
   here = held state counts stores
 
-  -- the slot, h and b that are told: the first h bytes of the slot's share of the header store and the first b of its
-  -- share of the body store are what `show` hands back
-  pub record Place : Type 0 where
-    pub slot : ℕ
-    pub header : ℕ
-    pub body : ℕ
-    pub told : finishedCall number state counts stores place .told ≡ slot ∷ header ∷ body ∷ []
-    pub headerThere : ours .shows number Header here ≡ part (stores .header) (slot * headerMost) header
-    pub bodyThere : ours .shows number Body here ≡ part (stores .body) (slot * collectorFrom state .limit) body
-
   start-there : (width i count : ℕ) (store : List ℕ) → count ≤ width → i * width + width ≤ length store
       → startOf width i count store ≡ part store (i * width) count
   unfolding startOf
   start-there width i count store h g = rw (le-leb (i * width + count) (length store) (omega arith)) refl
 
   -- A `yovtirak_finished` THAT RETURNS 0 tells where the header and the body stand
-  pub finished-there : finishedCall number state counts stores place .result ≡ 0 → Place
+  pub finished-there : finishedCall number state counts stores place .result ≡ 0 → Place number state counts stores place
   unfolding finishedCall locate show shownOf
   finished-there e = go lent refl (sound here) refl
       (findIn number (collectorFrom state .count) (collectorFrom state .slots)) refl
@@ -248,7 +232,8 @@ module _ (number : ℕ) (state counts : List ℕ) (stores : Stores) (place : Lis
 
       staged : lent ≡ true → sound here ≡ true → (i : ℕ)
           → findIn number (collectorFrom state .count) (collectorFrom state .slots) ≡ At i → (stage : Stage)
-          → slotAt i (collectorFrom state .slots) .stage ≡ stage → Place
+          → slotAt i (collectorFrom state .slots) .stage ≡ stage
+          → Place number state counts stores place
       staged f g i n Stage.Free t = let z : _≡_ {A = ℕ} 19 0 = rw (f, g, n, t) at e in absurd (omega arith)
       staged f g i n Stage.Gathering t = let z : _≡_ {A = ℕ} 20 0 = rw (f, g, n, t) at e in absurd (omega arith)
       staged f g i n (Stage.Finished h b) t =
@@ -266,7 +251,8 @@ module _ (number : ℕ) (state counts : List ℕ) (stores : Stores) (place : Lis
           }
 
       go : (a : Bool) → lent ≡ a → (d : Bool) → sound here ≡ d → (found : Found)
-          → findIn number (collectorFrom state .count) (collectorFrom state .slots) ≡ found → Place
+          → findIn number (collectorFrom state .count) (collectorFrom state .slots) ≡ found
+          → Place number state counts stores place
       go false f d g found n = let z : _≡_ {A = ℕ} 26 0 = rw f at e in absurd (omega arith)
       go true f false g found n = let z : _≡_ {A = ℕ} 26 0 = rw (f, g) at e in absurd (omega arith)
       go true f true g Nothing n = let z : _≡_ {A = ℕ} 19 0 = rw (f, g, n) at e in absurd (omega arith)

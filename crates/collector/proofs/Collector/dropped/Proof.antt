@@ -5,8 +5,8 @@ use mathlib.Core.List.{List}
 use Rattle.object.specs.declared.Slot.{Slot}
 use Rattle.slots.specs.Take.{DroppedAt}
 use Rattle.slots.specs.laws.Ready.{found-inside}
-use Rattle.collector.specs.State.{stores, state, withSlots}
-use Rattle.collector.specs.Calls.{dropNumber}
+use Rattle.collector.specs.State.{stores, state}
+use Rattle.collector.specs.Calls.{dropNumber, withSlots}
 use Rattle.collector.specs.laws.State.{slots-sound}
 use borrow.Author.Tests.{not-true, not-false}
 use borrow.Author.Needs.{needs}

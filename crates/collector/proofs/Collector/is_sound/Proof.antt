@@ -1,11 +1,11 @@
 -- `collector::Collector::is_sound` meets its contract: the slots, then the counts.
 -- Assumes nothing.
-use Rattle.collector.specs.State.{sound}
 use borrow.Author.Tests.{not-true, not-false}
 use mathlib.Core.Path.{sym, _∙_}
 use borrow.Author.Needs.{needs}
 use Rattle.collector.proofs.Collector.is_sound.Statement.{statement}
 use Rattle.collector.proofs.Collector.is_sound.Tie as tie
+use Rattle.collector.specs.Calls.{sound}
 
 sound-requires : tie.Need-sound-requires
 sound-requires c κs = search needs

@@ -7,12 +7,12 @@ use Rattle.slots.specs.Take.{takeNew}
 use Rattle.slots.specs.laws.Ready.{sound-open}
 use Rattle.slots.specs.laws.Fresh.{fresh-offered}
 use Rattle.collector.specs.State.{stores}
-use Rattle.collector.specs.Calls.{arrival}
 use Rattle.collector.proofs.Laws.{put-as}
 use borrow.Author.Tests.{not-true, not-false}
 use borrow.Author.Needs.{needs}
 use Rattle.collector.proofs.Collector.take_first.Statement.{statement}
 use Rattle.collector.proofs.Collector.take_first.Tie as tie
+use Rattle.collector.specs.Arrival.{arrival}
 
 cast-number : tie.Need-cast-number
 cast-number c = search needs

@@ -6,11 +6,11 @@ use Rattle.slots.specs.Stores.{freeSlot, slotAt}
 use Rattle.slots.specs.Take.{takeAt}
 use Rattle.slots.specs.laws.Ready.{sound-offered}
 use Rattle.collector.specs.State.{stores}
-use Rattle.collector.specs.Calls.{arrival}
 use Rattle.collector.proofs.Laws.{put-as}
 use borrow.Author.Needs.{needs}
 use Rattle.collector.proofs.Collector.take_segment.Statement.{statement}
 use Rattle.collector.proofs.Collector.take_segment.Tie as tie
+use Rattle.collector.specs.Arrival.{arrival}
 
 find-requires : tie.Need-find-requires
 find-requires c κs = search needs
