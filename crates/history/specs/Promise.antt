@@ -32,7 +32,7 @@ use Rattle.object.specs.declared.Stage.the-variants as Stage
 use Rattle.object.specs.Source.{Source, SentBy}
 use Rattle.slots.specs.declared.Found.the-variants.{Nothing, At}
 use Rattle.slots.specs.Find.{isFree}
-use Rattle.names.specs.Requirement.{Named}
+use Rattle.name_search.specs.Requirement.{Named}
 use Rattle.collector.specs.declared.Located.the-variants as Located
 use Rattle.collector.specs.declared.Opening.the-variants as Opening
 use Rattle.collector.specs.State.{Start, State, find, free, allFree}

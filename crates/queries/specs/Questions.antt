@@ -7,10 +7,10 @@ use Rattle.answer.specs.declared.Part.the-variants.{Header}
 use Rattle.header.specs.declared.Refusal.the-variants as Refusal
 use Rattle.header.specs.Parameters.{readHeader}
 use Rattle.header.specs.Names.{nameData}
-use Rattle.names.specs.declared.Holder.{Holder}
-use Rattle.names.specs.declared.Holder.the-variants.{Nobody, Number}
-use Rattle.names.specs.Finding.{foundByName}
-use Rattle.names.specs.Requirement.{Named}
+use Rattle.name_search.specs.declared.Holder.{Holder}
+use Rattle.name_search.specs.declared.Holder.the-variants.{Nobody, Number}
+use Rattle.name_search.specs.Finding.{foundByName}
+use Rattle.name_search.specs.Requirement.{Named}
 use Rattle.collector.specs.declared.Located.{Located}
 use Rattle.collector.specs.declared.Located.the-variants as Located
 use Rattle.queries.specs.declared.Asked.{Asked}

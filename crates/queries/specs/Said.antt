@@ -7,6 +7,7 @@ use Rattle.header.specs.declared.Reading.the-variants.{Read, Refused}
 use Rattle.header.specs.declared.Refusal.{Refusal}
 use Rattle.queries.specs.declared.Asked.the-variants as Asked
 use Rattle.queries.specs.declared.Asked.{Asked}
+
 -- What a header that is read says, as the answer to a question.
 
 abbrev pub reasonOf : Refusal → Reason

@@ -9,7 +9,7 @@ use counts::Counts;
 use header::Fields;
 use header::Reading;
 use header::Refusal;
-use names::Holder;
+use name_search::Holder;
 ghost use mathlib.Core.Path.{_≡_};
 ghost use Rattle.collector.specs.State.{stores, state};
 ghost use Rattle.queries.specs.Questions.{soughtAs, parameters, name, find};
@@ -87,7 +87,7 @@ pub fn name<'a>(
     ensures { λ r. ⌜ now r ≡ name number
         (state collector counts (stores (header .entry) (body .entry) (marks .entry))) ⌝ }
 {
-    names::name_data(collector.show(counts, number, Part::Header, header, body, marks))
+    name_search::name_data(collector.show(counts, number, Part::Header, header, body, marks))
 }
 
 // The lowest transport number among the finished objects that have a name.
@@ -106,5 +106,5 @@ pub fn find(
         return Sought::Denied(Reason::State);
     }
     let slots = collector.slots;
-    sought_as(names::find(asked, collector.count, slots, header))
+    sought_as(name_search::find(asked, collector.count, slots, header))
 }

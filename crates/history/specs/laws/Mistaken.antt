@@ -23,9 +23,9 @@ use Rattle.header.specs.Names.{nameData, hasName}
 use Rattle.object.specs.declared.Slot.{Slot}
 use Rattle.slots.specs.declared.Found.{Found}
 use Rattle.slots.specs.declared.Found.the-variants.{Nothing, At}
-use Rattle.names.specs.declared.Holder.{Holder}
-use Rattle.names.specs.declared.Holder.the-variants.{Nobody, Number}
-use Rattle.names.specs.Finding.{headerIn, lower, foundByName}
+use Rattle.name_search.specs.declared.Holder.{Holder}
+use Rattle.name_search.specs.declared.Holder.the-variants.{Nobody, Number}
+use Rattle.name_search.specs.Finding.{headerIn, lower, foundByName}
 use Rattle.collector.specs.declared.Located.{Located}
 use Rattle.collector.specs.declared.Located.the-variants as Located
 use Rattle.collector.specs.State.{State, find}

@@ -35,7 +35,7 @@ use Rattle.slots.specs.State.{withinLimits, heldAmong, unlike, distinct, rightS
 use Rattle.slots.specs.Stores.{lentAt, withLent, freeSlot, freshSlot, slotAt}
 use Rattle.slots.specs.Show.{startOf, shownOf}
 use Rattle.slots.specs.Take.{takeAt, takeNew, dropAt}
-use Rattle.names.specs.Finding.{headerIn, holderIn, lowestFrom, foundByName}
+use Rattle.name_search.specs.Finding.{headerIn, holderIn, lowestFrom, foundByName}
 use Rattle.collector.specs.State.{Start}
 use Rattle.collector.specs.Calls.{takeSegment, takeGroup, dropNumber, openWith, locate, show, sound}
 use Rattle.collector.specs.Arrival.{segmentIn}

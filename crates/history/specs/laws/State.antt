@@ -42,9 +42,9 @@ use Rattle.slots.specs.Find.{isFree}
 use Rattle.slots.specs.State.{rightSlot, soundSlots}
 use Rattle.collector.specs.declared.Located.{Located}
 use Rattle.collector.specs.declared.Located.the-variants as Located
-use Rattle.names.specs.declared.Holder.{Holder}
-use Rattle.names.specs.declared.Holder.the-variants as Holder
-use Rattle.names.specs.Finding.{foundByName}
+use Rattle.name_search.specs.declared.Holder.{Holder}
+use Rattle.name_search.specs.declared.Holder.the-variants as Holder
+use Rattle.name_search.specs.Finding.{foundByName}
 use Rattle.collector.specs.State.{Reply, State, find}
 use Rattle.collector.specs.Calls.{answerAs, dropNumber, locate, locatedAs, locatedIn, show, takeGroup, sound}
 use Rattle.collector.specs.Arrival.{Arrival, arrivalIn, heardAs}

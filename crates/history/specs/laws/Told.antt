@@ -21,7 +21,7 @@ use Rattle.object.specs.declared.Stage.the-variants as Stage
 use Rattle.slots.specs.declared.Found.{Found}
 use Rattle.slots.specs.declared.Found.the-variants.{Nothing, At}
 use Rattle.slots.specs.Find.{isFree}
-use Rattle.names.specs.Requirement.{Named}
+use Rattle.name_search.specs.Requirement.{Named}
 use Rattle.collector.specs.declared.Located.{Located}
 use Rattle.collector.specs.declared.Located.the-variants as Located
 use Rattle.collector.specs.State.{State, find}

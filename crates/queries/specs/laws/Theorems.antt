@@ -20,11 +20,11 @@ use Rattle.header.specs.declared.Reading.{Reading}
 use Rattle.header.specs.declared.Reading.the-variants.{Read, Refused}
 use Rattle.header.specs.Parameters.{readHeader}
 use Rattle.header.specs.Names.{dataAs, nameData}
-use Rattle.names.specs.declared.Holder.{Holder}
-use Rattle.names.specs.declared.Holder.the-variants.{Nobody, Number}
-use Rattle.names.specs.Requirement.{Object, Named}
-use Rattle.names.specs.Finding.{foundByName}
-use Rattle.names.specs.laws.Theorems.{object-there, found-nobody, found-lowest}
+use Rattle.name_search.specs.declared.Holder.{Holder}
+use Rattle.name_search.specs.declared.Holder.the-variants.{Nobody, Number}
+use Rattle.name_search.specs.Requirement.{Object, Named}
+use Rattle.name_search.specs.Finding.{foundByName}
+use Rattle.name_search.specs.laws.Theorems.{object-there, found-nobody, found-lowest}
 use Rattle.slots.specs.declared.Found.{Found as SlotFound}
 use Rattle.slots.specs.declared.Found.the-variants.{Nothing, At}
 use Rattle.slots.specs.Stores.{slotAt}

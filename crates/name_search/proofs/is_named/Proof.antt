@@ -1,4 +1,4 @@
--- `names::is_named` meets its contract: only ContentName's data is compared.
+-- `name_search::is_named` meets its contract: only ContentName's data is compared.
 -- Assumes nothing.
 use mathlib.Core.Path.{_≡_}
 use Prim.Native.Nat.{_+_, _-_}
@@ -6,8 +6,8 @@ use native.Mathlib.Omega.{arith}
 use borrow.Author.Tests.{eq-eqb, ne-eqb}
 use Rattle.header.specs.laws.Search.{isNamed}
 use borrow.Author.Needs.{needs}
-use Rattle.names.proofs.is_named.Statement.{statement}
-use Rattle.names.proofs.is_named.Tie as tie
+use Rattle.name_search.proofs.is_named.Statement.{statement}
+use Rattle.name_search.proofs.is_named.Tie as tie
 
 add-end : tie.Need-add-end
 add-end c = search needs

@@ -13,8 +13,8 @@ ghost use lib.ListN.{length};
 ghost use Rattle.slots.specs.Stores.{slotsMost};
 ghost use Rattle.header.specs.laws.Search.{isNamed};
 ghost use Rattle.header.specs.Names.{nameData};
-ghost use Rattle.names.specs.Finding.{headerIn, lower, foundByName};
-ghost use Rattle.names.specs.laws.Legible.{legible};
+ghost use Rattle.name_search.specs.Finding.{headerIn, lower, foundByName};
+ghost use Rattle.name_search.specs.laws.Legible.{legible};
 
 // Whose a name is: nobody's, or that of the finished object with this transport number.
 pub enum Holder {

@@ -25,10 +25,10 @@ use Rattle.header.specs.laws.Theorems.{core, given-only, name-inside, matches-e
 use Rattle.header.specs.Names.{namedAs, dataAs, nameData, hasName}
 use Rattle.slots.specs.Stores.{freeSlot, slotAt}
 use Rattle.slots.specs.Show.{startOf}
-use Rattle.names.specs.declared.Holder.{Holder}
-use Rattle.names.specs.declared.Holder.the-variants.{Nobody, Number}
-use Rattle.names.specs.Requirement.{Object, Named, Lowest}
-use Rattle.names.specs.Finding.{headerAs, headerIn, lower, holderIn, lowestFrom, foundByName}
+use Rattle.name_search.specs.declared.Holder.{Holder}
+use Rattle.name_search.specs.declared.Holder.the-variants.{Nobody, Number}
+use Rattle.name_search.specs.Requirement.{Object, Named, Lowest}
+use Rattle.name_search.specs.Finding.{headerAs, headerIn, lower, holderIn, lowestFrom, foundByName}
 
 -- ---- the name as a part of the header
 

@@ -9,9 +9,9 @@ use lib.ListN.{length, getD, take, drop}
 use Rattle.object.specs.declared.Slot.{Slot}
 use Rattle.slots.specs.Stores.{freeSlot}
 use Rattle.slots.specs.laws.StateTests.{spent, one-more}
-use Rattle.names.specs.declared.Holder.{Holder}
-use Rattle.names.specs.declared.Holder.the-variants.{Nobody, Number}
-use Rattle.names.specs.Finding.{headerIn, lower, holderIn, lowestFrom}
+use Rattle.name_search.specs.declared.Holder.{Holder}
+use Rattle.name_search.specs.declared.Holder.the-variants.{Nobody, Number}
+use Rattle.name_search.specs.Finding.{headerIn, lower, holderIn, lowestFrom}
 use Rattle.header.specs.Names.{hasName}
 
 -- ---- the lower of two

@@ -1,10 +1,10 @@
--- `names::legible` meets its contract: what reading the header gives decides.
+-- `name_search::legible` meets its contract: what reading the header gives decides.
 -- Assumes nothing.
 use mathlib.Core.Path.{sym, _∙_}
-use Rattle.names.specs.laws.Legible.{legible}
+use Rattle.name_search.specs.laws.Legible.{legible}
 use borrow.Author.Needs.{needs}
-use Rattle.names.proofs.legible.Statement.{statement}
-use Rattle.names.proofs.legible.Tie as tie
+use Rattle.name_search.proofs.legible.Statement.{statement}
+use Rattle.name_search.proofs.legible.Tie as tie
 
 read-requires : tie.Need-read-requires
 read-requires c κs = search needs

@@ -1,4 +1,4 @@
--- `names::find` meets its contract. At each turn over slots, what is held and what is left come to the answer; at
+-- `name_search::find` meets its contract. At each turn over slots, what is held and what is left come to the answer; at
 -- each turn over parameters nothing is held yet of this slot, and what is left of them decides. Assumes nothing.
 use mathlib.Core.Path.{_≡_, refl, sym, ap, _∙_}
 use mathlib.Core.Logic.{⊎-elim}
@@ -11,14 +11,14 @@ use Rattle.header.specs.laws.Parameters.{found-known, found-on}
 use Rattle.object.specs.declared.Slot.{Slot}
 use Rattle.object.specs.declared.Stage.the-variants.{Free}
 use Rattle.slots.specs.Stores.{noRecord, freeSlot}
-use Rattle.names.specs.declared.Holder.{Holder}
-use Rattle.names.specs.declared.Holder.the-variants.{Number}
-use Rattle.names.specs.Finding.{headerIn, lower, holderIn, lowestFrom, foundByName}
-use Rattle.names.specs.laws.Legible.{Left, left-first, left-none, left-whole, left-here, left-on}
-use Rattle.names.specs.laws.Lower.{lower-nobody, lower-zero, holder-not, holder-is, lowest-none, lowest-on}
+use Rattle.name_search.specs.declared.Holder.{Holder}
+use Rattle.name_search.specs.declared.Holder.the-variants.{Number}
+use Rattle.name_search.specs.Finding.{headerIn, lower, holderIn, lowestFrom, foundByName}
+use Rattle.name_search.specs.laws.Legible.{Left, left-first, left-none, left-whole, left-here, left-on}
+use Rattle.name_search.specs.laws.Lower.{lower-nobody, lower-zero, holder-not, holder-is, lowest-none, lowest-on}
 use borrow.Author.Needs.{needs}
-use Rattle.names.proofs.find.Statement.{statement}
-use Rattle.names.proofs.find.Tie as tie
+use Rattle.name_search.proofs.find.Statement.{statement}
+use Rattle.name_search.proofs.find.Tie as tie
 
 abbrev Inv-parameters : tie.InvT-parameters
 Inv-parameters asked count store slots holder₀ i slot header at₀ holder at =

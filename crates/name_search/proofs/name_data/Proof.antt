@@ -1,4 +1,4 @@
--- `names::name_data` meets its contract: the name that a reading tells of lies inside the header.
+-- `name_search::name_data` meets its contract: the name that a reading tells of lies inside the header.
 -- Assumes nothing.
 use mathlib.Core.Path.{_≡_, sym, _∙_}
 use Prim.Native.Nat.{_+_, _-_, _≤_}
@@ -7,10 +7,10 @@ use lib.ListN.{length}
 use Rattle.header.specs.declared.Name.the-variants.{Data}
 use Rattle.header.specs.Parameters.{readHeader, nameIn}
 use Rattle.header.specs.Names.{nameData}
-use Rattle.names.specs.laws.Theorems.{name-within}
+use Rattle.name_search.specs.laws.Theorems.{name-within}
 use borrow.Author.Needs.{needs}
-use Rattle.names.proofs.name_data.Statement.{statement}
-use Rattle.names.proofs.name_data.Tie as tie
+use Rattle.name_search.proofs.name_data.Statement.{statement}
+use Rattle.name_search.proofs.name_data.Tie as tie
 
 -- the name is there
 there : (c : tie.After-start) → nameIn (readHeader (c .before .before .before .before .args .header .now))

@@ -9,8 +9,8 @@ use Rattle.object.specs.declared.Stage.{Stage}
 use Rattle.object.specs.declared.Stage.the-variants.{Free, Gathering, Finished}
 use Rattle.header.specs.Names.{hasName}
 use Rattle.slots.specs.Show.{startOf}
-use Rattle.names.specs.declared.Holder.{Holder}
-use Rattle.names.specs.declared.Holder.the-variants.{Nobody, Number}
+use Rattle.name_search.specs.declared.Holder.{Holder}
+use Rattle.name_search.specs.declared.Holder.the-variants.{Nobody, Number}
 
 -- ---- one slot
 

@@ -1,11 +1,11 @@
--- `names::lower_of` meets its contract: a number that is found may be lower than the one held.
+-- `name_search::lower_of` meets its contract: a number that is found may be lower than the one held.
 -- Assumes nothing.
 use mathlib.Core.Path.{ap}
 use native.Mathlib.Omega.{arith}
-use Rattle.names.specs.declared.Holder.the-variants.{Number}
+use Rattle.name_search.specs.declared.Holder.the-variants.{Number}
 use borrow.Author.Needs.{needs}
-use Rattle.names.proofs.lower_of.Statement.{statement}
-use Rattle.names.proofs.lower_of.Tie as tie
+use Rattle.name_search.proofs.lower_of.Statement.{statement}
+use Rattle.name_search.proofs.lower_of.Tie as tie
 
 enum-known-holder : tie.Need-enum-known-holder
 enum-known-holder c = search needs

@@ -1,4 +1,4 @@
--- `names::header_in` meets its contract: only a finished object has a header to show.
+-- `name_search::header_in` meets its contract: only a finished object has a header to show.
 -- Assumes nothing.
 use mathlib.Core.Path.{_≡_, refl}
 use mathlib.Core.List.{List, [], _∷_}
@@ -10,10 +10,10 @@ use denote.Enum.Declared.{tagOf}
 use Rattle.object.specs.declared.Stage.{Stage}
 use Rattle.object.specs.declared.Stage.the-variants.{Free, Gathering, Finished}
 use Rattle.object.proofs.Stage.{the-type}
-use Rattle.names.specs.Finding.{headerAs, headerIn}
+use Rattle.name_search.specs.Finding.{headerAs, headerIn}
 use borrow.Author.Needs.{needs}
-use Rattle.names.proofs.header_in.Statement.{statement}
-use Rattle.names.proofs.header_in.Tie as tie
+use Rattle.name_search.proofs.header_in.Statement.{statement}
+use Rattle.name_search.proofs.header_in.Tie as tie
 
 -- the tag is that of another stage
 unfinished : (stage : Stage) (i : ℕ) (store : List ℕ) → OneOf (0 ∷ 1 ∷ []) (tagOf the-type stage)
