@@ -31,15 +31,14 @@ put-decimal-requires-5 c κs = omega arith
 returns : tie.Need-returns
 unfolding countsText
 returns c =
-    let at-put-decimal2 = c .before .before .before .before .before .before in
-    let at-put-decimal = at-put-decimal2 .before .before in
-    let at-put = at-put-decimal .before .before in
-    put-whole (put-then (at-put .put .ensures)
-    (put-then (at-put-decimal .put-decimal .ensures .0)
-    (put-then (at-put-decimal2 .put-decimal2 .ensures .0)
+    put-whole
+    (put-then (c .before .before .before .before .before .before .before .before .before .before .put .ensures)
+    (put-then (c .before .before .before .before .before .before .before .before .put-decimal .ensures .0)
+    (put-then (c .before .before .before .before .before .before .put-decimal2 .ensures .0)
     (put-then (c .before .before .before .before .put-decimal3 .ensures .0)
-    (put-then (c .before .before .put-decimal4 .ensures .0) (c .put-decimal5 .ensures .0) (omega arith)) (omega arith))
-    (omega arith)) (omega arith)) (omega arith)) (omega arith)
+    (put-then (c .before .before .put-decimal4 .ensures .0)
+    (c .put-decimal5 .ensures .0) (omega arith)) (omega arith)) (omega arith)) (omega arith)) (omega arith))
+    (omega arith)
 
 pub write-counts-spec : {M : Type 1} → statement M
 write-counts-spec =
