@@ -27,8 +27,8 @@ returns c =
     let at-put-hex = at-put-part .before .before .before .before in
     let hex = at-put-hex .put-hex in
     let part = at-put-part .put-part in (
-      put-then (hex .ensures .0) (put-then (part .ensures .0) (c .before .before .put-decimal .ensures .0) (omega arith))
-          (omega arith),
+      put-then (hex .ensures .0)
+          (put-then (part .ensures .0) (c .before .before .put-decimal .ensures .0) (omega arith)) (omega arith),
       omega arith,
     )
 

@@ -73,7 +73,8 @@ returns-6 c =
       le-ltb _ _ (at-if2 .if2 .left),
       ne-eqb _ _ (at-if3 .if3 .left),
       le-ltb _ _ (at-if4 .if4 .left),
-      sym (c .before .before .before .before .check-holds .ensures) ∙ not-false _ (c .before .before .before .if5 .left),
+      sym (c .before .before .before .before .check-holds .ensures)
+          ∙ not-false _ (c .before .before .before .if5 .left),
       sym (c .before .before .kind-of .ensures) ∙ c .enum-told .given .1,
     )
 
