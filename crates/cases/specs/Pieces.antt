@@ -39,6 +39,8 @@ verdictOf limit core header first second =
     pick
     (goesWith second (topWith first 0) (keptWith first nothing))
     (verdictBy
-    (suits limit core (topWith header 0) (keptWith header nothing) (topWith second (topWith first 0)) (keptWith second (keptWith first nothing)))
-    (finished core (countOf header) (keptWith header nothing) (countOf first + countOf second) (keptWith second (keptWith first nothing))))
+    (suits limit core (topWith header 0) (keptWith header nothing) (topWith second (topWith first 0))
+    (keptWith second (keptWith first nothing)))
+    (finished core (countOf header) (keptWith header nothing) (countOf first + countOf second)
+    (keptWith second (keptWith first nothing))))
     Conflicts

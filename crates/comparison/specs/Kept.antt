@@ -30,7 +30,8 @@ isNumber n = ltb n 32768
 
 -- what is kept, with one segment more
 abbrev pub keptWith : Bool → ℕ → ℕ → Kept → Kept
-keptWith last number length k = record { top = addTop last number (k .top); part = addPart last number length (k .part) }
+keptWith last number length k =
+    record { top = addTop last number (k .top); part = addPart last number length (k .part) }
 
 abbrev pub keptAfter : Bool → ℕ → ℕ → Kept → Kept
 keptAfter last number length k = pick (isNumber number) (keptWith last number length k) k

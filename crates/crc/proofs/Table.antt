@@ -1,6 +1,5 @@
--- A table follows a rule where its entries, one after the other, are what the rule gives: one test over the whole table,
--- and a law that carries it to each entry.
--- Assumes nothing.
+-- A table follows a rule where its entries, one after the other, are what the rule gives: one test over the whole
+-- table, and a law that carries it to each entry. Assumes nothing.
 use mathlib.Core.Path.{_≡_, sym, ap, _∙_}
 use mathlib.Core.Bool.{Bool, true, false}
 use mathlib.Core.List.{List, [], _∷_}
@@ -23,16 +22,20 @@ abbrev follows : (ℕ → ℕ) → ℕ → List ℕ → Bool
 follows rule first [] = true
 follows rule first (entry ∷ entries) = also (eqb entry (rule first)) (follows rule (suc first) entries)
 
-from : (rule : ℕ → ℕ) (entries : List ℕ) (first : ℕ) → T (follows rule first entries) → (k : ℕ) → k < length entries → getD entries k 0 ≡ rule (first + k)
+from : (rule : ℕ → ℕ) (entries : List ℕ) (first : ℕ) → T (follows rule first entries) → (k : ℕ) → k < length entries
+    → getD entries k 0 ≡ rule (first + k)
 from rule [] first t k h = absurd (omega arith)
 from rule (entry ∷ entries) first t zero h =
-    eqb→eq entry (rule first) (also-both (eqb entry (rule first)) (follows rule (suc first) entries) t .0) ∙ ap rule (sym (add-zero first))
+    eqb→eq entry (rule first) (also-both (eqb entry (rule first)) (follows rule (suc first) entries) t .0)
+    ∙ ap rule (sym (add-zero first))
 from rule (entry ∷ entries) first t (suc k) h =
-    from rule entries (suc first) (also-both (eqb entry (rule first)) (follows rule (suc first) entries) t .1) k (omega arith)
+    from rule entries (suc first) (also-both (eqb entry (rule first)) (follows rule (suc first) entries) t .1) k
+    (omega arith)
     ∙ ap rule (suc-add first k ∙ sym (add-suc first k))
 
 pub record Follows (rule : ℕ → ℕ) (entries : List ℕ) : Type 0 where
   pub tested : T (follows rule 0 entries)
 
-pub entry-of : {rule : ℕ → ℕ} {entries : List ℕ} → Follows rule entries → (k : ℕ) → k < length entries → getD entries k 0 ≡ rule k
+pub entry-of : {rule : ℕ → ℕ} {entries : List ℕ} → Follows rule entries → (k : ℕ) → k < length entries
+    → getD entries k 0 ≡ rule k
 entry-of {rule} {entries} f k h = from rule entries 0 (f .tested) k h ∙ ap rule (zero-add k)

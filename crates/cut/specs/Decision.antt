@@ -44,10 +44,12 @@ coreFits limit c = all (coreTests limit c)
 
 -- full segments of a size can be: the last one is not in, or is number n with tail bytes
 abbrev pub openTests : Bounds → ℕ → List Bool
-openTests b size = leb sizeLeast size ∷ leb size sizeMost ∷ leb (b .least) (b .most) ∷ leb (b .least) (b .numbers * size) ∷ []
+openTests b size = leb sizeLeast size ∷ leb size sizeMost ∷ leb (b .least) (b .most)
+    ∷ leb (b .least) (b .numbers * size) ∷ []
 
 abbrev pub endedTests : Bounds → ℕ → ℕ → ℕ → List Bool
-endedTests b size n tail = leb sizeLeast size ∷ leb size sizeMost ∷ leb 1 tail ∷ leb tail size ∷ leb (suc n) (b .numbers) ∷ leb (n * size + tail) (b .most) ∷ leb (b .least) (n * size + tail) ∷ []
+endedTests b size n tail = leb sizeLeast size ∷ leb size sizeMost ∷ leb 1 tail ∷ leb tail size
+    ∷ leb (suc n) (b .numbers) ∷ leb (n * size + tail) (b .most) ∷ leb (b .least) (n * size + tail) ∷ []
 
 -- how many numbers they may have, from 0: one more byte and one more number come after each; the last one comes after
 -- all
@@ -76,7 +78,8 @@ abbrev pub firstTests : Bounds → ℕ → List Bool
 firstTests b tail = leb 1 tail ∷ leb tail sizeMost ∷ leb 1 (b .numbers) ∷ leb (b .least) tail ∷ leb tail (b .most) ∷ []
 
 abbrev pub laterTests : Bounds → ℕ → ℕ → List Bool
-laterTests b n tail = leb 1 tail ∷ leb tail (b .most) ∷ leb (suc n) (b .numbers) ∷ leb sizeLeast (largest b n tail) ∷ leb tail (largest b n tail) ∷ leb (b .least) (n * largest b n tail + tail) ∷ []
+laterTests b n tail = leb 1 tail ∷ leb tail (b .most) ∷ leb (suc n) (b .numbers) ∷ leb sizeLeast (largest b n tail)
+    ∷ leb tail (largest b n tail) ∷ leb (b .least) (n * largest b n tail + tail) ∷ []
 
 abbrev pub aloneTests : Bounds → ℕ → ℕ → List Bool
 aloneTests b zero tail = nothingTests b
@@ -107,7 +110,11 @@ addTop true n t = t
 addTop false n t = max (suc n) t
 
 abbrev pub addTo : Segment → Summary → Summary
-addTo s σ = record { top = addTop (s .last) (s .number) (σ .top); part = addPart (s .last) (s .number) (length (s .bytes)) (σ .part) }
+addTo s σ = record {
+  top = addTop (s .last) (s .number) (σ .top);
+  part =
+      addPart (s .last) (s .number) (length (s .bytes)) (σ .part);
+}
 
 abbrev pub summary : List Segment → Summary
 summary [] = record { top = 0; part = record { size = 0; end = 0; tail = 0 } }
@@ -159,7 +166,8 @@ coreOf (s ∷ ss) = coreAfter s (coreOf ss)
 
 -- what is kept of the header, top and record, and of the body suits some object and cut
 abbrev pub suitTests : ℕ → Core → ℕ → Record → ℕ → Record → List Bool
-suitTests limit c h p b q = coreFits limit c ∷ possible (boundsOf Header limit c) h p ∷ possible (boundsOf Body limit c) b q ∷ []
+suitTests limit c h p b q = coreFits limit c ∷ possible (boundsOf Header limit c) h p
+    ∷ possible (boundsOf Body limit c) b q ∷ []
 
 unfoldable pub suits : ℕ → Core → ℕ → Record → ℕ → Record → Bool
 suits limit c h p b q = all (suitTests limit c h p b q)
@@ -169,8 +177,10 @@ suitsBoth limit c σ τ = suits limit c (σ .top) (σ .part) (τ .top) (τ .part
 
 -- THE DECISION: a segment of a new number fits what is kept
 abbrev pub accepts : Part → ℕ → Core → Summary → Summary → Segment → Bool
-accepts Header limit c σ τ s = both (joins (someFull σ) (s .last) (length (s .bytes)) (σ .part)) (suitsBoth limit (coreAfter s c) (addTo s σ) τ)
-accepts Body limit c σ τ s = both (joins (someFull τ) (s .last) (length (s .bytes)) (τ .part)) (suitsBoth limit c σ (addTo s τ))
+accepts Header limit c σ τ s = both (joins (someFull σ) (s .last) (length (s .bytes)) (σ .part))
+    (suitsBoth limit (coreAfter s c) (addTo s σ) τ)
+accepts Body limit c σ τ s = both (joins (someFull τ) (s .last) (length (s .bytes)) (τ .part))
+    (suitsBoth limit c σ (addTo s τ))
 
 -- every segment of the object is in: h numbers of the header are, and b of the body, which may have none
 abbrev pub finished : Core → ℕ → Record → ℕ → Record → Bool

@@ -110,7 +110,8 @@ abbrev pub Whole : List ℕ → ℕ → List Segment → Type 0
 Whole part size segments = (s : Segment) → Sends part size s → Among s segments
 
 -- finished: every segment of the object is in
-pub record Finished {limit : ℕ} {headerSegments bodySegments : List Segment} (fit : Fits limit headerSegments bodySegments) : Type 0 where
+pub record Finished {limit : ℕ} {headerSegments bodySegments : List Segment}
+    (fit : Fits limit headerSegments bodySegments) : Type 0 where
   pub header : Whole (fit .header) (fit .headerCut) headerSegments
   pub body : Whole (fit .body) (fit .bodyCut) bodySegments
 

@@ -129,13 +129,21 @@ nameOf (One p) = Data (p .start) (p .size)
 
 unfoldable pub fieldsOf : List ℕ → Found → Found → Fields
 fieldsOf h priority name =
-    record { «body_size» = bodySize h; «header_size» = headerSize h; «content_type» = contentType h; «content_sub_type» = contentSubType h; priority = priorityOf h priority; name = nameOf name }
+    record {
+      «body_size» = bodySize h;
+      «header_size» = headerSize h;
+      «content_type» = contentType h;
+      «content_sub_type» = contentSubType h;
+      priority = priorityOf h priority;
+      name = nameOf name;
+    }
 
 -- HEADER over the whole list, and only then DUPLICATE
 unfoldable pub judged : List ℕ → Listed → Reading
 judged h broken = Refused Header
 judged h (listed ps) =
-    pick (allFit ps) (pick (twice singles ps) (Refused Duplicate) (Read (fieldsOf h (find 0x0A ps) (find 0x0C ps)))) (Refused Header)
+    pick (allFit ps) (pick (twice singles ps) (Refused Duplicate) (Read (fieldsOf h (find 0x0A ps) (find 0x0C ps))))
+    (Refused Header)
 
 -- CORE first
 unfoldable pub readHeader : List ℕ → Reading

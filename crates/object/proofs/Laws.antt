@@ -38,8 +38,12 @@ right-bits marks b e t =
     leb-true (largestOf marks) 1 (both-true (leb (largestOf marks) 1) (leb 1 (sumOf marks)) (sym e ∙ t) .0)
 
 -- the body's marks, back among all
-pub back-whole : (l m : List ℕ) → headerNumbers ≤ length l → putMid headerNumbers (length l - headerNumbers) l m ≡ take headerNumbers l ++ m
-back-whole l m h = ap (λ (r : List ℕ). take headerNumbers l ++ r) (ap (λ (r : List ℕ). m ++ r) (drop-of-length-le (drop headerNumbers l) {i = length l - headerNumbers} (rw length-drop (omega arith))) ∙ append-nil m)
+pub back-whole : (l m : List ℕ) → headerNumbers ≤ length l → putMid headerNumbers (length l - headerNumbers) l m
+    ≡ take headerNumbers l ++ m
+back-whole l m h = ap (λ (r : List ℕ). take headerNumbers l ++ r)
+    (ap (λ (r : List ℕ). m ++ r)
+    (drop-of-length-le (drop headerNumbers l) {i = length l - headerNumbers} (rw length-drop (omega arith)))
+    ∙ append-nil m)
 
 -- some mark is set exactly where the largest is 1
 largest-sum : (marks : List ℕ) → largestOf marks ≤ sumOf marks
@@ -57,4 +61,6 @@ some-largest marks h = go (ℕ-discrete (largestOf marks) 1)
   where
     go : Dec (largestOf marks ≡ 1) → eqb (largestOf marks) 1 ≡ leb 1 (sumOf marks)
     go (yes d) = rw (eq-eqb (largestOf marks) 1 d, le-leb 1 (sumOf marks) (omega (arith, largest-sum marks, d))) refl
-    go (no d) = rw (ne-eqb (largestOf marks) 1 d, lt-leb 1 (sumOf marks) (omega (arith, largest-none marks (omega (arith, h, d))))) refl
+    go (no d) = rw
+        (ne-eqb (largestOf marks) 1 d, lt-leb 1 (sumOf marks) (omega (arith, largest-none marks (omega (arith, h, d)))))
+        refl

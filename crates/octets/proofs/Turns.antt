@@ -10,7 +10,8 @@ use lib.Seq.{drop-cons}
 use Rattle.octets.specs.Octets.{both, equal, largestOf, sumOf}
 
 module _ (l : List ℕ) (i : ℕ) (h : i < length l) where
-  pub equal-turn : (m : List ℕ) → i < length m → equal (drop i l) (drop i m) ≡ both (eqb (getD l i 0) (getD m i 0)) (equal (drop (i + 1) l) (drop (i + 1) m))
+  pub equal-turn : (m : List ℕ) → i < length m → equal (drop i l) (drop i m)
+      ≡ both (eqb (getD l i 0) (getD m i 0)) (equal (drop (i + 1) l) (drop (i + 1) m))
   unfolding equal
   equal-turn m g = rw (drop-cons l i 0 h, drop-cons m i 0 g, add-one)
 

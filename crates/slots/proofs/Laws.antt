@@ -42,7 +42,8 @@ module _ (test : Slot → Bool) (slots : List Slot) (count i : ℕ) where
     first-here e = rw (one-more freeSlot slots count i b h, e)
 
     -- this one does not
-    pub first-on : test (getD slots i freeSlot) ≡ false → firstFrom test i (drop i (take count slots)) ≡ firstFrom test (i + 1) (drop (i + 1) (take count slots))
+    pub first-on : test (getD slots i freeSlot) ≡ false → firstFrom test i (drop i (take count slots))
+        ≡ firstFrom test (i + 1) (drop (i + 1) (take count slots))
     unfolding firstFrom
     first-on e = rw (one-more freeSlot slots count i b h, e, add-one)
 
@@ -69,13 +70,16 @@ module _ (w i count : ℕ) (store : List ℕ) where
   unfolding startOf
   start-none h = rw (lt-leb (i * w + count) (length store) h) refl
 
-  pub start-some : i * w + count ≤ length store → take (i * w + count - i * w) (drop (i * w) store) ≡ startOf w i count store
+  pub start-some : i * w + count ≤ length store → take (i * w + count - i * w) (drop (i * w) store)
+      ≡ startOf w i count store
   unfolding startOf
-  start-some h = let e : i * w + count - i * w ≡ count = omega arith in rw (le-leb (i * w + count) (length store) h, e) refl
+  start-some h = let e : i * w + count - i * w ≡ count = omega arith in rw (le-leb (i * w + count) (length store) h, e)
+      refl
 
 -- ---- an object that is not finished: the tag is that of another stage
 
-pub unfinished : (part : Part) (stage : Stage) (limit i : ℕ) (header body : List ℕ) → OneOf (0 ∷ 1 ∷ []) (tagOf the-type stage) → [] ≡ shownAs part stage limit i header body
+pub unfinished : (part : Part) (stage : Stage) (limit i : ℕ) (header body : List ℕ)
+    → OneOf (0 ∷ 1 ∷ []) (tagOf the-type stage) → [] ≡ shownAs part stage limit i header body
 unfinished part Free limit i header body h = refl
 unfinished part Gathering limit i header body h = refl
 unfinished part (Finished m n) limit i header body h = ⊎-elim (λ e. absurd (omega arith)) (λ e. absurd (omega arith)) h

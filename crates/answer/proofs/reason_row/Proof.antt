@@ -95,29 +95,6 @@ returns-8 c =
 
 pub reason-row-spec : {M : Type 1} → statement M
 reason-row-spec =
-    tie.close
-    (tie.spec
-    enum-told
-    entry-requires
-    enum-told-2
-    entry-requires-2
-    enum-told-3
-    entry-requires-3
-    enum-told-4
-    entry-requires-4
-    enum-told-5
-    entry-requires-5
-    enum-told-6
-    entry-requires-6
-    enum-told-7
-    entry-requires-7
-    enum-told-8
-    entry-requires-8
-    returns
-    returns-2
-    returns-3
-    returns-4
-    returns-5
-    returns-6
-    returns-7
-    returns-8)
+    tie.close (tie.spec enum-told entry-requires enum-told-2 entry-requires-2 enum-told-3 entry-requires-3 enum-told-4
+    entry-requires-4 enum-told-5 entry-requires-5 enum-told-6 entry-requires-6 enum-told-7 entry-requires-7 enum-told-8
+    entry-requires-8 returns returns-2 returns-3 returns-4 returns-5 returns-6 returns-7 returns-8)

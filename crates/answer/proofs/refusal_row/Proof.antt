@@ -84,26 +84,6 @@ returns-7 c =
 
 pub refusal-row-spec : {M : Type 1} → statement M
 refusal-row-spec =
-    tie.close
-    (tie.spec
-    enum-told
-    entry-requires
-    enum-told-2
-    entry-requires-2
-    enum-told-3
-    entry-requires-3
-    enum-told-4
-    entry-requires-4
-    enum-told-5
-    entry-requires-5
-    enum-told-6
-    entry-requires-6
-    enum-told-7
-    entry-requires-7
-    returns
-    returns-2
-    returns-3
-    returns-4
-    returns-5
-    returns-6
-    returns-7)
+    tie.close (tie.spec enum-told entry-requires enum-told-2 entry-requires-2 enum-told-3 entry-requires-3 enum-told-4
+    entry-requires-4 enum-told-5 entry-requires-5 enum-told-6 entry-requires-6 enum-told-7 entry-requires-7 returns
+    returns-2 returns-3 returns-4 returns-5 returns-6 returns-7)

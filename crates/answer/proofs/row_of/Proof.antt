@@ -91,29 +91,7 @@ returns-8 c = rw (c .before .before .answer8 .given .1) (c .reason-row .ensures)
 
 pub row-of-spec : {M : Type 1} → statement M
 row-of-spec =
-    tie.close
-    (tie.spec
-    enum-known-answer
-    entry-requires
-    enum-known-answer-2
-    entry-requires-2
-    enum-known-answer-3
-    entry-requires-3
-    enum-known-answer-4
-    entry-requires-4
-    enum-known-answer-5
-    refusal-row-requires
-    enum-known-answer-6
-    entry-requires-5
-    enum-known-answer-7
-    entry-requires-6
-    enum-known-answer-8
-    reason-row-requires
-    returns
-    returns-2
-    returns-3
-    returns-4
-    returns-5
-    returns-6
-    returns-7
-    returns-8)
+    tie.close (tie.spec enum-known-answer entry-requires enum-known-answer-2 entry-requires-2 enum-known-answer-3
+    entry-requires-3 enum-known-answer-4 entry-requires-4 enum-known-answer-5 refusal-row-requires enum-known-answer-6
+    entry-requires-5 enum-known-answer-7 entry-requires-6 enum-known-answer-8 reason-row-requires returns returns-2
+    returns-3 returns-4 returns-5 returns-6 returns-7 returns-8)

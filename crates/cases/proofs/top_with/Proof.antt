@@ -19,13 +19,28 @@ returns-2 : tie.Need-returns-2
 returns-2 c = rw (sym (c .before .before .is-there .ensures) ∙ not-false _ (c .before .if1 .left), c .if2 .taken) refl
 
 returns-3 : tie.Need-returns-3
-returns-3 c = rw (sym (c .before .before .before .before .is-there .ensures) ∙ not-false _ (c .before .before .before .if1 .left), c .before .before .if2 .left) (omega arith)
+returns-3 c =
+    rw (
+      sym (c .before .before .before .before .is-there .ensures) ∙ not-false _ (c .before .before .before .if1 .left),
+      c .before .before .if2 .left,
+    ) (omega arith)
 
 add-result : tie.Need-add-result
-add-result c = omega (arith, there-number (c .before .before .before .before .before .before .args .piece) (sym (c .before .before .before .before .before .is-there .ensures) ∙ not-false _ (c .before .before .before .before .if1 .left)))
+add-result c =
+    omega (
+      arith,
+      there-number (c .before .before .before .before .before .before .args .piece)
+          (sym (c .before .before .before .before .before .is-there .ensures)
+          ∙ not-false _ (c .before .before .before .before .if1 .left)),
+    )
 
 returns-4 : tie.Need-returns-4
-returns-4 c = rw (sym (c .before .before .before .before .before .is-there .ensures) ∙ not-false _ (c .before .before .before .before .if1 .left), c .before .before .before .if2 .left) (omega arith)
+returns-4 c =
+    rw (
+      sym (c .before .before .before .before .before .is-there .ensures)
+          ∙ not-false _ (c .before .before .before .before .if1 .left),
+      c .before .before .before .if2 .left,
+    ) (omega arith)
 
 pub top-with-spec : {M : Type 1} → statement M
 top-with-spec =

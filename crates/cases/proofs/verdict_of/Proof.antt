@@ -29,8 +29,10 @@ returns : tie.Need-returns
 unfolding verdictOf
 returns c =
     let k = c .before .before .before in
-    let e = k .kept-with2 .ensures ∙ ap (keptWith (k .before .before .before .before .args .first)) (k .before .nothing2 .ensures) in
-    rw (← e, ← (c .before .before .top-with .ensures), sym (c .before .goes-with .ensures) ∙ not-true _ (c .if1 .taken)) refl
+    let e = k .kept-with2 .ensures ∙ ap (keptWith (k .before .before .before .before .args .first))
+    (k .before .nothing2 .ensures) in
+    rw (← e, ← (c .before .before .top-with .ensures), sym (c .before .goes-with .ensures) ∙ not-true _ (c .if1 .taken))
+    refl
 
 kept-with-requires-3 : tie.Need-kept-with-requires-3
 kept-with-requires-3 c κs = search needs
@@ -70,28 +72,26 @@ returns-2 c =
     let k = g .before .before in
     let a = k .before .before .before .before .args in
     let held = k .kept-with2 .ensures ∙ ap (keptWith (a .first)) (k .before .nothing2 .ensures) in
-    let headers = k .before .before .kept-with .ensures ∙ ap (keptWith (a .header)) (k .before .before .before .nothing .ensures) in
-    rw (← held, ← headers, ← (g .before .top-with .ensures), sym (g .goes-with .ensures) ∙ not-false _ (b .before .if1 .left), ← (b .kept-with3 .ensures), ← (c .before .before .before .before .before .before .before .count-of .ensures .0), ← (c .before .before .before .before .before .before .count-of2 .ensures .0), ← (c .before .before .count-of3 .ensures .0), ← (c .before .before .before .before .before .top-with2 .ensures), ← (c .before .before .before .before .top-with3 .ensures), ← (c .before .before .before .suits .ensures), ← (c .before .finished .ensures)) (c .verdict-by .ensures)
+    let headers = k .before .before .kept-with .ensures
+    ∙ ap (keptWith (a .header)) (k .before .before .before .nothing .ensures) in
+    rw (
+      ← held,
+      ← headers,
+      ← (g .before .top-with .ensures),
+      sym (g .goes-with .ensures)
+          ∙ not-false _ (b .before .if1 .left),
+      ← (b .kept-with3 .ensures),
+      ← (c .before .before .before .before .before .before .before .count-of .ensures .0),
+      ← (c .before .before .before .before .before .before .count-of2 .ensures .0),
+      ← (c .before .before .count-of3 .ensures .0),
+      ← (c .before .before .before .before .before .top-with2 .ensures),
+      ← (c .before .before .before .before .top-with3 .ensures),
+      ← (c .before .before .before .suits .ensures),
+      ← (c .before .finished .ensures),
+    ) (c .verdict-by .ensures)
 
 pub verdict-of-spec : {M : Type 1} → statement M
 verdict-of-spec =
-    tie.close
-    (tie.spec
-    nothing-requires
-    kept-with-requires
-    nothing-requires-2
-    kept-with-requires-2
-    top-with-requires
-    goes-with-requires
-    returns
-    kept-with-requires-3
-    count-of-requires
-    count-of-requires-2
-    add-count
-    top-with-requires-2
-    top-with-requires-3
-    suits-requires
-    count-of-requires-3
-    finished-requires
-    verdict-by-requires
-    returns-2)
+    tie.close (tie.spec nothing-requires kept-with-requires nothing-requires-2 kept-with-requires-2 top-with-requires
+    goes-with-requires returns kept-with-requires-3 count-of-requires count-of-requires-2 add-count top-with-requires-2
+    top-with-requires-3 suits-requires count-of-requires-3 finished-requires verdict-by-requires returns-2)

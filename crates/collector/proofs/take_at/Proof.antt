@@ -33,12 +33,5 @@ returns c =
 
 pub take-at-spec : {M : Type 1} → statement M
 take-at-spec =
-    tie.close
-    (tie.spec
-    cast-number
-    take-into-requires
-    answer-as-requires
-    same-length
-    same-length-2
-    same-length-3
+    tie.close (tie.spec cast-number take-into-requires answer-as-requires same-length same-length-2 same-length-3
     returns)

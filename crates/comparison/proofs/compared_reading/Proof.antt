@@ -34,19 +34,13 @@ returns c =
 
 returns-2 : tie.Need-returns-2
 returns-2 c =
-    let read = sym (c .before .before .before .before .before .read .ensures) ∙ c .before .before .before .refusal .given .1 in
+    let read = sym (c .before .before .before .before .before .read .ensures)
+    ∙ c .before .before .before .refusal .given .1 in
     let field = c .before .before .before .before .before .before .before .args .field in
-    c .refusal-field .ensures ∙ ap (λ (n : ℕ). refusalField n field) (c .before .number-of .ensures) ∙ sym (ap (λ (r : Reading). fieldOf r field) read)
+    c .refusal-field .ensures ∙ ap (λ (n : ℕ). refusalField n field) (c .before .number-of .ensures)
+    ∙ sym (ap (λ (r : Reading). fieldOf r field) read)
 
 pub compared-reading-spec : {M : Type 1} → statement M
 compared-reading-spec =
-    tie.close
-    (tie.spec
-    read-requires
-    enum-known-segment
-    segment-field-requires
-    enum-known-refusal
-    number-of-requires
-    refusal-field-requires
-    returns
-    returns-2)
+    tie.close (tie.spec read-requires enum-known-segment segment-field-requires enum-known-refusal number-of-requires
+    refusal-field-requires returns returns-2)

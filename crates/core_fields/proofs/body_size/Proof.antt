@@ -37,20 +37,14 @@ add-result-3 c = search needs
 
 returns : tie.Need-returns
 unfolding bodySize
-returns c = simp (c .before .before .before .octet .ensures .0, c .before .before .octet2 .ensures .0, c .before .octet3 .ensures .0, c .octet4 .ensures .0)
+returns c = simp (
+  c .before .before .before .octet .ensures .0,
+  c .before .before .octet2 .ensures .0,
+  c .before .octet3 .ensures .0,
+  c .octet4 .ensures .0,
+)
 
 pub body-size-spec : {M : Type 1} → statement M
 body-size-spec =
-    tie.close
-    (tie.spec
-    octet-requires
-    mul-result
-    octet-requires-2
-    mul-result-2
-    add-result
-    octet-requires-3
-    mul-result-3
-    add-result-2
-    octet-requires-4
-    add-result-3
-    returns)
+    tie.close (tie.spec octet-requires mul-result octet-requires-2 mul-result-2 add-result octet-requires-3 mul-result-3
+    add-result-2 octet-requires-4 add-result-3 returns)

@@ -35,14 +35,5 @@ returns c = simp (c .before .before .octet .ensures .0, c .before .octet2 .ensur
 
 pub header-size-spec : {M : Type 1} → statement M
 header-size-spec =
-    tie.close
-    (tie.spec
-    octet-requires
-    mul-result
-    octet-requires-2
-    mul-result-2
-    add-result
-    octet-requires-3
-    add-result-2
-    cast-result
-    returns)
+    tie.close (tie.spec octet-requires mul-result octet-requires-2 mul-result-2 add-result octet-requires-3 add-result-2
+    cast-result returns)

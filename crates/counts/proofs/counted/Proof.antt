@@ -78,29 +78,6 @@ returns-8 c = search needs
 
 pub counted-spec : {M : Type 1} → statement M
 counted-spec =
-    tie.close
-    (tie.spec
-    enum-told
-    risen-requires
-    enum-told-2
-    risen-requires-2
-    risen-requires-3
-    enum-told-3
-    risen-requires-4
-    enum-told-4
-    risen-requires-5
-    enum-told-5
-    risen-requires-6
-    enum-told-6
-    risen-requires-7
-    enum-told-7
-    risen-requires-8
-    enum-told-8
-    returns
-    returns-2
-    returns-3
-    returns-4
-    returns-5
-    returns-6
-    returns-7
-    returns-8)
+    tie.close (tie.spec enum-told risen-requires enum-told-2 risen-requires-2 risen-requires-3 enum-told-3
+    risen-requires-4 enum-told-4 risen-requires-5 enum-told-5 risen-requires-6 enum-told-6 risen-requires-7 enum-told-7
+    risen-requires-8 enum-told-8 returns returns-2 returns-3 returns-4 returns-5 returns-6 returns-7 returns-8)

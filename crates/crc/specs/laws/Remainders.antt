@@ -38,16 +38,19 @@ split : (n q d : ℕ) → n ≡ q * 2 + d → d < 2 → (n / 2 ≡ q) × (n % 2 
 split n q d e h = (omega arith, omega arith)
 
 xor-split : (a b : ℕ) → (bitXor a b / 2 ≡ bitXor (a / 2) (b / 2)) × (bitXor a b % 2 ≡ differ (a % 2) (b % 2))
-xor-split a b = split (bitXor a b) (bitXor (a / 2) (b / 2)) (differ (a % 2) (b % 2)) (xor-step a b) (differ-bit (a % 2) (b % 2) (bit a) (bit b))
+xor-split a b = split (bitXor a b) (bitXor (a / 2) (b / 2)) (differ (a % 2) (b % 2)) (xor-step a b)
+    (differ-bit (a % 2) (b % 2) (bit a) (bit b))
 
 pub xor-grouped : (a b c : ℕ) → bitXor (bitXor a b) c ≡ bitXor a (bitXor b c)
 xor-grouped = bin-ind (λ (a : ℕ). (b c : ℕ) → bitXor (bitXor a b) c ≡ bitXor a (bitXor b c)) (λ b c. refl) next
   where
-    next : (a : ℕ) → ((b c : ℕ) → bitXor (bitXor (a / 2) b) c ≡ bitXor (a / 2) (bitXor b c)) → (b c : ℕ) → bitXor (bitXor a b) c ≡ bitXor a (bitXor b c)
+    next : (a : ℕ) → ((b c : ℕ) → bitXor (bitXor (a / 2) b) c ≡ bitXor (a / 2) (bitXor b c)) → (b c : ℕ)
+        → bitXor (bitXor a b) c ≡ bitXor a (bitXor b c)
     next a below b c =
         xor-step (bitXor a b) c
         ∙ ap₂ (λ (x y : ℕ). bitXor x (c / 2) * 2 + differ y (c % 2)) (xor-split a b .0) (xor-split a b .1)
-        ∙ ap₂ (λ (x y : ℕ). x * 2 + y) (below (b / 2) (c / 2)) (differ-grouped (a % 2) (b % 2) (c % 2) (bit a) (bit b) (bit c))
+        ∙ ap₂ (λ (x y : ℕ). x * 2 + y) (below (b / 2) (c / 2))
+        (differ-grouped (a % 2) (b % 2) (c % 2) (bit a) (bit b) (bit c))
         ∙ ap₂ (λ (x y : ℕ). bitXor (a / 2) x * 2 + differ (a % 2) y) (sym (xor-split b c .0)) (sym (xor-split b c .1))
         ∙ sym (xor-step a (bitXor b c))
 
@@ -98,10 +101,12 @@ unfoldable pub steps : ℕ → ℕ → ℕ
 steps zero r = r
 steps (suc count) r = steps count (step r)
 
-pub steps-linear : (count a b : ℕ) → a < 0x10000 → b < 0x10000 → steps count (bitXor a b) ≡ bitXor (steps count a) (steps count b)
+pub steps-linear : (count a b : ℕ) → a < 0x10000 → b < 0x10000 → steps count (bitXor a b)
+    ≡ bitXor (steps count a) (steps count b)
 unfolding steps
 steps-linear zero a b h g = refl
-steps-linear (suc count) a b h g = ap (steps count) (step-linear a b h g) ∙ steps-linear count (step a) (step b) (step-small a h) (step-small b g)
+steps-linear (suc count) a b h g = ap (steps count) (step-linear a b h g)
+    ∙ steps-linear count (step a) (step b) (step-small a h) (step-small b g)
 
 pub steps-small : (count r : ℕ) → r < 0x10000 → steps count r < 0x10000
 unfolding steps
@@ -134,20 +139,26 @@ bits-split count number = ap (λ (k : ℕ). number % 2 ^ k) (sym (one-add count)
 shifted-small : (low count rest whole : ℕ) → count + rest ≡ whole → low < 2 ^ count → low * 2 ^ rest < 2 ^ whole
 shifted-small low count rest whole e h = subst (λ (k : ℕ). low * 2 ^ rest < 2 ^ k) e (shl-lt count rest h)
 
-shifted-sum : (high low count rest : ℕ) → count + rest ≡ 15 → (high * 2 ^ count + low) * 2 ^ rest ≡ high * 0x8000 + low * 2 ^ rest
+shifted-sum : (high low count rest : ℕ) → count + rest ≡ 15 → (high * 2 ^ count + low) * 2 ^ rest
+    ≡ high * 0x8000 + low * 2 ^ rest
 shifted-sum high low count rest e =
     add-mul (high * 2 ^ count) low (2 ^ rest)
-    ∙ ap (λ (x : ℕ). x + low * 2 ^ rest) (mul-assoc high (2 ^ count) (2 ^ rest) ∙ ap (λ (x : ℕ). high * x) (sym (pow-add 2 count rest) ∙ ap (λ (k : ℕ). 2 ^ k) e))
+    ∙ ap (λ (x : ℕ). x + low * 2 ^ rest)
+    (mul-assoc high (2 ^ count) (2 ^ rest)
+    ∙ ap (λ (x : ℕ). high * x) (sym (pow-add 2 count rest) ∙ ap (λ (k : ℕ). 2 ^ k) e))
 
 -- `count` bits that enter one by one do what they do when they join the remainder's top at once
 pub bits-together : (count rest number remainder : ℕ) → count + rest ≡ 16 → remainder < 0x10000
     → bitsEntered count number remainder ≡ steps count (bitXor remainder (number % 2 ^ count * 2 ^ rest))
 unfolding bitsEntered entered steps
 bits-together zero rest number remainder e h =
-    sym (ap (bitXor remainder) (ap (λ (x : ℕ). x * 2 ^ rest) (mod-one number) ∙ zero-mul (2 ^ rest)) ∙ xor-zero-r remainder)
+    sym (ap (bitXor remainder) (ap (λ (x : ℕ). x * 2 ^ rest) (mod-one number) ∙ zero-mul (2 ^ rest))
+    ∙ xor-zero-r remainder)
 bits-together (suc count) rest number remainder e h =
     bits-together count (suc rest) number (step joined) (omega arith) (step-small joined joined-small)
-    ∙ ap (steps count) (sym (ap step (ap (bitXor remainder) entering ∙ sym (xor-grouped remainder (top * 0x8000) low)) ∙ step-linear joined low joined-small (omega (arith, low-small)) ∙ ap (bitXor (step joined)) low-moved))
+    ∙ ap (steps count)
+    (sym (ap step (ap (bitXor remainder) entering ∙ sym (xor-grouped remainder (top * 0x8000) low))
+    ∙ step-linear joined low joined-small (omega (arith, low-small)) ∙ ap (bitXor (step joined)) low-moved))
   where
     top : ℕ
     top = number / 2 ^ count % 2
@@ -174,14 +185,16 @@ bits-together (suc count) rest number remainder e h =
         ∙ sym (xor-shifted top 15 low low-small)
 
     low-moved : step low ≡ number % 2 ^ count * 2 ^ suc rest
-    low-moved = step-low low low-small ∙ mul-assoc (number % 2 ^ count) (2 ^ rest) 2 ∙ ap (λ (x : ℕ). number % 2 ^ count * x) (sym (pow-suc 2 rest))
+    low-moved = step-low low low-small ∙ mul-assoc (number % 2 ^ count) (2 ^ rest) 2
+        ∙ ap (λ (x : ℕ). number % 2 ^ count * x) (sym (pow-suc 2 rest))
 
 -- `count` steps, from what the bits above `rest` give by themselves and the bits below moved up
 pub high-and-low : (count rest high low : ℕ) → count + rest ≡ 16 → high < 2 ^ count → low < 2 ^ rest
     → steps count (high * 2 ^ rest + low) ≡ bitXor (steps count (high * 2 ^ rest)) (low * 2 ^ count)
 high-and-low count rest high low e h g =
     ap (steps count) (sym (xor-shifted high rest low g))
-    ∙ steps-linear count (high * 2 ^ rest) low (shifted-small high count rest 16 e h) (omega (arith, moved, at-least low (2 ^ count) (pow-pos count)))
+    ∙ steps-linear count (high * 2 ^ rest) low (shifted-small high count rest 16 e h)
+    (omega (arith, moved, at-least low (2 ^ count) (pow-pos count)))
     ∙ ap (bitXor (steps count (high * 2 ^ rest))) (steps-low count low moved)
   where
     moved : low * 2 ^ count < 0x10000
@@ -191,7 +204,8 @@ high-and-low count rest high low e h g =
 
 -- the remainder after a byte: the low byte moved up, and eight steps from the high byte that the byte has joined
 pub byte-entered : (byte remainder : ℕ) → byte < 0x100 → remainder < 0x10000
-    → bitsEntered 8 byte remainder ≡ bitXor (remainder * 0x100 % 0x10000) (steps 8 (bitXor (remainder / 0x100) byte * 0x100))
+    → bitsEntered 8 byte remainder
+    ≡ bitXor (remainder * 0x100 % 0x10000) (steps 8 (bitXor (remainder / 0x100) byte * 0x100))
 byte-entered byte remainder h g =
     bits-together 8 8 byte remainder refl g
     ∙ ap (steps 8) joined

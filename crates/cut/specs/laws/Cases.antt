@@ -62,8 +62,10 @@ SaysOf conflicts hs bs = ¬ (Fits limit hs bs)
 
 -- a case is right: what is held fits, and with the segment more it is as the verdict says
 abbrev pub Says : Case → Type 0
-Says (core bytes body header type subtype) = (bodySize bytes ≡ body) × (headerSize bytes ≡ header) × (contentType bytes ≡ type) × (contentSubType bytes ≡ subtype)
-Says (comes held kind s verdict) = Fits limit (headersIn held []) (bodiesIn held []) × SaysOf verdict (headersWith kind s (headersIn held [])) (bodiesWith kind s (bodiesIn held []))
+Says (core bytes body header type subtype) = (bodySize bytes ≡ body) × (headerSize bytes ≡ header)
+    × (contentType bytes ≡ type) × (contentSubType bytes ≡ subtype)
+Says (comes held kind s verdict) = Fits limit (headersIn held []) (bodiesIn held [])
+    × SaysOf verdict (headersWith kind s (headersIn held [])) (bodiesWith kind s (bodiesIn held []))
 
 -- ---- the table
 
@@ -114,12 +116,14 @@ areBytes (b ∷ bs) = both (leb (suc b) 256) (areBytes bs)
 
 is-new : (n : ℕ) (ss : List Segment) → isNew n ss ≡ true → ¬ (Numbered n ss)
 is-new n [] e i = i
-is-new n (s ∷ ss) e (inl i) = eqb-false (s .number) n (not-true (eqb (s .number) n) (both-true (not (eqb (s .number) n)) (isNew n ss) e .0)) i
+is-new n (s ∷ ss) e (inl i) =
+    eqb-false (s .number) n (not-true (eqb (s .number) n) (both-true (not (eqb (s .number) n)) (isNew n ss) e .0)) i
 is-new n (s ∷ ss) e (inr i) = is-new n ss (both-true (not (eqb (s .number) n)) (isNew n ss) e .1) i
 
 are-bytes : (l : List ℕ) → areBytes l ≡ true → Bytes l
 are-bytes [] e = tt
-are-bytes (b ∷ bs) e = let r = both-true (leb (suc b) 256) (areBytes bs) e in (leb-true (suc b) 256 (r .0), are-bytes bs (r .1))
+are-bytes (b ∷ bs) e = let r = both-true (leb (suc b) 256) (areBytes bs) e in
+    (leb-true (suc b) 256 (r .0), are-bytes bs (r .1))
 
 -- a segment of a new number, of bytes: the decision says whether it fits
 abbrev ready : Part → Segment → List Segment → List Segment → Bool
@@ -130,7 +134,8 @@ decided kind s hs bs = accepts kind limit (coreOf hs) (summary hs) (summary bs) 
 
 module _ (kind : Part) (s : Segment) (hs bs : List Segment) (f : Fits limit hs bs) (r : ready kind s hs bs ≡ true) where
   new : ¬ (Numbered (s .number) (those kind hs bs))
-  new = is-new (s .number) (those kind hs bs) (both-true (isNew (s .number) (those kind hs bs)) (areBytes (s .bytes)) r .0)
+  new = is-new (s .number) (those kind hs bs)
+      (both-true (isNew (s .number) (those kind hs bs)) (areBytes (s .bytes)) r .0)
 
   bytes : Bytes (s .bytes)
   bytes = are-bytes (s .bytes) (both-true (isNew (s .number) (those kind hs bs)) (areBytes (s .bytes)) r .1)
@@ -144,14 +149,18 @@ module _ (kind : Part) (s : Segment) (hs bs : List Segment) (f : Fits limit hs b
 -- segments that come one after the other
 abbrev runs : List (Part × Segment) → List Segment → List Segment → Bool
 runs [] hs bs = true
-runs (e ∷ es) hs bs = both (both (ready (e .0) (e .1) hs bs) (decided (e .0) (e .1) hs bs)) (runs es (headersWith (e .0) (e .1) hs) (bodiesWith (e .0) (e .1) bs))
+runs (e ∷ es) hs bs = both (both (ready (e .0) (e .1) hs bs) (decided (e .0) (e .1) hs bs))
+    (runs es (headersWith (e .0) (e .1) hs) (bodiesWith (e .0) (e .1) bs))
 
-held-fits : (es : List (Part × Segment)) (hs bs : List Segment) → Fits limit hs bs → runs es hs bs ≡ true → Fits limit (headersIn es hs) (bodiesIn es bs)
+held-fits : (es : List (Part × Segment)) (hs bs : List Segment) → Fits limit hs bs → runs es hs bs ≡ true
+    → Fits limit (headersIn es hs) (bodiesIn es bs)
 held-fits [] hs bs f r = f
 held-fits (e ∷ es) hs bs f r =
-    let t = both-true (both (ready (e .0) (e .1) hs bs) (decided (e .0) (e .1) hs bs)) (runs es (headersWith (e .0) (e .1) hs) (bodiesWith (e .0) (e .1) bs)) r in
+    let t = both-true (both (ready (e .0) (e .1) hs bs) (decided (e .0) (e .1) hs bs))
+    (runs es (headersWith (e .0) (e .1) hs) (bodiesWith (e .0) (e .1) bs)) r in
     let u = both-true (ready (e .0) (e .1) hs bs) (decided (e .0) (e .1) hs bs) (t .0) in
-    held-fits es (headersWith (e .0) (e .1) hs) (bodiesWith (e .0) (e .1) bs) (comes-fits (e .0) (e .1) hs bs f (u .0) (u .1)) (t .1)
+    held-fits es (headersWith (e .0) (e .1) hs) (bodiesWith (e .0) (e .1) bs)
+    (comes-fits (e .0) (e .1) hs bs f (u .0) (u .1)) (t .1)
 
 -- every number below n is in, or every one up to the last
 abbrev areIn : ℕ → List Segment → Bool
@@ -190,12 +199,17 @@ finishedAs Unseen hs bs = false
 finishedAs (Seen zero H) hs bs = areAll (summary hs .part .end) hs
 finishedAs (Seen (suc B) H) hs bs = both (areAll (summary hs .part .end) hs) (areAll (summary bs .part .end) bs)
 
-finished-as : (hs bs : List Segment) (c : Core) → coreOf hs ≡ c → finishedAs c hs bs ≡ true → (f : Fits limit hs bs) → Finished f
+finished-as : (hs bs : List Segment) (c : Core) → coreOf hs ≡ c → finishedAs c hs bs ≡ true → (f : Fits limit hs bs)
+    → Finished f
 finished-as hs bs Unseen e t f = absurd (false-true refl t)
-finished-as hs bs (Seen zero H) e t f = finished-iff limit hs bs f 0 H e .1 (are-all (summary hs .part .end) hs t, (λ h. absurd (omega arith)))
+finished-as hs bs (Seen zero H) e t f =
+    finished-iff limit hs bs f 0 H e .1 (are-all (summary hs .part .end) hs t, (λ h. absurd (omega arith)))
 finished-as hs bs (Seen (suc B) H) e t f =
     let r = both-true (areAll (summary hs .part .end) hs) (areAll (summary bs .part .end) bs) t in
-    finished-iff limit hs bs f (suc B) H e .1 (are-all (summary hs .part .end) hs (r .0), (λ h. are-all (summary bs .part .end) bs (r .1)))
+    finished-iff limit hs bs f (suc B) H e .1 (
+      are-all (summary hs .part .end) hs (r .0),
+      (λ h. are-all (summary bs .part .end) bs (r .1)),
+    )
 
 -- ---- each case
 
@@ -219,10 +233,12 @@ module _ (held : List (Part × Segment)) (kind : Part) (s : Segment) where
   judged conflicts = not verdictOf
 
   before : testsOf ≡ true → Fits limit (headersIn held []) (bodiesIn held [])
-  before t = held-fits held [] [] (nothing-fits limit (omega arith)) (both-true (runs held [] []) (ready kind s (headersIn held []) (bodiesIn held [])) t .0)
+  before t = held-fits held [] [] (nothing-fits limit (omega arith))
+      (both-true (runs held [] []) (ready kind s (headersIn held []) (bodiesIn held [])) t .0)
 
   after : testsOf ≡ true → verdictOf ≡ true → Fits limit headersOf bodiesOf
-  after t e = comes-fits kind s (headersIn held []) (bodiesIn held []) (before t) (both-true (runs held [] []) (ready kind s (headersIn held []) (bodiesIn held [])) t .1) e
+  after t e = comes-fits kind s (headersIn held []) (bodiesIn held []) (before t)
+      (both-true (runs held [] []) (ready kind s (headersIn held []) (bodiesIn held [])) t .1) e
 
   judged-says : (v : Verdict) → testsOf ≡ true → judged v ≡ true → SaysOf v headersOf bodiesOf
   judged-says fits t e = after t e
@@ -230,21 +246,30 @@ module _ (held : List (Part × Segment)) (kind : Part) (s : Segment) where
       let r = both-true verdictOf (both (leb 1 size) (eqb (sizeOf Body limit headersOf bodiesOf) size)) e in
       let q = both-true (leb 1 size) (eqb (sizeOf Body limit headersOf bodiesOf) size) (r .1) in
       let z : 1 ≤ size = leb-true 1 size (q .0) in
-      let x : sizeOf Body limit headersOf bodiesOf ≡ size = eqb-true (sizeOf Body limit headersOf bodiesOf) size (q .1) in
+      let x : sizeOf Body limit headersOf bodiesOf ≡ size = eqb-true (sizeOf Body limit headersOf bodiesOf) size
+      (q .1) in
       (after t (r .0), (λ f. sym (known-cut Body limit headersOf bodiesOf (omega arith) (λ y. omega arith) f) ∙ x))
   judged-says completes t e =
       let r = both-true verdictOf (finishedAs (coreOf headersOf) headersOf bodiesOf) e in
       (after t (r .0), (λ f. finished-as headersOf bodiesOf (coreOf headersOf) refl (r .1) f))
-  judged-says conflicts t e = comes-never kind s (headersIn held []) (bodiesIn held []) (before t) (both-true (runs held [] []) (ready kind s (headersIn held []) (bodiesIn held [])) t .1) (not-true verdictOf e)
+  judged-says conflicts t e = comes-never kind s (headersIn held []) (bodiesIn held []) (before t)
+      (both-true (runs held [] []) (ready kind s (headersIn held []) (bodiesIn held [])) t .1) (not-true verdictOf e)
 
 abbrev computed : Case → Bool
-computed (core bytes body header type subtype) = all (eqb (bodySize bytes) body ∷ eqb (headerSize bytes) header ∷ eqb (contentType bytes) type ∷ eqb (contentSubType bytes) subtype ∷ [])
+computed (core bytes body header type subtype) =
+    all (eqb (bodySize bytes) body ∷ eqb (headerSize bytes) header ∷ eqb (contentType bytes) type
+    ∷ eqb (contentSubType bytes) subtype ∷ [])
 computed (comes held kind s verdict) = both (testsOf held kind s) (judged held kind s verdict)
 
 says : (c : Case) → computed c ≡ true → Says c
 says (core bytes body header type subtype) e =
-    let r = all-true (eqb (bodySize bytes) body ∷ eqb (headerSize bytes) header ∷ eqb (contentType bytes) type ∷ eqb (contentSubType bytes) subtype ∷ []) e in
-    (eqb-true (bodySize bytes) body (r .0), eqb-true (headerSize bytes) header (r .1 .0), eqb-true (contentType bytes) type (r .1 .1 .0), eqb-true (contentSubType bytes) subtype (r .1 .1 .1 .0))
+    let r = all-true (eqb (bodySize bytes) body ∷ eqb (headerSize bytes) header ∷ eqb (contentType bytes) type
+    ∷ eqb (contentSubType bytes) subtype ∷ []) e in (
+      eqb-true (bodySize bytes) body (r .0),
+      eqb-true (headerSize bytes) header (r .1 .0),
+      eqb-true (contentType bytes) type (r .1 .1 .0),
+      eqb-true (contentSubType bytes) subtype (r .1 .1 .1 .0),
+    )
 says (comes held kind s verdict) e =
     let r = both-true (testsOf held kind s) (judged held kind s verdict) e in
     (before held kind s (r .0), judged-says held kind s verdict (r .0) (r .1))
@@ -259,5 +284,6 @@ says-all (c ∷ cs) e = let r = both-true (computed c) (computedAll cs) e in (sa
 
 -- THE STARRED CASES: each is as document 01 says
 pub starred : Each Says table
-unfolding bodySize headerSize contentType contentSubType coreBytes boundsOf coreFits room largest alone settle suits sizeOf
+unfolding bodySize headerSize contentType contentSubType coreBytes boundsOf coreFits room largest alone settle suits
+    sizeOf
 starred = says-all table refl

@@ -11,7 +11,8 @@ use Rattle.cut.specs.Lists.{Bytes}
 
 -- the core of a header of H bytes whose body has B, of type T and subtype U
 unfoldable pub coreBytes : ℕ → ℕ → ℕ → ℕ → List ℕ
-coreBytes B H T U = (B / 0x100000) ∷ (B / 0x1000 % 0x100) ∷ (B / 0x10 % 0x100) ∷ (B % 0x10 * 0x10 + H / 0x200) ∷ (H / 2 % 0x100) ∷ (H % 2 * 0x80 + T * 2 + U / 0x100) ∷ (U % 0x100) ∷ []
+coreBytes B H T U = (B / 0x100000) ∷ (B / 0x1000 % 0x100) ∷ (B / 0x10 % 0x100) ∷ (B % 0x10 * 0x10 + H / 0x200)
+    ∷ (H / 2 % 0x100) ∷ (H % 2 * 0x80 + T * 2 + U / 0x100) ∷ (U % 0x100) ∷ []
 
 low4 : (x y : ℕ) → y < 0x10 → (x * 0x10 + y) % 0x10 ≡ y
 low4 x y h = omega arith
@@ -31,7 +32,8 @@ module _ (B H T U : ℕ) (r : List ℕ) (b : B < 0x10000000) (h : H < 0x2000) (t
       let q : H / 2 / 0x100 ≡ H / 0x200 = div-div-eq-div-mul H 2 0x100 in
       let e1 : (B % 0x10 * 0x10 + H / 0x200) % 0x10 ≡ H / 0x200 = low4 (B % 0x10) (H / 0x200) (omega arith) in
       let e2 : (H % 2 * 0x80 + T * 2 + U / 0x100) / 0x80 ≡ H % 2 = omega arith in
-      let e3 : H / 0x200 * 0x200 + H / 2 % 0x100 * 2 + H % 2 ≡ H = parts H (H / 2) (H / 0x200) (H % 2) q (omega arith) in
+      let e3 : H / 0x200 * 0x200 + H / 2 % 0x100 * 2 + H % 2 ≡ H = parts H (H / 2) (H / 0x200) (H % 2) q (omega arith)
+      in
       rw (e1, e2) e3
 
   pub core-type : contentType (coreBytes B H T U ++ r) ≡ T
@@ -49,8 +51,15 @@ core-is-bytes B H T U b h t u = omega arith
 -- the fields are read off any front that has the core
 pub front-body : (n : ℕ) (h : List ℕ) → headerLeast ≤ n → bodySize (take n h) ≡ bodySize h
 unfolding bodySize
-front-body n h g = rw (getD-take n h 0 0 (omega arith), getD-take n h 1 0 (omega arith), getD-take n h 2 0 (omega arith), getD-take n h 3 0 (omega arith))
+front-body n h g =
+    rw (
+      getD-take n h 0 0 (omega arith),
+      getD-take n h 1 0 (omega arith),
+      getD-take n h 2 0 (omega arith),
+      getD-take n h 3 0 (omega arith),
+    )
 
 pub front-header : (n : ℕ) (h : List ℕ) → headerLeast ≤ n → headerSize (take n h) ≡ headerSize h
 unfolding headerSize
-front-header n h g = rw (getD-take n h 3 0 (omega arith), getD-take n h 4 0 (omega arith), getD-take n h 5 0 (omega arith))
+front-header n h g =
+    rw (getD-take n h 3 0 (omega arith), getD-take n h 4 0 (omega arith), getD-take n h 5 0 (omega arith))

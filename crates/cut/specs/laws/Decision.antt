@@ -90,7 +90,8 @@ Clear [] = Unit {0}
 Clear (s ∷ ss) = JoinsAs (s .last) (s .number) (length (s .bytes)) (summary ss) × Clear ss
 
 -- a full segment more
-top-more : (S L n k t size : ℕ) → (k ≡ S) × (suc n * S < L) → TopSits S L t size → SizeIs k t size × TopSits S L (max (suc n) t) k
+top-more : (S L n k t size : ℕ) → (k ≡ S) × (suc n * S < L) → TopSits S L t size → SizeIs k t size
+    × TopSits S L (max (suc n) t) k
 top-more S L n k zero size a b = let e : max (suc n) 0 ≡ suc n = omega arith in (tt, rw e a)
 top-more S L n k (suc t) size a b = (omega arith, go (decLe n t))
   where
@@ -98,14 +99,17 @@ top-more S L n k (suc t) size a b = (omega arith, go (decLe n t))
     go (yes h) = let e : max (suc n) (suc t) ≡ suc t = omega arith in rw e (a .0, b .1)
     go (no h) = let e : max (suc n) (suc t) ≡ suc n = omega arith in rw e a
 
-top-less : (S L n k t size : ℕ) → SizeIs k t size → TopSits S L (max (suc n) t) k → ((k ≡ S) × (suc n * S < L)) × TopSits S L t size
+top-less : (S L n k t size : ℕ) → SizeIs k t size → TopSits S L (max (suc n) t) k → ((k ≡ S) × (suc n * S < L))
+    × TopSits S L t size
 top-less S L n k zero size a b = let e : max (suc n) 0 ≡ suc n = omega arith in (rw e at b, tt)
 top-less S L n k (suc t) size a b =
     let e : max (suc n) (suc t) ≡ suc (max n t) = omega arith in
     let b' : (k ≡ S) × (suc (max n t) * S < L) = rw e at b in
     let h : n ≤ max n t = omega arith in
-    let g : t ≤ max n t = omega arith in
-    ((b' .0, omega (arith, b' .1, mul-le-mul-right S h)), (omega (arith, b' .0), omega (arith, b' .1, mul-le-mul-right S g)))
+    let g : t ≤ max n t = omega arith in (
+      (b' .0, omega (arith, b' .1, mul-le-mul-right S h)),
+      (omega (arith, b' .0), omega (arith, b' .1, mul-le-mul-right S g)),
+    )
 
 -- a last segment more
 end-same : (S L n k end tail : ℕ) → 0 < S → SitsAs true S L n k → EndSits S L end tail → EndIs n k end tail
@@ -124,13 +128,16 @@ end-less S L n k (suc m) tail i a = rw (← (i .0), ← (i .1)) a
 
 -- the summary, with one segment more
 abbrev AddSits : Bool → ℕ → ℕ → ℕ → ℕ → Summary → Type 0
-AddSits b S L n k σ = TopSits S L (addTop b n (σ .top)) (addPart b n k (σ .part) .size) × EndSits S L (addPart b n k (σ .part) .end) (addPart b n k (σ .part) .tail)
+AddSits b S L n k σ = TopSits S L (addTop b n (σ .top)) (addPart b n k (σ .part) .size)
+    × EndSits S L (addPart b n k (σ .part) .end) (addPart b n k (σ .part) .tail)
 
-add-sits : (b : Bool) (S L n k : ℕ) (σ : Summary) → 0 < S → SitsAs b S L n k → SumSits S L σ → JoinsAs b n k σ × AddSits b S L n k σ
+add-sits : (b : Bool) (S L n k : ℕ) (σ : Summary) → 0 < S → SitsAs b S L n k → SumSits S L σ → JoinsAs b n k σ
+    × AddSits b S L n k σ
 add-sits true S L n k σ z a s = (end-same S L n k (σ .part .end) (σ .part .tail) z a (s .1), (s .0, a))
 add-sits false S L n k σ z a s = let r = top-more S L n k (σ .top) (σ .part .size) a (s .0) in (r .0, (r .1, s .1))
 
-sits-add : (b : Bool) (S L n k : ℕ) (σ : Summary) → JoinsAs b n k σ → AddSits b S L n k σ → SitsAs b S L n k × SumSits S L σ
+sits-add : (b : Bool) (S L n k : ℕ) (σ : Summary) → JoinsAs b n k σ → AddSits b S L n k σ → SitsAs b S L n k
+    × SumSits S L σ
 sits-add true S L n k σ j s = (s .1, (s .0, end-less S L n k (σ .part .end) (σ .part .tail) j (s .1)))
 sits-add false S L n k σ j s = let r = top-less S L n k (σ .top) (σ .part .size) j (s .0) in (r .0, (r .1, s .1))
 
@@ -179,13 +186,16 @@ largest-most b n k S z a h =
 -- the tests pass where a size and a length suit
 module _ (b : Bounds) (S L : ℕ) (w : Within (b .least) (b .most) (b .numbers) S L) where
   alone-passes : (end tail : ℕ) → EndSits S L end tail → all (aloneTests b end tail) ≡ true
-  alone-passes zero tail e = true-all (nothingTests b) (let h : b .numbers * S ≤ b .numbers * sizeMost = mul-le-mul-left (b .numbers) (w .high) in omega (arith, le-leb, w .long, w .short, w .enough))
+  alone-passes zero tail e =
+      true-all (nothingTests b) (let h : b .numbers * S ≤ b .numbers * sizeMost =
+      mul-le-mul-left (b .numbers) (w .high) in omega (arith, le-leb, w .long, w .short, w .enough))
   alone-passes (suc zero) tail e = true-all (firstTests b tail) (
       let z : 0 * S ≡ 0 = zero-mul S in
       let n : 0 < b .numbers = below S 0 (b .numbers) (omega (arith, w .enough)) in
       omega (arith, le-leb, w .long, w .short, w .high))
   alone-passes (suc (suc n)) tail e = true-all (laterTests b (suc n) tail) (
-      let m : S ≤ largest b (suc n) tail = largest-most b (suc n) tail S (omega arith) (w .high) (omega (arith, w .short)) in
+      let m : S ≤ largest b (suc n) tail = largest-most b (suc n) tail S (omega arith) (w .high)
+      (omega (arith, w .short)) in
       let h : suc n * S ≤ suc n * largest b (suc n) tail = mul-le-mul-left (suc n) m in
       let g : suc n < b .numbers = below S (suc n) (b .numbers) (omega (arith, w .enough)) in
       omega (arith, le-leb, w .long, w .short, w .low))
@@ -194,27 +204,59 @@ module _ (b : Bounds) (S L : ℕ) (w : Within (b .least) (b .most) (b .numbers) 
   room-passes t zero tail f e = some-pick (all (openTests b S)) (min (b .numbers - 1) ((b .most - 1) / S)) t
       (true-all (openTests b S) (omega (arith, le-leb, w .long, w .short, w .low, w .high, w .enough)))
       (let n : suc t < b .numbers = below S (suc t) (b .numbers) (omega (arith, w .enough)) in
-      let g : suc t ≤ (b .most - 1) / S = le-div-iff-mul-le {k = S} {x = suc t} {y = b .most - 1} (omega (arith, w .low)) .1 (omega (arith, w .short)) in
+      let g : suc t ≤ (b .most - 1) / S = le-div-iff-mul-le {k = S} {x = suc t} {y = b .most - 1}
+      (omega (arith, w .low)) .1 (omega (arith, w .short)) in
       omega arith)
   room-passes t (suc n) tail f e = some-pick (all (endedTests b S n tail)) n t
-      (true-all (endedTests b S n tail) (let g : n < b .numbers = below S n (b .numbers) (omega (arith, w .enough)) in omega (arith, le-leb, w .long, w .short, w .low, w .high)))
+      (true-all (endedTests b S n tail) (let g : n < b .numbers = below S n (b .numbers) (omega (arith, w .enough)) in
+      omega (arith, le-leb, w .long, w .short, w .low, w .high)))
       (let h : t * S < n * S = omega arith in below S t n h)
 
-suits-possible : (b : Bounds) (top : ℕ) (p : Record) → Suits b top (p .size) (p .end) (p .tail) → possible b top p ≡ true
+suits-possible : (b : Bounds) (top : ℕ) (p : Record) → Suits b top (p .size) (p .end) (p .tail) → possible b top p
+    ≡ true
 unfolding alone room
 suits-possible b zero p s = alone-passes b (s .cut) (s .long) (s .within) (p .end) (p .tail) (s .ended)
-suits-possible b (suc t) p s = le-leb (suc t) (roomAs b (p .size) (p .end) (p .tail)) (rw (s .full .0) (room-passes b (s .cut) (s .long) (s .within) t (p .end) (p .tail) (s .full .1) (s .ended)))
+suits-possible b (suc t) p s = le-leb (suc t) (roomAs b (p .size) (p .end) (p .tail))
+    (rw (s .full .0) (room-passes b (s .cut) (s .long) (s .within) t (p .end) (p .tail) (s .full .1) (s .ended)))
 
 -- where they pass, a size and a length suit
 alone-suits : (b : Bounds) (size end tail : ℕ) → all (aloneTests b end tail) ≡ true → Suits b 0 size end tail
 alone-suits b size zero tail e =
     let r = all-true (nothingTests b) e in
-    record { cut = sizeMost; long = b .least; within = record { long = omega arith; short = omega (arith, leb-true); low = omega arith; high = omega arith; enough = omega (arith, leb-true) }; full = tt; ended = tt }
+    record {
+      cut = sizeMost;
+      long = b .least;
+      within =
+          record {
+            long = omega arith;
+            short = omega (arith, leb-true);
+            low = omega arith;
+            high = omega arith;
+            enough =
+                omega (arith, leb-true);
+          };
+      full = tt;
+      ended = tt;
+    }
 alone-suits b size (suc zero) tail e =
     let r = all-true (firstTests b tail) e in
     let z : 0 * sizeMost ≡ 0 = zero-mul sizeMost in
     let n : 1 ≤ b .numbers = omega (arith, leb-true) in
-    record { cut = sizeMost; long = tail; within = record { long = omega (arith, leb-true); short = omega (arith, leb-true); low = omega arith; high = omega arith; enough = omega (arith, leb-true, mul-le-mul-right sizeMost n) }; full = tt; ended = (omega arith, omega (arith, leb-true), omega (arith, leb-true)) }
+    record {
+      cut = sizeMost;
+      long = tail;
+      within =
+          record {
+            long = omega (arith, leb-true);
+            short = omega (arith, leb-true);
+            low = omega arith;
+            high = omega arith;
+            enough = omega (arith, leb-true, mul-le-mul-right sizeMost n);
+          };
+      full = tt;
+      ended =
+          (omega arith, omega (arith, leb-true), omega (arith, leb-true));
+    }
 alone-suits b size (suc (suc n)) tail e =
     let r = all-true (laterTests b (suc n) tail) e in
     let h = largest-high b (suc n) tail in
@@ -222,7 +264,15 @@ alone-suits b size (suc (suc n)) tail e =
     record {
       cut = largest b (suc n) tail;
       long = suc n * largest b (suc n) tail + tail;
-      within = record { long = omega (arith, leb-true); short = omega (arith, leb-true, h .1); low = omega (arith, leb-true); high = h .0; enough = omega (arith, leb-true, mul-le-mul-right (largest b (suc n) tail) g) };
+      within = record {
+        long = omega (arith, leb-true);
+        short = omega (arith, leb-true, h .1);
+        low =
+            omega (arith, leb-true);
+        high = h .0;
+        enough =
+            omega (arith, leb-true, mul-le-mul-right (largest b (suc n) tail) g);
+      };
       full = tt;
       ended = (refl, omega (arith, leb-true), omega (arith, leb-true));
     }
@@ -238,7 +288,14 @@ room-suits b t size zero tail h =
     record {
       cut = size;
       long = max (b .least) (suc (suc t * size));
-      within = record { long = omega arith; short = omega (arith, leb-true); low = omega (arith, leb-true); high = omega (arith, leb-true); enough = omega (arith, leb-true, mul-le-mul-right size n) };
+      within = record {
+        long = omega arith;
+        short = omega (arith, leb-true);
+        low = omega (arith, leb-true);
+        high =
+            omega (arith, leb-true);
+        enough = omega (arith, leb-true, mul-le-mul-right size n);
+      };
       full = (refl, omega arith);
       ended = tt;
     }
@@ -249,28 +306,48 @@ room-suits b t size (suc n) tail h =
     record {
       cut = size;
       long = n * size + tail;
-      within = record { long = omega (arith, leb-true); short = omega (arith, leb-true); low = omega (arith, leb-true); high = omega (arith, leb-true); enough = omega (arith, leb-true, mul-le-mul-right size g) };
+      within = record {
+        long = omega (arith, leb-true);
+        short = omega (arith, leb-true);
+        low = omega (arith, leb-true);
+        high = omega (arith, leb-true);
+        enough = omega (arith, leb-true, mul-le-mul-right size g);
+      };
       full = (refl, omega (arith, leb-true, mul-le-mul-right size (p .1)));
       ended = (refl, omega (arith, leb-true), omega (arith, leb-true));
     }
 
-possible-suits : (b : Bounds) (top : ℕ) (p : Record) → possible b top p ≡ true → Suits b top (p .size) (p .end) (p .tail)
+possible-suits : (b : Bounds) (top : ℕ) (p : Record) → possible b top p ≡ true
+    → Suits b top (p .size) (p .end) (p .tail)
 unfolding alone room
 possible-suits b zero p e = alone-suits b (p .size) (p .end) (p .tail) e
-possible-suits b (suc t) p e = room-suits b t (p .size) (p .end) (p .tail) (leb-true (suc t) (roomAs b (p .size) (p .end) (p .tail)) e)
+possible-suits b (suc t) p e = room-suits b t (p .size) (p .end) (p .tail)
+    (leb-true (suc t) (roomAs b (p .size) (p .end) (p .tail)) e)
 
 -- THE TESTS pass exactly when some size and length within the bounds suit what is kept
-pub possible-iff : (b : Bounds) (top : ℕ) (p : Record) → (possible b top p ≡ true) ↔ Suits b top (p .size) (p .end) (p .tail)
+pub possible-iff : (b : Bounds) (top : ℕ) (p : Record) → (possible b top p ≡ true)
+    ↔ Suits b top (p .size) (p .end) (p .tail)
 possible-iff b top p = (possible-suits b top p, suits-possible b top p)
 
 -- ---- one part
 
-pub sits-possible : (b : Bounds) (ss : List Segment) → PartSits (b .least) (b .most) (b .numbers) ss → Clear ss × (possible b (summary ss .top) (summary ss .part) ≡ true)
+pub sits-possible : (b : Bounds) (ss : List Segment) → PartSits (b .least) (b .most) (b .numbers) ss → Clear ss
+    × (possible b (summary ss .top) (summary ss .part) ≡ true)
 sits-possible b ss f =
-    let r = sits-sum (f .size) (f .long) ss (omega (arith, f .within .low)) (f .sits) in
-    (r .0, suits-possible b (summary ss .top) (summary ss .part) (record { cut = f .size; long = f .long; within = f .within; full = r .1 .0; ended = r .1 .1 }))
+    let r = sits-sum (f .size) (f .long) ss (omega (arith, f .within .low)) (f .sits) in (
+      r .0,
+      suits-possible b (summary ss .top) (summary ss .part)
+          (record { cut = f .size; long = f .long; within = f .within; full = r .1 .0; ended = r .1 .1 }),
+    )
 
-pub possible-sits : (b : Bounds) (ss : List Segment) → Clear ss → possible b (summary ss .top) (summary ss .part) ≡ true → PartSits (b .least) (b .most) (b .numbers) ss
+pub possible-sits : (b : Bounds) (ss : List Segment) → Clear ss → possible b (summary ss .top) (summary ss .part) ≡ true
+    → PartSits (b .least) (b .most) (b .numbers) ss
 possible-sits b ss c e =
     let r = possible-suits b (summary ss .top) (summary ss .part) e in
-    record { size = r .cut; long = r .long; within = r .within; sits = sum-sits (r .cut) (r .long) ss c (r .full, r .ended) }
+    record {
+      size = r .cut;
+      long = r .long;
+      within = r .within;
+      sits =
+          sum-sits (r .cut) (r .long) ss c (r .full, r .ended);
+    }

@@ -30,23 +30,27 @@ segmentOf xs S n = record { number = n; last = leb (length xs) (suc n * S); byte
 pub segment-sent : (xs : List ℕ) (S n : ℕ) → n * S < length xs → Sends xs S (segmentOf xs S n)
 segment-sent xs S n h = record { starts = h; holds = refl; ends = refl }
 
-pub whole-numbers : (xs : List ℕ) (S : ℕ) (ss : List Segment) → Each (Sends xs S) ss → Whole xs S ss ↔ ((n : ℕ) → n * S < length xs → Numbered n ss)
+pub whole-numbers : (xs : List ℕ) (S : ℕ) (ss : List Segment) → Each (Sends xs S) ss → Whole xs S ss
+    ↔ ((n : ℕ) → n * S < length xs → Numbered n ss)
 whole-numbers xs S ss t = (
   (λ w n h. among-numbered (segmentOf xs S n) ss (w (segmentOf xs S n) (segment-sent xs S n h))),
   (λ w s u.
       let r = numbered-among (s .number) ss (w (s .number) (u .starts)) in
-      let e : r .0 ≡ s = same-is (r .0) s (sends-same xs S (r .0) s (each-among (Sends xs S) (r .0) ss t (r .1)) u) (r .2) in
+      let e : r .0 ≡ s = same-is (r .0) s (sends-same xs S (r .0) s (each-among (Sends xs S) (r .0) ss t (r .1)) u)
+      (r .2) in
       subst (λ (x : Segment). Among x ss) e (r .1)),
 )
 
 -- ---- every number is in: the last one's, and all below it
 
 -- a last segment is in: the record has its number
-last-step : (b : Bool) (s : Segment) (p : ℕ) (σ : Summary) → s .last ≡ b → (n : ℕ) × (σ .part .end ≡ suc n) → (n : ℕ) × (addPart b (s .number) p (σ .part) .end ≡ suc n)
+last-step : (b : Bool) (s : Segment) (p : ℕ) (σ : Summary) → s .last ≡ b → (n : ℕ) × (σ .part .end ≡ suc n) → (n : ℕ)
+    × (addPart b (s .number) p (σ .part) .end ≡ suc n)
 last-step true s p σ e r = (s .number, refl)
 last-step false s p σ e r = r
 
-pub last-in : (s : Segment) (ss : List Segment) → Among s ss → s .last ≡ true → (n : ℕ) × (summary ss .part .end ≡ suc n)
+pub last-in : (s : Segment) (ss : List Segment) → Among s ss → s .last ≡ true → (n : ℕ)
+    × (summary ss .part .end ≡ suc n)
 last-in s [] i e = absurd i
 last-in s (t ∷ ss) (inl i) e = let f : t .last ≡ true = ap (λ (x : Segment). x .last) i ∙ e in rw f (t .number, refl)
 last-in s (t ∷ ss) (inr i) e = last-step (t .last) t (length (t .bytes)) (summary ss) refl (last-in s ss i e)
@@ -74,7 +78,8 @@ module _ (xs : List ℕ) (S : ℕ) (ss : List Segment) (z : 0 < S) (t : Each (Se
       let e : r .0 .number * S ≡ (length xs - 1) / S * S = ap (λ (n : ℕ). n * S) (r .2) in
       last-in (r .0) ss (r .1) (u .ends ∙ le-leb (length xs) (suc (r .0 .number) * S) (omega arith))
 
-  counted-as : (end tail : ℕ) → summary ss .part .end ≡ end → EndSits S (length xs) end tail → 0 < length xs → ((n : ℕ) → n * S < length xs → Numbered n ss) ↔ Counted end ss
+  counted-as : (end tail : ℕ) → summary ss .part .end ≡ end → EndSits S (length xs) end tail → 0 < length xs
+      → ((n : ℕ) → n * S < length xs → Numbered n ss) ↔ Counted end ss
   counted-as zero tail e q h = (
     (λ w.
         let d : (length xs - 1) / S * S + (length xs - 1) % S ≡ length xs - 1 = div-add-mod' (length xs - 1) S in
@@ -100,12 +105,15 @@ whole-empty xs S ss e s u = absurd (omega (arith, u .starts))
 
 -- ---- joined
 
-bytes-step : (b : Bool) (n : ℕ) (s : Segment) (ss : List Segment) (xs : List ℕ) (S : ℕ) → eqb (s .number) n ≡ b → Sends xs S s → (Numbered n ss → bytesOf n ss ≡ take S (drop (n * S) xs)) → Numbered n (s ∷ ss) → pick b (s .bytes) (bytesOf n ss) ≡ take S (drop (n * S) xs)
+bytes-step : (b : Bool) (n : ℕ) (s : Segment) (ss : List Segment) (xs : List ℕ) (S : ℕ) → eqb (s .number) n ≡ b
+    → Sends xs S s → (Numbered n ss → bytesOf n ss ≡ take S (drop (n * S) xs)) → Numbered n (s ∷ ss)
+    → pick b (s .bytes) (bytesOf n ss) ≡ take S (drop (n * S) xs)
 bytes-step true n s ss xs S e u r i = u .holds ∙ ap (λ (m : ℕ). take S (drop (m * S) xs)) (eqb-true (s .number) n e)
 bytes-step false n s ss xs S e u r (inl i) = absurd (eqb-false (s .number) n e i)
 bytes-step false n s ss xs S e u r (inr i) = r i
 
-bytes-in : (n : ℕ) (ss : List Segment) (xs : List ℕ) (S : ℕ) → Each (Sends xs S) ss → Numbered n ss → bytesOf n ss ≡ take S (drop (n * S) xs)
+bytes-in : (n : ℕ) (ss : List Segment) (xs : List ℕ) (S : ℕ) → Each (Sends xs S) ss → Numbered n ss → bytesOf n ss
+    ≡ take S (drop (n * S) xs)
 bytes-in n [] xs S t i = absurd i
 bytes-in n (s ∷ ss) xs S t i = bytes-step (eqb (s .number) n) n s ss xs S refl (t .0) (bytes-in n ss xs S (t .1)) i
 
@@ -113,7 +121,8 @@ bytes-out : (n : ℕ) (ss : List Segment) → ¬ (Numbered n ss) → bytesOf n s
 bytes-out n [] h = refl
 bytes-out n (s ∷ ss) h = rw (ne-eqb (s .number) n (λ e. h (inl e))) (bytes-out n ss (λ i. h (inr i)))
 
-numbered-starts : (n : ℕ) (ss : List Segment) (xs : List ℕ) (S : ℕ) → Each (Sends xs S) ss → Numbered n ss → n * S < length xs
+numbered-starts : (n : ℕ) (ss : List Segment) (xs : List ℕ) (S : ℕ) → Each (Sends xs S) ss → Numbered n ss
+    → n * S < length xs
 numbered-starts n ss xs S t i =
     let r = numbered-among n ss i in
     let u : Sends xs S (r .0) = each-among (Sends xs S) (r .0) ss t (r .1) in
@@ -125,7 +134,8 @@ module _ (xs : List ℕ) (S : ℕ) (ss : List Segment) (t : Each (Sends xs S) ss
     where
       go : Dec (n * S < length xs) → bytesOf n ss ≡ take S (drop (n * S) xs)
       go (yes h) = bytes-in n ss xs S t (whole-numbers xs S ss t .0 w n h)
-      go (no h) = bytes-out n ss (λ i. h (numbered-starts n ss xs S t i)) ∙ sym (ap (take S) (drop-of-length-le xs {i = n * S} (omega arith)) ∙ take-nil S)
+      go (no h) = bytes-out n ss (λ i. h (numbered-starts n ss xs S t i))
+          ∙ sym (ap (take S) (drop-of-length-le xs {i = n * S} (omega arith)) ∙ take-nil S)
 
   joined-front : (n : ℕ) → joined n ss ≡ take (n * S) xs
   unfolding joined
@@ -160,7 +170,10 @@ module _ (limit : ℕ) (hs bs : List Segment) (f : Fits limit hs bs) where
   finished-core w = go (coreOf hs) refl (core-is (f .header) (f .headerCut) hs (f .headerCuts .low) (f .headerSent))
     where
       go : (c : Core) → coreOf hs ≡ c → CoreIs (f .header) c → c ≡ Seen (length (f .body)) (length (f .header))
-      go Unseen e i = absurd (core-positive hs (core-unseen hs e) (whole-numbers (f .header) (f .headerCut) hs (f .headerSent) .0 (w .header) 0 (omega (arith, zero-mul (f .headerCut), header-some))))
+      go Unseen e i =
+          absurd (core-positive hs (core-unseen hs e)
+          (whole-numbers (f .header) (f .headerCut) hs (f .headerSent) .0 (w .header) 0
+          (omega (arith, zero-mul (f .headerCut), header-some))))
       go (Seen B H) e i =
           let b : B ≡ length (f .body) = i .0 ∙ f .object .saysBody in
           let h : H ≡ length (f .header) = i .1 ∙ f .object .saysHeader in
@@ -174,18 +187,28 @@ module _ (limit : ℕ) (hs bs : List Segment) (f : Fits limit hs bs) where
   )
 
   -- whether it is finished, by what is kept: the lengths that segment 0 says, and the numbers that are in
-  pub finished-iff : (B H : ℕ) → coreOf hs ≡ Seen B H → Finished f ↔ (Counted (summary hs .part .end) hs × ((0 < B) → Counted (summary bs .part .end) bs))
+  pub finished-iff : (B H : ℕ) → coreOf hs ≡ Seen B H → Finished f
+      ↔ (Counted (summary hs .part .end) hs × ((0 < B) → Counted (summary bs .part .end) bs))
   finished-iff B H e = (
-    (λ w. (whole-counted (f .header) (f .headerCut) hs header-cut (f .headerSent) header-some .0 (w .header), (λ h. whole-counted (f .body) (f .bodyCut) bs body-cut (f .bodySent) (omega (arith, b)) .0 (w .body)))),
-    (λ w. record { header = whole-counted (f .header) (f .headerCut) hs header-cut (f .headerSent) header-some .1 (w .0); body = body (ℕ-discrete B 0) (w .1) }),
+    (λ w. (
+      whole-counted (f .header) (f .headerCut) hs header-cut (f .headerSent) header-some .0 (w .header),
+      (λ h. whole-counted (f .body) (f .bodyCut) bs body-cut (f .bodySent) (omega (arith, b)) .0 (w .body)),
+    )),
+    (λ w. record {
+      header = whole-counted (f .header) (f .headerCut) hs header-cut (f .headerSent) header-some .1
+          (w .0);
+      body = body (ℕ-discrete B 0) (w .1);
+    }),
   )
     where
       b : B ≡ length (f .body)
-      b = (rw e at (core-is (f .header) (f .headerCut) hs (f .headerCuts .low) (f .headerSent))) .0 ∙ f .object .saysBody
+      b = (rw e at (core-is (f .header) (f .headerCut) hs (f .headerCuts .low) (f .headerSent))) .0
+          ∙ f .object .saysBody
 
       body : Dec (B ≡ 0) → ((0 < B) → Counted (summary bs .part .end) bs) → Whole (f .body) (f .bodyCut) bs
       body (yes z) w = whole-empty (f .body) (f .bodyCut) bs (omega (arith, b))
-      body (no z) w = whole-counted (f .body) (f .bodyCut) bs body-cut (f .bodySent) (omega (arith, b)) .1 (w (omega arith))
+      body (no z) w = whole-counted (f .body) (f .bodyCut) bs body-cut (f .bodySent) (omega (arith, b)) .1
+          (w (omega arith))
 
 -- finished is finished, whichever object and cut it is asked of
 pub finished-every : (limit : ℕ) (hs bs : List Segment) (f g : Fits limit hs bs) → Finished f → Finished g
@@ -195,7 +218,8 @@ finished-every limit hs bs f g w =
     finished-iff limit hs bs g (length (f .body)) (length (f .header)) c .1 r
 
 -- THE ONLY ONE: once it is finished, every object that fits is this one
-pub finished-one : (limit : ℕ) (hs bs : List Segment) (f g : Fits limit hs bs) → Finished f → (g .header ≡ f .header) × (g .body ≡ f .body)
+pub finished-one : (limit : ℕ) (hs bs : List Segment) (f g : Fits limit hs bs) → Finished f → (g .header ≡ f .header)
+    × (g .body ≡ f .body)
 finished-one limit hs bs f g w =
     let a = finished-joined limit hs bs f w in
     let b = finished-joined limit hs bs g (finished-every limit hs bs f g w) in

@@ -16,11 +16,13 @@ pub each-map : {A : Type 0} {P Q : A → Type 0} → ((x : A) → P x → Q x) �
 each-map f [] t = tt
 each-map f (x ∷ xs) t = (f x (t .0), each-map f xs (t .1))
 
-pub each-zip : {A : Type 0} {P Q R : A → Type 0} → ((x : A) → P x → Q x → R x) → (xs : List A) → Each P xs → Each Q xs → Each R xs
+pub each-zip : {A : Type 0} {P Q R : A → Type 0} → ((x : A) → P x → Q x → R x) → (xs : List A) → Each P xs → Each Q xs
+    → Each R xs
 each-zip f [] t u = tt
 each-zip f (x ∷ xs) t u = (f x (t .0) (u .0), each-zip f xs (t .1) (u .1))
 
-pub each-zip3 : {A : Type 0} {P Q R W : A → Type 0} → ((x : A) → P x → Q x → R x → W x) → (xs : List A) → Each P xs → Each Q xs → Each R xs → Each W xs
+pub each-zip3 : {A : Type 0} {P Q R W : A → Type 0} → ((x : A) → P x → Q x → R x → W x) → (xs : List A) → Each P xs
+    → Each Q xs → Each R xs → Each W xs
 each-zip3 f [] t u v = tt
 each-zip3 f (x ∷ xs) t u v = (f x (t .0) (u .0) (v .0), each-zip3 f xs (t .1) (u .1) (v .1))
 
@@ -75,4 +77,5 @@ drop-take j n l h = rw take-add (drop-at (take j l) (take n (drop j l)) j (take-
 
 pub over-bytes : (l : List ℕ) (i : ℕ) (vs : List ℕ) → Bytes l → Bytes vs → Bytes (over l i vs)
 unfolding over
-over-bytes l i vs a b = bytes-append (take i l ++ vs) (drop (i + length vs) l) (bytes-append (take i l) vs (bytes-take i l a) b) (bytes-drop (i + length vs) l a)
+over-bytes l i vs a b = bytes-append (take i l ++ vs) (drop (i + length vs) l)
+    (bytes-append (take i l) vs (bytes-take i l a) b) (bytes-drop (i + length vs) l a)

@@ -30,12 +30,15 @@ abbrev pub CoreIs : List ℕ → Core → Type 0
 CoreIs xs Unseen = Unit {0}
 CoreIs xs (Seen B H) = (B ≡ bodySize xs) × (H ≡ headerSize xs)
 
-sent-core : (xs : List ℕ) (S : ℕ) (s : Segment) → sizeLeast ≤ S → Sends xs S s → s .number ≡ 0 → (bodySize (s .bytes) ≡ bodySize xs) × (headerSize (s .bytes) ≡ headerSize xs)
+sent-core : (xs : List ℕ) (S : ℕ) (s : Segment) → sizeLeast ≤ S → Sends xs S s → s .number ≡ 0
+    → (bodySize (s .bytes) ≡ bodySize xs) × (headerSize (s .bytes) ≡ headerSize xs)
 sent-core xs S s g t e =
-    let f : s .bytes ≡ take S xs = t .holds ∙ ap (λ (n : ℕ). take S (drop n xs)) (ap (λ (n : ℕ). n * S) e ∙ zero-mul S) in
+    let f : s .bytes ≡ take S xs = t .holds ∙ ap (λ (n : ℕ). take S (drop n xs)) (ap (λ (n : ℕ). n * S) e ∙ zero-mul S)
+    in
     (ap bodySize f ∙ front-body S xs (omega arith), ap headerSize f ∙ front-header S xs (omega arith))
 
-core-step : (xs : List ℕ) (S : ℕ) (s : Segment) (c : Core) → sizeLeast ≤ S → Sends xs S s → CoreIs xs c → (b : Bool) → eqb (s .number) 0 ≡ b → CoreIs xs (pick b (Seen (bodySize (s .bytes)) (headerSize (s .bytes))) c)
+core-step : (xs : List ℕ) (S : ℕ) (s : Segment) (c : Core) → sizeLeast ≤ S → Sends xs S s → CoreIs xs c → (b : Bool)
+    → eqb (s .number) 0 ≡ b → CoreIs xs (pick b (Seen (bodySize (s .bytes)) (headerSize (s .bytes))) c)
 core-step xs S s c g t r true e = sent-core xs S s g t (eqb-true (s .number) 0 e)
 core-step xs S s c g t r false e = r
 
@@ -51,7 +54,8 @@ unseen-step n B H c false e f = let h : ¬ (n ≡ 0) = eqb-false n 0 e in (omega
 pub core-unseen : (ss : List Segment) → coreOf ss ≡ Unseen → Each (λ s. 0 < s .number) ss
 core-unseen [] e = tt
 core-unseen (s ∷ ss) e =
-    let r = unseen-step (s .number) (bodySize (s .bytes)) (headerSize (s .bytes)) (coreOf ss) (eqb (s .number) 0) refl e in
+    let r = unseen-step (s .number) (bodySize (s .bytes)) (headerSize (s .bytes)) (coreOf ss) (eqb (s .number) 0) refl e
+    in
     (r .0, core-unseen ss (r .1))
 
 -- ---- an object's segments pass the tests
@@ -68,7 +72,8 @@ pub record Passes (limit : ℕ) (hs bs : List Segment) : Type 0 where
 abbrev pub WithinOf : Bounds → ℕ → ℕ → Type 0
 WithinOf b S L = Within (b .least) (b .most) (b .numbers) S L
 
-within-of : (b : Bounds) (S : ℕ) (xs : List ℕ) → b .least ≤ length xs → length xs ≤ b .most → IsCut (b .numbers) S xs → WithinOf b S (length xs)
+within-of : (b : Bounds) (S : ℕ) (xs : List ℕ) → b .least ≤ length xs → length xs ≤ b .most → IsCut (b .numbers) S xs
+    → WithinOf b S (length xs)
 within-of b S xs l m c = record { long = l; short = m; low = c .low; high = c .high; enough = c .enough }
 
 -- the object is within the bounds of each part, whatever its header has said so far
@@ -76,12 +81,18 @@ module _ (limit : ℕ) (hs bs : List Segment) (f : Fits limit hs bs) where
   o : IsObject limit (f .header) (f .body)
   o = f .object
 
-  within-as : (kind : Part) (c : Core) → CoreIs (f .header) c → WithinOf (boundsOf kind limit c) (cutOf kind f) (length (partOf kind f))
+  within-as : (kind : Part) (c : Core) → CoreIs (f .header) c → WithinOf (boundsOf kind limit c) (cutOf kind f)
+      (length (partOf kind f))
   unfolding boundsOf
-  within-as Header Unseen i = within-of (boundsOf Header limit Unseen) (f .headerCut) (f .header) (o .headerLow) (o .headerHigh) (f .headerCuts)
-  within-as Header (Seen B H) i = let h : H ≡ length (f .header) = i .1 ∙ o .saysHeader in within-of (boundsOf Header limit (Seen B H)) (f .headerCut) (f .header) (omega arith) (omega arith) (f .headerCuts)
-  within-as Body Unseen i = within-of (boundsOf Body limit Unseen) (f .bodyCut) (f .body) (omega arith) (o .bodyHigh) (f .bodyCuts)
-  within-as Body (Seen B H) i = let h : B ≡ length (f .body) = i .0 ∙ o .saysBody in within-of (boundsOf Body limit (Seen B H)) (f .bodyCut) (f .body) (omega arith) (omega arith) (f .bodyCuts)
+  within-as Header Unseen i = within-of (boundsOf Header limit Unseen) (f .headerCut) (f .header) (o .headerLow)
+      (o .headerHigh) (f .headerCuts)
+  within-as Header (Seen B H) i = let h : H ≡ length (f .header) = i .1 ∙ o .saysHeader in
+      within-of (boundsOf Header limit (Seen B H)) (f .headerCut) (f .header) (omega arith) (omega arith)
+      (f .headerCuts)
+  within-as Body Unseen i = within-of (boundsOf Body limit Unseen) (f .bodyCut) (f .body) (omega arith) (o .bodyHigh)
+      (f .bodyCuts)
+  within-as Body (Seen B H) i = let h : B ≡ length (f .body) = i .0 ∙ o .saysBody in
+      within-of (boundsOf Body limit (Seen B H)) (f .bodyCut) (f .body) (omega arith) (omega arith) (f .bodyCuts)
 
   core-now : CoreIs (f .header) (coreOf hs)
   core-now = core-is (f .header) (f .headerCut) hs (f .headerCuts .low) (f .headerSent)
@@ -93,8 +104,11 @@ module _ (limit : ℕ) (hs bs : List Segment) (f : Fits limit hs bs) where
   fits-sits Header = each-map (λ s u. sends-sits (f .header) (f .headerCut) s u) hs (f .headerSent)
   fits-sits Body = each-map (λ s u. sends-sits (f .body) (f .bodyCut) s u) bs (f .bodySent)
 
-  fits-possible : (kind : Part) → Clear (those kind hs bs) × (possible (boundsOf kind limit (coreOf hs)) (summary (those kind hs bs) .top) (summary (those kind hs bs) .part) ≡ true)
-  fits-possible kind = sits-possible (boundsOf kind limit (coreOf hs)) (those kind hs bs) (record { size = cutOf kind f; long = length (partOf kind f); within = fits-within kind; sits = fits-sits kind })
+  fits-possible : (kind : Part) → Clear (those kind hs bs)
+      × (possible (boundsOf kind limit (coreOf hs)) (summary (those kind hs bs) .top) (summary (those kind hs bs) .part)
+      ≡ true)
+  fits-possible kind = sits-possible (boundsOf kind limit (coreOf hs)) (those kind hs bs)
+      (record { size = cutOf kind f; long = length (partOf kind f); within = fits-within kind; sits = fits-sits kind })
 
   core-sits : (c : Core) → CoreIs (f .header) c → coreFits limit c ≡ true
   unfolding coreFits
@@ -114,7 +128,8 @@ module _ (limit : ℕ) (hs bs : List Segment) (f : Fits limit hs bs) where
     headerClear = fits-possible Header .0;
     bodyAgree = sends-agree (f .body) (f .bodyCut) bs (f .bodySent);
     bodyClear = fits-possible Body .0;
-    suit = true-all (suitTests limit (coreOf hs) (summary hs .top) (summary hs .part) (summary bs .top) (summary bs .part))
+    suit = true-all (suitTests limit (coreOf hs) (summary hs .top) (summary hs .part) (summary bs .top)
+        (summary bs .part))
         (fits-core, (fits-possible Header .1, (fits-possible Body .1, tt)));
   }
 
@@ -134,7 +149,8 @@ abbrev pub FitsAt : ℕ → List Segment → List Segment → ℕ → ℕ → Ty
 FitsAt limit hs bs S T = (f : Fits limit hs bs) × (f .headerCut ≡ S) × (f .bodyCut ≡ T)
 
 -- both sizes are known: each part alone, of its length
-fits-seen : (limit B H : ℕ) (hs bs : List Segment) → coreOf hs ≡ Seen B H → headerLeast ≤ H → H ≤ headerMost → B ≤ limit → (f : PartFits H H headerNumbers hs) (g : PartFits B B bodyNumbers bs) → FitsAt limit hs bs (f .size) (g .size)
+fits-seen : (limit B H : ℕ) (hs bs : List Segment) → coreOf hs ≡ Seen B H → headerLeast ≤ H → H ≤ headerMost → B ≤ limit
+    → (f : PartFits H H headerNumbers hs) (g : PartFits B B bodyNumbers bs) → FitsAt limit hs bs (f .size) (g .size)
 fits-seen limit B H hs bs e a b c f g =
     let i : CoreIs (f .part) (Seen B H) = rw e at (core-is (f .part) (f .size) hs (f .within .low) (f .sent)) in
     let l : length (f .part) ≡ H = omega (arith, f .within .long, f .within .short) in
@@ -142,7 +158,16 @@ fits-seen limit B H hs bs e a b c f g =
       record {
         header = f .part;
         body = g .part;
-        object = record { headerLow = omega arith; headerHigh = omega arith; bodyHigh = omega arith; headerBytes = f .isBytes; bodyBytes = g .isBytes; saysBody = sym (i .0) ∙ sym m; saysHeader = sym (i .1) ∙ sym l };
+        object = record {
+          headerLow = omega arith;
+          headerHigh = omega arith;
+          bodyHigh = omega arith;
+          headerBytes =
+              f .isBytes;
+          bodyBytes = g .isBytes;
+          saysBody = sym (i .0) ∙ sym m;
+          saysHeader = sym (i .1) ∙ sym l;
+        };
         headerCut = f .size;
         bodyCut = g .size;
         headerCuts = is-cut H H headerNumbers (f .size) (f .part) (f .within);
@@ -164,7 +189,8 @@ base-length B L h = rw (length-append, length-replicate) (omega arith)
 
 base-bytes : (B L : ℕ) → B < 0x10000000 → L < 0x2000 → Bytes (base B L)
 unfolding base
-base-bytes B L b l = bytes-append (coreBytes B L 0 0) (replicate (L - 7) 0) (core-is-bytes B L 0 0 b l (omega arith) (omega arith)) (bytes-zeros (L - 7))
+base-bytes B L b l = bytes-append (coreBytes B L 0 0) (replicate (L - 7) 0)
+    (core-is-bytes B L 0 0 b l (omega arith) (omega arith)) (bytes-zeros (L - 7))
 
 base-body : (B L : ℕ) → B < 0x10000000 → L < 0x2000 → bodySize (base B L) ≡ B
 unfolding base
@@ -174,12 +200,24 @@ base-header : (B L : ℕ) → B < 0x10000000 → L < 0x2000 → headerSize (base
 unfolding base
 base-header B L b l = core-header B L 0 0 (replicate (L - 7) 0) b l (omega arith) (omega arith)
 
-fits-unseen : (limit : ℕ) (hs bs : List Segment) → limit ≤ limitMost → Each (λ s. Bytes (s .bytes)) hs → Each (λ s. 0 < s .number) hs → Agree hs → (f : PartSits headerLeast headerMost headerNumbers hs) (g : PartFits 0 limit bodyNumbers bs) → FitsAt limit hs bs (f .size) (g .size)
+fits-unseen : (limit : ℕ) (hs bs : List Segment) → limit ≤ limitMost → Each (λ s. Bytes (s .bytes)) hs
+    → Each (λ s. 0 < s .number) hs → Agree hs → (f : PartSits headerLeast headerMost headerNumbers hs)
+    (g : PartFits 0 limit bodyNumbers bs) → FitsAt limit hs bs (f .size) (g .size)
 fits-unseen limit hs bs z y u a f g = (
   record {
     header = xs;
     body = g .part;
-    object = record { headerLow = omega (arith, f .within .long, len); headerHigh = omega (arith, f .within .short, len); bodyHigh = g .within .short; headerBytes = fill-bytes base' (f .size) hs (base-bytes B L b l) y; bodyBytes = g .isBytes; saysBody = sb; saysHeader = sh };
+    object = record {
+      headerLow = omega (arith, f .within .long, len);
+      headerHigh =
+          omega (arith, f .within .short, len);
+      bodyHigh = g .within .short;
+      headerBytes =
+          fill-bytes base' (f .size) hs (base-bytes B L b l) y;
+      bodyBytes = g .isBytes;
+      saysBody = sb;
+      saysHeader = sh;
+    };
     headerCut = f .size;
     bodyCut = g .size;
     headerCuts = record { low = f .within .low; high = f .within .high; enough = rw len (f .within .enough) };
@@ -225,13 +263,19 @@ fits-unseen limit hs bs z y u a f g = (
     front = fill-front headerLeast base' (f .size) hs o (omega (arith, f .within .low)) s u
 
     sb : bodySize xs ≡ B
-    sb = sym (front-body headerLeast xs (omega arith)) ∙ ap bodySize front ∙ front-body headerLeast base' (omega arith) ∙ base-body B L b l
+    sb = sym (front-body headerLeast xs (omega arith)) ∙ ap bodySize front ∙ front-body headerLeast base' (omega arith)
+        ∙ base-body B L b l
 
     sh : headerSize xs ≡ length xs
-    sh = sym (front-header headerLeast xs (omega arith)) ∙ ap headerSize front ∙ front-header headerLeast base' (omega arith) ∙ base-header B L b l ∙ sym len
+    sh = sym (front-header headerLeast xs (omega arith)) ∙ ap headerSize front
+        ∙ front-header headerLeast base' (omega arith) ∙ base-header B L b l ∙ sym len
 
 -- segments that agree fit an object cut at any sizes that suit each part
-pub sits-object : (limit : ℕ) (hs bs : List Segment) → limit ≤ limitMost → Each (λ s. Bytes (s .bytes)) hs → Each (λ s. Bytes (s .bytes)) bs → Agree hs → Agree bs → (c : Core) → coreOf hs ≡ c → coreFits limit c ≡ true → (p : PartSits (boundsOf Header limit c .least) (boundsOf Header limit c .most) (boundsOf Header limit c .numbers) hs) (q : PartSits (boundsOf Body limit c .least) (boundsOf Body limit c .most) (boundsOf Body limit c .numbers) bs) → FitsAt limit hs bs (p .size) (q .size)
+pub sits-object : (limit : ℕ) (hs bs : List Segment) → limit ≤ limitMost → Each (λ s. Bytes (s .bytes)) hs
+    → Each (λ s. Bytes (s .bytes)) bs → Agree hs → Agree bs → (c : Core) → coreOf hs ≡ c → coreFits limit c ≡ true
+    → (p : PartSits (boundsOf Header limit c .least) (boundsOf Header limit c .most) (boundsOf Header limit c .numbers)
+    hs) (q : PartSits (boundsOf Body limit c .least) (boundsOf Body limit c .most) (boundsOf Body limit c .numbers) bs)
+    → FitsAt limit hs bs (p .size) (q .size)
 unfolding boundsOf coreFits
 sits-object limit hs bs z yh yb ah ab Unseen e k p q =
     let g = sits-fits 0 limit bodyNumbers bs yb q ab in
@@ -241,13 +285,16 @@ sits-object limit hs bs z yh yb ah ab (Seen B H) e k p q =
     let t = all-true (coreTests limit (Seen B H)) k in
     let h = sits-fits H H headerNumbers hs yh p ah in
     let g = sits-fits B B bodyNumbers bs yb q ab in
-    let f = fits-seen limit B H hs bs e (leb-true headerLeast H (t .0)) (leb-true H headerMost (t .1 .0)) (leb-true B limit (t .1 .1 .0)) (h .0) (g .0) in
+    let f = fits-seen limit B H hs bs e (leb-true headerLeast H (t .0)) (leb-true H headerMost (t .1 .0))
+    (leb-true B limit (t .1 .1 .0)) (h .0) (g .0) in
     (f .0, f .1 ∙ h .1, f .2 ∙ g .1)
 
-pub passes-fits : (limit : ℕ) (hs bs : List Segment) → limit ≤ limitMost → Each (λ s. Bytes (s .bytes)) hs → Each (λ s. Bytes (s .bytes)) bs → Passes limit hs bs → Fits limit hs bs
+pub passes-fits : (limit : ℕ) (hs bs : List Segment) → limit ≤ limitMost → Each (λ s. Bytes (s .bytes)) hs
+    → Each (λ s. Bytes (s .bytes)) bs → Passes limit hs bs → Fits limit hs bs
 unfolding suits
 passes-fits limit hs bs z yh yb t =
-    let r = all-true (suitTests limit (coreOf hs) (summary hs .top) (summary hs .part) (summary bs .top) (summary bs .part)) (t .suit) in
+    let r = all-true (suitTests limit (coreOf hs) (summary hs .top) (summary hs .part) (summary bs .top)
+    (summary bs .part)) (t .suit) in
     sits-object limit hs bs z yh yb (t .headerAgree) (t .bodyAgree) (coreOf hs) refl (r .0)
     (possible-sits (boundsOf Header limit (coreOf hs)) hs (t .headerClear) (r .1 .0))
     (possible-sits (boundsOf Body limit (coreOf hs)) bs (t .bodyClear) (r .1 .1 .0)) .0

@@ -32,7 +32,8 @@ Sits S L s = SitsAs (s .last) S L (s .number) (length (s .bytes))
 unfoldable pub Stands : List ℕ → ℕ → Segment → Type 0
 Stands xs S s = take (length (s .bytes)) (drop (s .number * S) xs) ≡ s .bytes
 
-sits-of : (xs : List ℕ) (S n : ℕ) (b : Bool) (k : ℕ) → n * S < length xs → k ≡ length (take S (drop (n * S) xs)) → b ≡ leb (length xs) (suc n * S) → SitsAs b S (length xs) n k
+sits-of : (xs : List ℕ) (S n : ℕ) (b : Bool) (k : ℕ) → n * S < length xs → k ≡ length (take S (drop (n * S) xs)) → b
+    ≡ leb (length xs) (suc n * S) → SitsAs b S (length xs) n k
 sits-of xs S n true k h e f =
     let g : length xs ≤ suc n * S = leb-true (length xs) (suc n * S) (sym f) in
     let e' : k ≡ min S (length xs - n * S) = rw (length-take, length-drop) at e in
@@ -44,7 +45,8 @@ sits-of xs S n false k h e f =
 
 pub sends-sits : (xs : List ℕ) (S : ℕ) (s : Segment) → Sends xs S s → Sits S (length xs) s
 unfolding Sits
-sends-sits xs S s t = sits-of xs S (s .number) (s .last) (length (s .bytes)) (t .starts) (ap length (t .holds)) (t .ends)
+sends-sits xs S s t = sits-of xs S (s .number) (s .last) (length (s .bytes)) (t .starts) (ap length (t .holds))
+    (t .ends)
 
 -- the flag that a segment bears
 flag-of : (b : Bool) (S L n k : ℕ) → SitsAs b S L n k → b ≡ leb L (suc n * S)
@@ -60,8 +62,20 @@ pub record Inside (S L n k : ℕ) : Type 0 where
   pub long : k ≡ min S (L - n * S)
 
 inside-as : (b : Bool) (S L n k : ℕ) → 0 < S → SitsAs b S L n k → Inside S L n k
-inside-as true S L n k z s = record { starts = omega arith; ends = omega arith; most = omega arith; some = omega arith; long = omega arith }
-inside-as false S L n k z s = record { starts = omega arith; ends = omega arith; most = omega arith; some = omega arith; long = omega arith }
+inside-as true S L n k z s = record {
+  starts = omega arith;
+  ends = omega arith;
+  most = omega arith;
+  some = omega arith;
+  long = omega arith;
+}
+inside-as false S L n k z s = record {
+  starts = omega arith;
+  ends = omega arith;
+  most = omega arith;
+  some = omega arith;
+  long = omega arith;
+}
 
 pub inside : (S L : ℕ) (s : Segment) → 0 < S → Sits S L s → Inside S L (s .number) (length (s .bytes))
 unfolding Sits
@@ -77,7 +91,8 @@ take-cut n k d e = go (decLe n (length d))
 pub sits-sends : (xs : List ℕ) (S : ℕ) (s : Segment) → 0 < S → Sits S (length xs) s → Stands xs S s → Sends xs S s
 unfolding Sits Stands
 sits-sends xs S s z t h =
-    let b : Inside S (length xs) (s .number) (length (s .bytes)) = inside-as (s .last) S (length xs) (s .number) (length (s .bytes)) z t in
+    let b : Inside S (length xs) (s .number) (length (s .bytes)) = inside-as (s .last) S (length xs) (s .number)
+    (length (s .bytes)) z t in
     record {
       starts = b .starts;
       holds = sym h ∙ take-cut S (length (s .bytes)) (drop (s .number * S) xs) (rw length-drop (b .long));
@@ -89,7 +104,8 @@ sent-bytes xs S s b t = rw (t .holds) (bytes-take S (drop (s .number * S) xs) (b
 
 -- the number is within the bounds
 pub sent-number : (numbers S : ℕ) (xs : List ℕ) (s : Segment) → IsCut numbers S xs → Sends xs S s → s .number < numbers
-sent-number numbers S xs s c t = let g : s .number * S < numbers * S = omega (arith, c .enough, t .starts) in lt-of-mul-lt-mul-right S g
+sent-number numbers S xs s c t = let g : s .number * S < numbers * S = omega (arith, c .enough, t .starts) in
+    lt-of-mul-lt-mul-right S g
 
 -- ---- segments of one number
 
@@ -126,7 +142,11 @@ same-is s t h e = let r = h e in λ i. record { number = e i; last = r .0 i; byt
 
 pub sends-same : (xs : List ℕ) (S : ℕ) (s t : Segment) → Sends xs S s → Sends xs S t → Same s t
 unfolding Same
-sends-same xs S s t a b e = (a .ends ∙ ap (λ (n : ℕ). leb (length xs) (suc n * S)) e ∙ sym (b .ends), a .holds ∙ ap (λ (n : ℕ). take S (drop (n * S) xs)) e ∙ sym (b .holds))
+sends-same xs S s t a b e = (
+  a .ends ∙ ap (λ (n : ℕ). leb (length xs) (suc n * S)) e ∙ sym (b .ends),
+  a .holds
+      ∙ ap (λ (n : ℕ). take S (drop (n * S) xs)) e ∙ sym (b .holds),
+)
 
 pub sends-agree : (xs : List ℕ) (S : ℕ) (ss : List Segment) → Each (Sends xs S) ss → Agree ss
 sends-agree xs S [] t = tt
@@ -142,7 +162,8 @@ abbrev pub fill : List ℕ → ℕ → List Segment → List ℕ
 fill base S [] = base
 fill base S (s ∷ ss) = over (fill base S ss) (s .number * S) (s .bytes)
 
-pub fill-length : (base : List ℕ) (S : ℕ) (ss : List Segment) → 0 < S → Each (Sits S (length base)) ss → length (fill base S ss) ≡ length base
+pub fill-length : (base : List ℕ) (S : ℕ) (ss : List Segment) → 0 < S → Each (Sits S (length base)) ss
+    → length (fill base S ss) ≡ length base
 fill-length base S [] z t = refl
 fill-length base S (s ∷ ss) z t =
     let e : length (fill base S ss) ≡ length base = fill-length base S ss z (t .1) in
@@ -150,7 +171,8 @@ fill-length base S (s ∷ ss) z t =
     over-length (fill base S ss) (s .number * S) (s .bytes) (omega (arith, b .ends)) ∙ e
 
 -- another segment stays in place
-one-stands : (l : List ℕ) (S : ℕ) (s q : Segment) → 0 < S → Sits S (length l) s → Sits S (length l) q → Same s q → Stands l S q → Stands (over l (s .number * S) (s .bytes)) S q
+one-stands : (l : List ℕ) (S : ℕ) (s q : Segment) → 0 < S → Sits S (length l) s → Sits S (length l) q → Same s q
+    → Stands l S q → Stands (over l (s .number * S) (s .bytes)) S q
 unfolding Stands Same
 one-stands l S s q z a b e h = go (ℕ-discrete (s .number) (q .number)) (decLe (s .number) (q .number))
   where
@@ -162,20 +184,26 @@ one-stands l S s q z a b e h = go (ℕ-discrete (s .number) (q .number)) (decLe 
 
     go : Dec (s .number ≡ q .number) → Dec (s .number ≤ q .number) → Stands (over l (s .number * S) (s .bytes)) S q
     go (yes f) d = rw (← f, ← (e f .1)) (over-inside l (s .number * S) (s .bytes) (i .ends))
-    go (no f) (yes g) = rw (over-after l (s .number * S) (s .bytes) (i .ends) (q .number * S) (omega (arith, i, mul-le-mul-right S (less g f)))) h
+    go (no f) (yes g) =
+        rw (over-after l (s .number * S) (s .bytes) (i .ends) (q .number * S)
+        (omega (arith, i, mul-le-mul-right S (less g f)))) h
       where
         less : s .number ≤ q .number → ¬ (s .number ≡ q .number) → s .number < q .number
         less g f = omega arith
-    go (no f) (no g) = rw (over-before l (s .number * S) (s .bytes) (i .ends) (q .number * S) (length (q .bytes)) (omega (arith, j, mul-le-mul-right S (less g)))) h
+    go (no f) (no g) =
+        rw (over-before l (s .number * S) (s .bytes) (i .ends) (q .number * S) (length (q .bytes))
+        (omega (arith, j, mul-le-mul-right S (less g)))) h
       where
         less : ¬ (s .number ≤ q .number) → q .number < s .number
         less g = omega arith
 
-stands-new : (l : List ℕ) (S : ℕ) (s : Segment) → s .number * S + length (s .bytes) ≤ length l → Stands (over l (s .number * S) (s .bytes)) S s
+stands-new : (l : List ℕ) (S : ℕ) (s : Segment) → s .number * S + length (s .bytes) ≤ length l
+    → Stands (over l (s .number * S) (s .bytes)) S s
 unfolding Stands
 stands-new l S s h = over-inside l (s .number * S) (s .bytes) h
 
-fill-stands : (base : List ℕ) (S : ℕ) (ss : List Segment) → 0 < S → Each (Sits S (length base)) ss → Agree ss → Each (Stands (fill base S ss) S) ss
+fill-stands : (base : List ℕ) (S : ℕ) (ss : List Segment) → 0 < S → Each (Sits S (length base)) ss → Agree ss
+    → Each (Stands (fill base S ss) S) ss
 fill-stands base S [] z t a = tt
 fill-stands base S (s ∷ ss) z t a = (here, each-zip3 step ss (t .1) (a .0) (fill-stands base S ss z (t .1) (a .1)))
   where
@@ -188,25 +216,31 @@ fill-stands base S (s ∷ ss) z t a = (here, each-zip3 step ss (t .1) (a .0) (fi
     here : Stands (over (fill base S ss) (s .number * S) (s .bytes)) S s
     here = stands-new (fill base S ss) S s (omega (arith, e, b))
 
-    step : (q : Segment) → Sits S (length base) q → Same s q → Stands (fill base S ss) S q → Stands (over (fill base S ss) (s .number * S) (s .bytes)) S q
+    step : (q : Segment) → Sits S (length base) q → Same s q → Stands (fill base S ss) S q
+        → Stands (over (fill base S ss) (s .number * S) (s .bytes)) S q
     step q u a' h = one-stands (fill base S ss) S s q z (rw e (t .0)) (rw e u) a' h
 
-pub fill-sends : (base : List ℕ) (S : ℕ) (ss : List Segment) → 0 < S → Each (Sits S (length base)) ss → Agree ss → Each (Sends (fill base S ss) S) ss
+pub fill-sends : (base : List ℕ) (S : ℕ) (ss : List Segment) → 0 < S → Each (Sits S (length base)) ss → Agree ss
+    → Each (Sends (fill base S ss) S) ss
 fill-sends base S ss z t a =
     let e : length (fill base S ss) ≡ length base = fill-length base S ss z t in
     each-zip (λ s u h. sits-sends (fill base S ss) S s z (rw e u) h) ss t (fill-stands base S ss z t a)
 
-pub fill-bytes : (base : List ℕ) (S : ℕ) (ss : List Segment) → Bytes base → Each (λ s. Bytes (s .bytes)) ss → Bytes (fill base S ss)
+pub fill-bytes : (base : List ℕ) (S : ℕ) (ss : List Segment) → Bytes base → Each (λ s. Bytes (s .bytes)) ss
+    → Bytes (fill base S ss)
 fill-bytes base S [] a b = a
-fill-bytes base S (s ∷ ss) a b = over-bytes (fill base S ss) (s .number * S) (s .bytes) (fill-bytes base S ss a (b .1)) (b .0)
+fill-bytes base S (s ∷ ss) a b = over-bytes (fill base S ss) (s .number * S) (s .bytes) (fill-bytes base S ss a (b .1))
+    (b .0)
 
 -- what lies before segment 1 stays, where segment 0 is not among them
-pub fill-front : (m : ℕ) (base : List ℕ) (S : ℕ) (ss : List Segment) → 0 < S → m ≤ S → Each (Sits S (length base)) ss → Each (λ s. 0 < s .number) ss → take m (fill base S ss) ≡ take m base
+pub fill-front : (m : ℕ) (base : List ℕ) (S : ℕ) (ss : List Segment) → 0 < S → m ≤ S → Each (Sits S (length base)) ss
+    → Each (λ s. 0 < s .number) ss → take m (fill base S ss) ≡ take m base
 fill-front m base S [] z g t h = refl
 fill-front m base S (s ∷ ss) z g t h =
     let e : length (fill base S ss) ≡ length base = fill-length base S ss z (t .1) in
     let b = inside S (length base) s z (t .0) in
-    over-before (fill base S ss) (s .number * S) (s .bytes) (omega (arith, b .ends)) 0 m (omega (arith, mul-le-mul-right S (h .0))) ∙ fill-front m base S ss z g (t .1) (h .1)
+    over-before (fill base S ss) (s .number * S) (s .bytes) (omega (arith, b .ends)) 0 m
+    (omega (arith, mul-le-mul-right S (h .0))) ∙ fill-front m base S ss z g (t .1) (h .1)
 
 -- ---- one part
 
@@ -234,7 +268,8 @@ pub record PartSits (least most numbers : ℕ) (ss : List Segment) : Type 0 wher
   pub sits : Each (Sits size long) ss
 
 -- and back: a part that sends them, cut at that size
-pub sits-fits : (least most numbers : ℕ) (ss : List Segment) → Each (λ s. Bytes (s .bytes)) ss → (p : PartSits least most numbers ss) → Agree ss → (f : PartFits least most numbers ss) × (f .size ≡ p .size)
+pub sits-fits : (least most numbers : ℕ) (ss : List Segment) → Each (λ s. Bytes (s .bytes)) ss
+    → (p : PartSits least most numbers ss) → Agree ss → (f : PartFits least most numbers ss) × (f .size ≡ p .size)
 sits-fits least most numbers ss b p a =
     let z : List ℕ = replicate (p .long) 0 in
     let e : length z ≡ p .long = length-replicate (p .long) 0 in

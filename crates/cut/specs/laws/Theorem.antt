@@ -24,12 +24,22 @@ use Rattle.cut.specs.Lists.{Among, Bytes}
 -- nothing at all always fits: a first segment is looked at alone
 pub nothing-fits : (limit : ℕ) → limit ≤ limitMost → Fits limit [] []
 unfolding suits coreFits boundsOf alone
-nothing-fits limit z = passes-fits limit [] [] z tt tt (record { headerAgree = tt; headerClear = tt; bodyAgree = tt; bodyClear = tt; suit = rw (le-leb 0 limit (omega arith)) refl })
+nothing-fits limit z =
+    passes-fits limit [] [] z tt tt
+    (record {
+      headerAgree = tt;
+      headerClear = tt;
+      bodyAgree = tt;
+      bodyClear = tt;
+      suit =
+          rw (le-leb 0 limit (omega arith)) refl;
+    })
 
 -- ---- a segment of a new number
 
 -- the last one's number is in
-end-step : (b : Bool) (s : Segment) (σ : Summary) (ss : List Segment) (n : ℕ) → s .last ≡ b → (σ .part .end ≡ suc n → Numbered n ss) → addTo s σ .part .end ≡ suc n → Numbered n (s ∷ ss)
+end-step : (b : Bool) (s : Segment) (σ : Summary) (ss : List Segment) (n : ℕ) → s .last ≡ b
+    → (σ .part .end ≡ suc n → Numbered n ss) → addTo s σ .part .end ≡ suc n → Numbered n (s ∷ ss)
 end-step true s σ ss n e r h = let x : suc (s .number) ≡ suc n = rw e at h in inl (omega arith)
 end-step false s σ ss n e r h = inr (r (rw e at h))
 
@@ -46,43 +56,72 @@ size-joins : (k top : ℕ) (p : Record) → (joins (leb 1 top) false k p ≡ tru
 size-joins k zero p = ((λ e. tt), (λ e. refl))
 size-joins k (suc t) p = rw (le-leb 1 (suc t) (omega arith)) (eqb-true k (p .size), eq-eqb k (p .size))
 
-joins-as : (b : Bool) (n k : ℕ) (σ : Summary) → σ .part .end ≢ suc n → (joins (someFull σ) b k (σ .part) ≡ true) ↔ JoinsAs b n k σ
+joins-as : (b : Bool) (n k : ℕ) (σ : Summary) → σ .part .end ≢ suc n → (joins (someFull σ) b k (σ .part) ≡ true)
+    ↔ JoinsAs b n k σ
 joins-as true n k σ d = end-joins n k (σ .part .end) (σ .part .tail) d
 joins-as false n k σ d = size-joins k (σ .top) (σ .part)
 
-pub joins-iff : (s : Segment) (ss : List Segment) → ¬ (Numbered (s .number) ss) → (joins (someFull (summary ss)) (s .last) (length (s .bytes)) (summary ss .part) ≡ true) ↔ JoinsAs (s .last) (s .number) (length (s .bytes)) (summary ss)
-joins-iff s ss a = joins-as (s .last) (s .number) (length (s .bytes)) (summary ss) (λ e. a (end-numbered ss (s .number) e))
+pub joins-iff : (s : Segment) (ss : List Segment) → ¬ (Numbered (s .number) ss)
+    → (joins (someFull (summary ss)) (s .last) (length (s .bytes)) (summary ss .part) ≡ true)
+    ↔ JoinsAs (s .last) (s .number) (length (s .bytes)) (summary ss)
+joins-iff s ss a = joins-as (s .last) (s .number) (length (s .bytes)) (summary ss)
+    (λ e. a (end-numbered ss (s .number) e))
 
 -- a segment is accepted if it joins and the rest suits: each is what a fit gives
-accepted-by : {J F : Type 0} {j w : Bool} → (j ≡ true) ↔ J → (J → w ≡ true → F) → (F → J × (w ≡ true)) → (both j w ≡ true) ↔ F
+accepted-by : {J F : Type 0} {j w : Bool} → (j ≡ true) ↔ J → (J → w ≡ true → F) → (F → J × (w ≡ true))
+    → (both j w ≡ true) ↔ F
 accepted-by {j = j} {w = w} i there back = (
   (λ e. let r = both-true j w e in there (i .0 (r .0)) (r .1)),
   (λ f. let r = back f in true-both j w (i .1 (r .0)) (r .1)),
 )
 
-accepted-header : (limit : ℕ) (s : Segment) (hs bs : List Segment) → limit ≤ limitMost → Bytes (s .bytes) → Fits limit hs bs → ¬ (Numbered (s .number) hs) → (accepts Header limit (coreOf hs) (summary hs) (summary bs) s ≡ true) ↔ Fits limit (s ∷ hs) bs
+accepted-header : (limit : ℕ) (s : Segment) (hs bs : List Segment) → limit ≤ limitMost → Bytes (s .bytes)
+    → Fits limit hs bs → ¬ (Numbered (s .number) hs)
+    → (accepts Header limit (coreOf hs) (summary hs) (summary bs) s ≡ true) ↔ Fits limit (s ∷ hs) bs
 accepted-header limit s hs bs z y f a =
     let old : Passes limit hs bs = fits-passes limit hs bs f in
     accepted-by (joins-iff s hs a)
-    (λ j w. passes-fits limit (s ∷ hs) bs z (y, header-bytes limit hs bs f) (body-bytes limit hs bs f) (record { headerAgree = agree-new s hs a (old .headerAgree); headerClear = (j, old .headerClear); bodyAgree = old .bodyAgree; bodyClear = old .bodyClear; suit = w }))
+    (λ j w. passes-fits limit (s ∷ hs) bs z (y, header-bytes limit hs bs f) (body-bytes limit hs bs f)
+    (record {
+      headerAgree = agree-new s hs a (old .headerAgree);
+      headerClear = (j, old .headerClear);
+      bodyAgree =
+          old .bodyAgree;
+      bodyClear = old .bodyClear;
+      suit = w;
+    }))
     (λ g. let t = fits-passes limit (s ∷ hs) bs g in (t .headerClear .0, t .suit))
 
-accepted-body : (limit : ℕ) (s : Segment) (hs bs : List Segment) → limit ≤ limitMost → Bytes (s .bytes) → Fits limit hs bs → ¬ (Numbered (s .number) bs) → (accepts Body limit (coreOf hs) (summary hs) (summary bs) s ≡ true) ↔ Fits limit hs (s ∷ bs)
+accepted-body : (limit : ℕ) (s : Segment) (hs bs : List Segment) → limit ≤ limitMost → Bytes (s .bytes)
+    → Fits limit hs bs → ¬ (Numbered (s .number) bs)
+    → (accepts Body limit (coreOf hs) (summary hs) (summary bs) s ≡ true) ↔ Fits limit hs (s ∷ bs)
 accepted-body limit s hs bs z y f a =
     let old : Passes limit hs bs = fits-passes limit hs bs f in
     accepted-by (joins-iff s bs a)
-    (λ j w. passes-fits limit hs (s ∷ bs) z (header-bytes limit hs bs f) (y, body-bytes limit hs bs f) (record { headerAgree = old .headerAgree; headerClear = old .headerClear; bodyAgree = agree-new s bs a (old .bodyAgree); bodyClear = (j, old .bodyClear); suit = w }))
+    (λ j w. passes-fits limit hs (s ∷ bs) z (header-bytes limit hs bs f) (y, body-bytes limit hs bs f)
+    (record {
+      headerAgree = old .headerAgree;
+      headerClear = old .headerClear;
+      bodyAgree =
+          agree-new s bs a (old .bodyAgree);
+      bodyClear = (j, old .bodyClear);
+      suit = w;
+    }))
     (λ g. let t = fits-passes limit hs (s ∷ bs) g in (t .bodyClear .0, t .suit))
 
 -- THE THEOREM: a segment of a new number is accepted exactly when it and the held ones fit some object and cut
-pub accepted : (kind : Part) (limit : ℕ) (s : Segment) (hs bs : List Segment) → limit ≤ limitMost → Bytes (s .bytes) → Fits limit hs bs → ¬ (Numbered (s .number) (those kind hs bs)) → (accepts kind limit (coreOf hs) (summary hs) (summary bs) s ≡ true) ↔ Fits limit (headersWith kind s hs) (bodiesWith kind s bs)
+pub accepted : (kind : Part) (limit : ℕ) (s : Segment) (hs bs : List Segment) → limit ≤ limitMost → Bytes (s .bytes)
+    → Fits limit hs bs → ¬ (Numbered (s .number) (those kind hs bs))
+    → (accepts kind limit (coreOf hs) (summary hs) (summary bs) s ≡ true)
+    ↔ Fits limit (headersWith kind s hs) (bodiesWith kind s bs)
 accepted Header limit s hs bs z y f a = accepted-header limit s hs bs z y f a
 accepted Body limit s hs bs z y f a = accepted-body limit s hs bs z y f a
 
 -- ---- order and repeats play no part
 
 -- what fits, fits in any order, with repeats, and in part
-pub fits-among : (limit : ℕ) (hs hs' bs bs' : List Segment) → ((s : Segment) → Among s hs' → Among s hs) → ((s : Segment) → Among s bs' → Among s bs) → Fits limit hs bs → Fits limit hs' bs'
+pub fits-among : (limit : ℕ) (hs hs' bs bs' : List Segment) → ((s : Segment) → Among s hs' → Among s hs)
+    → ((s : Segment) → Among s bs' → Among s bs) → Fits limit hs bs → Fits limit hs' bs'
 fits-among limit hs hs' bs bs' i j f = record {
   header = f .header;
   body = f .body;
@@ -100,16 +139,27 @@ with-one s ss i t (inl e) = rw e at i
 with-one s ss i t (inr j) = j
 
 -- a segment that is in already always fits
-pub repeat-fits : (kind : Part) (limit : ℕ) (s : Segment) (hs bs : List Segment) → Fits limit hs bs → Among s (those kind hs bs) → Fits limit (headersWith kind s hs) (bodiesWith kind s bs)
+pub repeat-fits : (kind : Part) (limit : ℕ) (s : Segment) (hs bs : List Segment) → Fits limit hs bs
+    → Among s (those kind hs bs) → Fits limit (headersWith kind s hs) (bodiesWith kind s bs)
 repeat-fits Header limit s hs bs f i = fits-among limit hs (s ∷ hs) bs bs (with-one s hs i) (λ t j. j) f
 repeat-fits Body limit s hs bs f i = fits-among limit hs hs bs (s ∷ bs) (λ t j. j) (with-one s bs i) f
 
 -- one of a number that is in fits only if it is the same segment
-pub same-fits : (kind : Part) (limit : ℕ) (s t : Segment) (hs bs : List Segment) → Fits limit (headersWith kind s hs) (bodiesWith kind s bs) → Among t (those kind hs bs) → s .number ≡ t .number → s ≡ t
-same-fits Header limit s t hs bs f i e = same-is s t (sends-same (f .header) (f .headerCut) s t (f .headerSent .0) (each-among (Sends (f .header) (f .headerCut)) t hs (f .headerSent .1) i)) e
-same-fits Body limit s t hs bs f i e = same-is s t (sends-same (f .body) (f .bodyCut) s t (f .bodySent .0) (each-among (Sends (f .body) (f .bodyCut)) t bs (f .bodySent .1) i)) e
+pub same-fits : (kind : Part) (limit : ℕ) (s t : Segment) (hs bs : List Segment)
+    → Fits limit (headersWith kind s hs) (bodiesWith kind s bs) → Among t (those kind hs bs) → s .number ≡ t .number → s
+    ≡ t
+same-fits Header limit s t hs bs f i e =
+    same-is s t (sends-same (f .header) (f .headerCut) s t (f .headerSent .0)
+    (each-among (Sends (f .header) (f .headerCut)) t hs (f .headerSent .1) i)) e
+same-fits Body limit s t hs bs f i e =
+    same-is s t (sends-same (f .body) (f .bodyCut) s t (f .bodySent .0)
+    (each-among (Sends (f .body) (f .bodyCut)) t bs (f .bodySent .1) i)) e
 
 -- with other bytes or another flag it never does
-pub other-never : (kind : Part) (limit : ℕ) (s t : Segment) (hs bs : List Segment) → Among t (those kind hs bs) → s .number ≡ t .number → (s .last ≢ t .last) ⊎ (s .bytes ≢ t .bytes) → ¬ (Fits limit (headersWith kind s hs) (bodiesWith kind s bs))
-other-never kind limit s t hs bs i e (inl d) f = d (ap (λ (x : Segment). x .last) (same-fits kind limit s t hs bs f i e))
-other-never kind limit s t hs bs i e (inr d) f = d (ap (λ (x : Segment). x .bytes) (same-fits kind limit s t hs bs f i e))
+pub other-never : (kind : Part) (limit : ℕ) (s t : Segment) (hs bs : List Segment) → Among t (those kind hs bs)
+    → s .number ≡ t .number → (s .last ≢ t .last) ⊎ (s .bytes ≢ t .bytes)
+    → ¬ (Fits limit (headersWith kind s hs) (bodiesWith kind s bs))
+other-never kind limit s t hs bs i e (inl d) f =
+    d (ap (λ (x : Segment). x .last) (same-fits kind limit s t hs bs f i e))
+other-never kind limit s t hs bs i e (inr d) f =
+    d (ap (λ (x : Segment). x .bytes) (same-fits kind limit s t hs bs f i e))

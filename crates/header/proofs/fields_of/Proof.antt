@@ -26,16 +26,16 @@ returns : tie.Need-returns
 unfolding fieldsOf
 returns c =
     let s = c .before .before .before .before .before in
-    rw (s .body-size .ensures, c .before .before .before .before .header-size .ensures, c .before .before .before .content-type .ensures, c .before .before .content-sub-type .ensures, c .before .priority-of .ensures, c .name-from .ensures)
+    rw (
+      s .body-size .ensures,
+      c .before .before .before .before .header-size .ensures,
+      c .before .before .before .content-type .ensures,
+      c .before .before .content-sub-type .ensures,
+      c .before .priority-of .ensures,
+      c .name-from .ensures,
+    )
 
 pub fields-of-spec : {M : Type 1} → statement M
 fields-of-spec =
-    tie.close
-    (tie.spec
-    body-size-requires
-    header-size-requires
-    content-type-requires
-    content-sub-type-requires
-    priority-of-requires
-    name-from-requires
-    returns)
+    tie.close (tie.spec body-size-requires header-size-requires content-type-requires content-sub-type-requires
+    priority-of-requires name-from-requires returns)

@@ -42,10 +42,13 @@ returns-2 c =
     range i (ℕ-discrete i 0x10) (omega arith) (omega arith)
 
 returns-3 : tie.Need-returns-3
-returns-3 c = sym (none (c .before .before .args .identifier) (c .before .match .rest .1) (λ e. omega arith) (λ e. omega arith))
+returns-3 c =
+    sym (none (c .before .before .args .identifier) (c .before .match .rest .1) (λ e. omega arith) (λ e. omega arith))
 
 returns-4 : tie.Need-returns-4
-returns-4 c = sym (none (c .before .before .before .args .identifier) (c .before .before .match .rest .1) (λ e. omega arith) (λ e. omega arith))
+returns-4 c =
+    sym (none (c .before .before .before .args .identifier) (c .before .before .match .rest .1) (λ e. omega arith)
+    (λ e. omega arith))
 
 pub is-single-spec : {M : Type 1} → statement M
 is-single-spec = tie.close (tie.spec returns returns-2 returns-3 returns-4)

@@ -44,7 +44,8 @@ shared-slice-read-low : tie.Need-shared-slice-read-low
 shared-slice-read-low c = search needs
 
 cast-low : tie.Need-cast-low
-cast-low c = omega (arith, c .shared-slice-known3 .given (c .before .before .before .before .before .before .args .at + 1))
+cast-low c =
+    omega (arith, c .shared-slice-known3 .given (c .before .before .before .before .before .before .args .at + 1))
 
 add-whole-2 : tie.Need-add-whole-2
 add-whole-2 c = search needs
@@ -53,7 +54,8 @@ mul-whole : tie.Need-mul-whole
 mul-whole c = search needs
 
 add-whole-3 : tie.Need-add-whole-3
-add-whole-3 c = omega (arith, c .shared-slice-known3 .given (c .before .before .before .before .before .before .args .at + 1))
+add-whole-3 c =
+    omega (arith, c .shared-slice-known3 .given (c .before .before .before .before .before .before .args .at + 1))
 
 whole-requires-2 : tie.Need-whole-requires-2
 whole-requires-2 c κs = search needs
@@ -64,21 +66,5 @@ returns-4 c = rw (c .whole2 .ensures, le-ltb _ _ (c .before .before .before .if2
 
 pub measured-at-spec : {M : Type 1} → statement M
 measured-at-spec =
-    tie.close
-    (tie.spec
-    returns
-    shared-slice-read-short
-    cast-short
-    add-whole
-    whole-requires
-    returns-2
-    sub-if3
-    returns-3
-    add-low
-    shared-slice-read-low
-    cast-low
-    add-whole-2
-    mul-whole
-    add-whole-3
-    whole-requires-2
-    returns-4)
+    tie.close (tie.spec returns shared-slice-read-short cast-short add-whole whole-requires returns-2 sub-if3 returns-3
+    add-low shared-slice-read-low cast-low add-whole-2 mul-whole add-whole-3 whole-requires-2 returns-4)

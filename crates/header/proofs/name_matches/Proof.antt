@@ -26,7 +26,8 @@ same-requires c κs = search needs
 returns : tie.Need-returns
 returns c =
     let a = c .before .before .before .before .before .args in
-    rw (c .same .ensures, c .before .without-slash .ensures) (sym (bare (a .name-data .now) (a .asked .now) (c .before .before .if1 .taken)))
+    rw (c .same .ensures, c .before .without-slash .ensures)
+    (sym (bare (a .name-data .now) (a .asked .now) (c .before .before .if1 .taken)))
 
 sub-without-slash : tie.Need-sub-without-slash
 sub-without-slash c = search needs
@@ -55,15 +56,5 @@ returns-2 c =
 
 pub name-matches-spec : {M : Type 1} → statement M
 name-matches-spec =
-    tie.close
-    (tie.spec
-    without-slash-requires
-    same-requires
-    returns
-    sub-without-slash
-    part-without-slash-start
-    part-without-slash-end
-    without-slash-requires-2
-    without-slash-requires-3
-    same-requires-2
-    returns-2)
+    tie.close (tie.spec without-slash-requires same-requires returns sub-without-slash part-without-slash-start
+    part-without-slash-end without-slash-requires-2 without-slash-requires-3 same-requires-2 returns-2)

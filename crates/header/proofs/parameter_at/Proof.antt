@@ -55,24 +55,17 @@ returns-5 : tie.Need-returns-5
 unfolding foundAt parameterAt
 returns-5 c =
     let a = c .before .before .before .before .before .args in
-    let e : getD (a .header .now) (a .at) 0 / 64 ≡ 3 = omega (arith, c .before .match .rest .0 .0 .1, c .before .match .rest .0 .1, c .before .match .rest .1, c .before .before .shared-slice-known2 .given (a .at)) in
+    let e : getD (a .header .now) (a .at) 0 / 64 ≡ 3 =
+    omega (
+      arith,
+      c .before .match .rest .0 .0 .1,
+      c .before .match .rest .0 .1,
+      c .before .match .rest .1,
+      c .before .before .shared-slice-known2 .given (a .at),
+    ) in
     rw (c .measured-at .ensures, e)
 
 pub parameter-at-spec : {M : Type 1} → statement M
 parameter-at-spec =
-    tie.close
-    (tie.spec
-    returns
-    shared-slice-read-first
-    add-whole
-    whole-requires
-    add-whole-2
-    whole-requires-2
-    add-whole-3
-    whole-requires-3
-    add-measured-at
-    measured-at-requires
-    returns-2
-    returns-3
-    returns-4
-    returns-5)
+    tie.close (tie.spec returns shared-slice-read-first add-whole whole-requires add-whole-2 whole-requires-2
+    add-whole-3 whole-requires-3 add-measured-at measured-at-requires returns-2 returns-3 returns-4 returns-5)

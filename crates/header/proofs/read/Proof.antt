@@ -10,10 +10,12 @@ use Rattle.header.proofs.read.Statement.{statement}
 use Rattle.header.proofs.read.Tie as tie
 
 -- the pass has ended well
-scan : (c : tie.After-notes) → scanHeader (c .before .before .before .before .before .args .header .now) ≡ Whole (c .notes .given .0 .0)
+scan : (c : tie.After-notes) → scanHeader (c .before .before .before .before .before .args .header .now)
+    ≡ Whole (c .notes .given .0 .0)
 scan c = sym (c .before .before .note-all .ensures) ∙ c .notes .given .1
 
-reading : (c : tie.After-notes) → readHeader (c .before .before .before .before .before .args .header .now) ≡ outcome (c .before .before .before .before .before .args .header .now) (Whole (c .notes .given .0 .0))
+reading : (c : tie.After-notes) → readHeader (c .before .before .before .before .before .args .header .now)
+    ≡ outcome (c .before .before .before .before .before .args .header .now) (Whole (c .notes .given .0 .0))
 reading c = read-scanned _ _ (c .before .before .before .if1 .left) (scan c)
 
 returns : tie.Need-returns
@@ -29,7 +31,9 @@ enum-told : tie.Need-enum-told
 enum-told c = search needs
 
 returns-2 : tie.Need-returns-2
-returns-2 c = sym (read-scanned _ _ (c .before .before .before .if1 .left) (sym (c .before .before .note-all .ensures) ∙ c .enum-told .given .1))
+returns-2 c =
+    sym (read-scanned _ _ (c .before .before .before .if1 .left) (sym (c .before .before .note-all .ensures)
+    ∙ c .enum-told .given .1))
 
 returns-3 : tie.Need-returns-3
 returns-3 c = rw (reading (c .before .before), c .if2 .taken)
@@ -42,13 +46,5 @@ returns-4 c = rw (reading (c .before .before .before), c .before .if2 .left, c .
 
 pub read-spec : {M : Type 1} → statement M
 read-spec =
-    tie.close
-    (tie.spec
-    returns
-    note-all-requires
-    enum-known-notes
-    enum-told
-    returns-2
-    returns-3
-    fields-of-requires
+    tie.close (tie.spec returns note-all-requires enum-known-notes enum-told returns-2 returns-3 fields-of-requires
     returns-4)

@@ -53,12 +53,4 @@ returns-3 c =
 
 pub without-slash-spec : {M : Type 1} → statement M
 without-slash-spec =
-    tie.close
-    (tie.spec
-    returns
-    shared-slice-read-if2
-    sub-result
-    part-result-start
-    part-result-end
-    returns-2
-    returns-3)
+    tie.close (tie.spec returns shared-slice-read-if2 sub-result part-result-start part-result-end returns-2 returns-3)

@@ -87,7 +87,9 @@ turns-enough (suc n) (suc m) h at f g =
     ap (λ (r : Listed). pick (ltb at (length h)) r (listed []))
     (on (foundAt h at) (found-on h at) (λ p k. turns-enough n m h (p .start + p .size) (omega arith) (omega arith)))
   where
-    on : (s : Found) → ((p : Parameter) → s ≡ One p → at < p .start) → ((p : Parameter) → at < p .start → turns n h (p .start + p .size) ≡ turns m h (p .start + p .size)) → follow s (λ p. turns n h (p .start + p .size)) ≡ follow s (λ p. turns m h (p .start + p .size))
+    on : (s : Found) → ((p : Parameter) → s ≡ One p → at < p .start)
+        → ((p : Parameter) → at < p .start → turns n h (p .start + p .size) ≡ turns m h (p .start + p .size))
+        → follow s (λ p. turns n h (p .start + p .size)) ≡ follow s (λ p. turns m h (p .start + p .size))
     on Nothing k r = refl
     on (One p) k r = ap (put p) (r p (k p refl))
 
@@ -96,7 +98,8 @@ module _ (h : List ℕ) (at : ℕ) where
   unfolding parametersFrom
   from-end g = turns-end (length h) h at g
 
-  pub from-step : at < length h → parametersFrom h at ≡ follow (foundAt h at) (λ p. parametersFrom h (p .start + p .size))
+  pub from-step : at < length h → parametersFrom h at
+      ≡ follow (foundAt h at) (λ p. parametersFrom h (p .start + p .size))
   unfolding parametersFrom turns
   from-step g = turns-enough (length h) (suc (length h)) h at (omega arith) (omega arith) ∙ rw (lt-ltb at (length h) g)
 
@@ -117,9 +120,12 @@ put-each P p (listed ps) k r = (k, r)
 turns-known : (n : ℕ) (h : List ℕ) (at : ℕ) → EachListed (Known h) (turns n h at)
 unfolding turns
 turns-known zero h at = tt
-turns-known (suc n) h at = go (ltb at (length h)) (foundAt h at) (found-known h at) (λ p. turns-known n h (p .start + p .size))
+turns-known (suc n) h at = go (ltb at (length h)) (foundAt h at) (found-known h at)
+    (λ p. turns-known n h (p .start + p .size))
   where
-    go : (t : Bool) (s : Found) → ((p : Parameter) → s ≡ One p → Known h p) → ((p : Parameter) → EachListed (Known h) (turns n h (p .start + p .size))) → EachListed (Known h) (pick t (follow s (λ p. turns n h (p .start + p .size))) (listed []))
+    go : (t : Bool) (s : Found) → ((p : Parameter) → s ≡ One p → Known h p)
+        → ((p : Parameter) → EachListed (Known h) (turns n h (p .start + p .size)))
+        → EachListed (Known h) (pick t (follow s (λ p. turns n h (p .start + p .size))) (listed []))
     go false s k r = tt
     go true Nothing k r = tt
     go true (One p) k r = put-each (Known h) p (turns n h (p .start + p .size)) (k p refl) (r p)
@@ -134,17 +140,21 @@ unfolding allFit
 each-fit [] e = tt
 each-fit (p ∷ ps) e = go (widthFits (p .identifier) (p .size)) refl (each-fit ps)
   where
-    go : (t : Bool) → widthFits (p .identifier) (p .size) ≡ t → (allFit ps ≡ true → Each (λ q. widthFits (q .identifier) (q .size) ≡ true) ps) → Each (λ q. widthFits (q .identifier) (q .size) ≡ true) (p ∷ ps)
+    go : (t : Bool) → widthFits (p .identifier) (p .size) ≡ t
+        → (allFit ps ≡ true → Each (λ q. widthFits (q .identifier) (q .size) ≡ true) ps)
+        → Each (λ q. widthFits (q .identifier) (q .size) ≡ true) (p ∷ ps)
     go true f r = (f, r (rw f at e))
     go false f r = let b : false ≡ true = rw f at e in let z : _≡_ {A = ℕ} 0 1 = cc in absurd (omega arith)
 
 -- what is found by its identifier is one of them
-pub find-each : (P : Parameter → Type 0) (i : ℕ) (ps : List Parameter) (p : Parameter) → Each P ps → find i ps ≡ One p → P p × (p .identifier ≡ i)
+pub find-each : (P : Parameter → Type 0) (i : ℕ) (ps : List Parameter) (p : Parameter) → Each P ps → find i ps ≡ One p
+    → P p × (p .identifier ≡ i)
 unfolding find
 find-each P i [] p k e = let z : _≡_ {A = ℕ} 0 1 = cc in absurd (omega arith)
 find-each P i (q ∷ ps) p k e = go (find i ps) refl (λ f. find-each P i ps p (k .1) f) (ℕ-discrete (q .identifier) i)
   where
-    go : (s : Found) → find i ps ≡ s → (find i ps ≡ One p → P p × (p .identifier ≡ i)) → Dec (q .identifier ≡ i) → P p × (p .identifier ≡ i)
+    go : (s : Found) → find i ps ≡ s → (find i ps ≡ One p → P p × (p .identifier ≡ i)) → Dec (q .identifier ≡ i) → P p
+        × (p .identifier ≡ i)
     go (One r) f rest d = let m : One r ≡ One p = rw f at e in rest (f ∙ m)
     go Nothing f rest (yes d) =
         let m : One q ≡ One p = rw (f, eq-eqb (q .identifier) i d) at e in
@@ -156,7 +166,8 @@ find-each P i (q ∷ ps) p k e = go (find i ps) refl (λ f. find-each P i ps p (
         absurd (omega arith)
 
 -- Priority's data is one byte inside the header
-pub priority-inside : (h : List ℕ) (ps : List Parameter) (p : Parameter) → Each (Known h) ps → allFit ps ≡ true → find 0x0A ps ≡ One p → (p .start < length h) × (p .size ≡ 1)
+pub priority-inside : (h : List ℕ) (ps : List Parameter) (p : Parameter) → Each (Known h) ps → allFit ps ≡ true
+    → find 0x0A ps ≡ One p → (p .start < length h) × (p .size ≡ 1)
 unfolding widthFits
 priority-inside h ps p k f e =
     let a = find-each (Known h) 0x0A ps p k e in

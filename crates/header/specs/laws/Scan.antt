@@ -20,13 +20,20 @@ either false b = b
 -- one more parameter, whose identifier has come already where `mark` is 1
 unfoldable pub note : Notes → Parameter → ℕ → Notes
 note n p mark =
-    record { repeated = either (n .repeated) (both (eqb mark 1) (single (p .identifier))); priority = pick (eqb (p .identifier) 0x0A) (One p) (n .priority); name = pick (eqb (p .identifier) 0x0C) (One p) (n .name) }
+    record {
+      repeated = either (n .repeated) (both (eqb mark 1) (single (p .identifier)));
+      priority =
+          pick (eqb (p .identifier) 0x0A) (One p) (n .priority);
+      name = pick (eqb (p .identifier) 0x0C) (One p)
+          (n .name);
+    }
 
 -- `seen` has a mark for each identifier that has come
 unfoldable pub noteAll : List Parameter → List ℕ → Notes → Scan
 noteAll [] seen n = Whole n
 noteAll (p ∷ ps) seen n =
-    pick (widthFits (p .identifier) (p .size)) (noteAll ps (set seen (p .identifier) 1) (note n p (getD seen (p .identifier) 0))) Broken
+    pick (widthFits (p .identifier) (p .size))
+    (noteAll ps (set seen (p .identifier) 1) (note n p (getD seen (p .identifier) 0))) Broken
 
 unfoldable pub scanned : Listed → List ℕ → Notes → Scan
 scanned broken seen n = Broken

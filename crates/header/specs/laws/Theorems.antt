@@ -37,8 +37,10 @@ pub data Given (h : List ℕ) : Reading → Type 0 where
   core : length h < 7 → Given h (Refused Core)
   past-end : 7 ≤ length h → parameters h ≡ broken → Given h (Refused Header)
   width : {ps : List Parameter} → 7 ≤ length h → parameters h ≡ listed ps → allFit ps ≡ false → Given h (Refused Header)
-  repeated : {ps : List Parameter} → 7 ≤ length h → parameters h ≡ listed ps → allFit ps ≡ true → Repeats ps → Given h (Refused Duplicate)
-  whole : {ps : List Parameter} → 7 ≤ length h → parameters h ≡ listed ps → allFit ps ≡ true → (Repeats ps → ⊥) → Given h (Read (fieldsOf h (find 0x0A ps) (find 0x0C ps)))
+  repeated : {ps : List Parameter} → 7 ≤ length h → parameters h ≡ listed ps → allFit ps ≡ true → Repeats ps
+      → Given h (Refused Duplicate)
+  whole : {ps : List Parameter} → 7 ≤ length h → parameters h ≡ listed ps → allFit ps ≡ true → (Repeats ps → ⊥)
+      → Given h (Read (fieldsOf h (find 0x0A ps) (find 0x0C ps)))
 
 not-twice : (ps : List Parameter) → twice singles ps ≡ false → Repeats ps → ⊥
 not-twice ps e r =
@@ -55,9 +57,12 @@ given h = go (decLt (length h) 7)
     on broken g e = past-end g e
     on (listed ps) g e = fit (allFit ps) refl (twice singles ps) refl
       where
-        fit : (t : Bool) → allFit ps ≡ t → (u : Bool) → twice singles ps ≡ u → Given h (pick t (pick u (Refused Duplicate) (Read (fieldsOf h (find 0x0A ps) (find 0x0C ps)))) (Refused Header))
+        fit : (t : Bool) → allFit ps ≡ t → (u : Bool) → twice singles ps ≡ u
+            → Given h (pick t (pick u (Refused Duplicate) (Read (fieldsOf h (find 0x0A ps) (find 0x0C ps))))
+            (Refused Header))
         fit false f u x = width g e f
-        fit true f true x = let a = twice-there singles ps x in repeated g e f (record { identifier = a .0; single = a .1; again = a .2 })
+        fit true f true x = let a = twice-there singles ps x in
+            repeated g e f (record { identifier = a .0; single = a .1; again = a .2 })
         fit true f false x = whole g e f (not-twice ps x)
 
     go : Dec (length h < 7) → Given h (readHeader h)
@@ -70,12 +75,14 @@ unfolding readHeader judged
 given-only h (core g) = rw (lt-ltb (length h) 7 g)
 given-only h (past-end g e) = rw (le-ltb (length h) 7 g, e)
 given-only h (width g e f) = rw (le-ltb (length h) 7 g, e, f)
-given-only h (repeated {ps} g e f r) = rw (le-ltb (length h) 7 g, e, f, twice-back singles ps (r .identifier) (r .single) (r .again))
+given-only h (repeated {ps} g e f r) =
+    rw (le-ltb (length h) 7 g, e, f, twice-back singles ps (r .identifier) (r .single) (r .again))
 given-only h (whole {ps} g e f n) = rw (le-ltb (length h) 7 g, e, f, once (twice singles ps) refl)
   where
     once : (t : Bool) → twice singles ps ≡ t → twice singles ps ≡ false
     once false x = x
-    once true x = let a = twice-there singles ps x in absurd (n (record { identifier = a .0; single = a .1; again = a .2 }))
+    once true x = let a = twice-there singles ps x in
+        absurd (n (record { identifier = a .0; single = a .1; again = a .2 }))
 
 -- ---- what is read
 
@@ -102,7 +109,8 @@ read-from h f e = go (given h) e
     go (whole {ps} g l a n) x = record { ps = ps; lists = l; known = known ps l; fit = a; once = n; fields = cc }
 
 -- ContentName's data has its character set byte at least, and lies inside the header
-pub name-inside : (h : List ℕ) (f : Fields) (start size : ℕ) → readHeader h ≡ Read f → f .name ≡ Data start size → (0 < size) × (start + size ≤ length h)
+pub name-inside : (h : List ℕ) (f : Fields) (start size : ℕ) → readHeader h ≡ Read f → f .name ≡ Data start size
+    → (0 < size) × (start + size ≤ length h)
 unfolding fieldsOf widthFits
 name-inside h f start size e d = go (find 0x0C (r .ps)) refl (sym (ap (λ (g : Fields). g .name) (r .fields)) ∙ d)
   where
@@ -115,12 +123,14 @@ name-inside h f start size e d = go (find 0x0C (r .ps)) refl (sym (ap (λ (g : F
         let a : p .start ≡ start = cc in
         let b : p .size ≡ size = cc in
         let k = find-each (Known h) 0x0C (r .ps) p (r .known) x in
-        let w = find-each (λ q. widthFits (q .identifier) (q .size) ≡ true) 0x0C (r .ps) p (each-fit (r .ps) (r .fit)) x in
+        let w = find-each (λ q. widthFits (q .identifier) (q .size) ≡ true) 0x0C (r .ps) p (each-fit (r .ps) (r .fit)) x
+        in
         let s : 0 < p .size = ltb-true 0 (p .size) (rw (w .1) at (w .0)) in
         (omega arith, omega (arith, k .0 .inside))
 
 -- Priority's byte is a byte of the header
-pub priority-byte : (h : List ℕ) (f : Fields) (b : ℕ) → readHeader h ≡ Read f → f .priority ≡ Byte b → (at : ℕ) × (at < length h) × (getD h at 0 ≡ b)
+pub priority-byte : (h : List ℕ) (f : Fields) (b : ℕ) → readHeader h ≡ Read f → f .priority ≡ Byte b → (at : ℕ)
+    × (at < length h) × (getD h at 0 ≡ b)
 unfolding fieldsOf
 priority-byte h f b e d = go (find 0x0A (r .ps)) refl (sym (ap (λ (g : Fields). g .priority) (r .fields)) ∙ d)
   where
@@ -154,7 +164,8 @@ find-none i (q ∷ qs) e = go (ℕ-discrete (q .identifier) i) (find-none i qs)
     go (yes d) r = absurd (omega (arith, count-same q qs i d))
     go (no d) r = rw (r (omega (arith, count-other q qs i d)), ne-eqb (q .identifier) i d)
 
-find-back : (i : ℕ) (ps : List Parameter) (p : Parameter) → count i ps ≤ 1 → Among p ps → p .identifier ≡ i → find i ps ≡ One p
+find-back : (i : ℕ) (ps : List Parameter) (p : Parameter) → count i ps ≤ 1 → Among p ps → p .identifier ≡ i → find i ps
+    ≡ One p
 unfolding find
 find-back i [] p c a e = absurd a
 find-back i (q ∷ qs) p c (inl a) e =
@@ -167,7 +178,8 @@ find-back i (q ∷ qs) p c (inr a) e = rw (find-back i qs p (fewer (ℕ-discrete
     fewer (no d) = omega (arith, count-other q qs i d)
 
 -- where an identifier comes at most once, what is found by it is the one parameter that has it
-pub find-only : (i : ℕ) (ps : List Parameter) (p : Parameter) → count i ps ≤ 1 → (find i ps ≡ One p) ↔ (Among p ps × (p .identifier ≡ i))
+pub find-only : (i : ℕ) (ps : List Parameter) (p : Parameter) → count i ps ≤ 1 → (find i ps ≡ One p)
+    ↔ (Among p ps × (p .identifier ≡ i))
 find-only i ps p c = (find-each (λ q. Among q ps) i ps p (each-among ps), λ a. find-back i ps p c (a .0) (a .1))
 
 -- a single parameter of a header that reads comes at most once
@@ -200,7 +212,8 @@ module _ (h t : List ℕ) where
 
   parameter-front : (at : ℕ) → parameterAt h at .start ≤ length h → parameterAt (h ++ t) at ≡ parameterAt h at
   unfolding parameterAt
-  parameter-front at g = rw (front at (omega (arith, parameter-known h at .0))) (go (getD h at 0 / 64) (getD h at 0 % 64) g)
+  parameter-front at g = rw (front at (omega (arith, parameter-known h at .0)))
+      (go (getD h at 0 / 64) (getD h at 0 % 64) g)
     where
       go : (c i : ℕ) → byCode h at c i .start ≤ length h → byCode (h ++ t) at c i ≡ byCode h at c i
       go zero i k = refl
@@ -220,16 +233,19 @@ module _ (h t : List ℕ) where
 -- ---- names
 
 -- a name matches exactly where both sides are equal without the character set and one leading slash
-pub matches-exactly : (dataBytes asked : List ℕ) → (nameMatches dataBytes asked ≡ true) ↔ (unslashed (drop 1 dataBytes) ≡ unslashed asked)
+pub matches-exactly : (dataBytes asked : List ℕ) → (nameMatches dataBytes asked ≡ true)
+    ↔ (unslashed (drop 1 dataBytes) ≡ unslashed asked)
 unfolding nameMatches
 matches-exactly dataBytes asked = equal-exactly (unslashed (drop 1 dataBytes)) (unslashed asked)
 
 -- the character set plays no part
-pub matches-any-set : (set other : ℕ) (name asked : List ℕ) → nameMatches (set ∷ name) asked ≡ nameMatches (other ∷ name) asked
+pub matches-any-set : (set other : ℕ) (name asked : List ℕ) → nameMatches (set ∷ name) asked
+    ≡ nameMatches (other ∷ name) asked
 unfolding nameMatches
 matches-any-set set other name asked = refl
 
 -- a leading slash on either side, once
-pub matches-slash : (set : ℕ) (name asked : List ℕ) → (nameMatches (set ∷ 0x2F ∷ name) (0x2F ∷ asked) ≡ true) ↔ (name ≡ asked)
+pub matches-slash : (set : ℕ) (name asked : List ℕ) → (nameMatches (set ∷ 0x2F ∷ name) (0x2F ∷ asked) ≡ true)
+    ↔ (name ≡ asked)
 unfolding unslashed
 matches-slash set name asked = matches-exactly (set ∷ 0x2F ∷ name) (0x2F ∷ asked)

@@ -72,7 +72,8 @@ offer-leaves : (part : Part) (limit : ℕ) (segment : Segment) (slot : Slot) (le
 unfolding takeInto
 offer-leaves part limit segment slot lent = go (decided part limit segment (partsOf slot lent))
   where
-    go : (d : Decided) → Leaving (takenBy d part limit segment slot lent .outcome) → takenBy d part limit segment slot lent ≡ unchanged (takenBy d part limit segment slot lent .outcome) slot lent
+    go : (d : Decided) → Leaving (takenBy d part limit segment slot lent .outcome)
+        → takenBy d part limit segment slot lent ≡ unchanged (takenBy d part limit segment slot lent .outcome) slot lent
     go Decided.Repeat l = refl
     go Decided.Conflict l = refl
     go (Decided.Fits core) l = absurd (stage-stores (stageOf (partsWith part limit segment (partsOf slot lent))) l)

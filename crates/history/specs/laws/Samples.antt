@@ -75,7 +75,8 @@ unfolding parameters name findByName nameData hasName headerIn holderIn lowestFr
     lengthAt contentType contentSubType nameMatches unslashed under openWith takeSegment takeGroup dropNumber sound
     locate show shownOf startOf takeAt takeNew dropAt slotAt freshSlot freeSlot withLent lentAt soundSlots rightFrom
     rightSlot distinct unlike heldAmong withinLimits freeIn findIn firstFrom holds isFree fitsAlone soundSlot soundParts
-    soundPart recordRight takeInto decided slotWith sameSegment stageOf partsWith recordWithin recordWith takesIn fitsIn coreIn lentOf partsOf
+    soundPart recordRight takeInto decided slotWith sameSegment stageOf partsWith recordWithin recordWith takesIn fitsIn
+    coreIn lentOf partsOf
     put settled segmentAt possibleIn settle alone largest room coreFits boundsOf headerSize bodySize within
     risen largestOf equal zeros over readingOf kindOf checkHolds sizeWrong segmentOf checkWord divided bitsEntered
     entered step

@@ -62,15 +62,5 @@ returns-2 c =
 
 pub all-readable-spec : {M : Type 1} → statement M
 all-readable-spec =
-    tie.close
-    (tie.spec
-    Inv-loop
-    μ-loop
-    loop-holds
-    slot-readable-requires
-    returns
-    add-at
-    add-i
-    loop-less
-    loop-again
+    tie.close (tie.spec Inv-loop μ-loop loop-holds slot-readable-requires returns add-at add-i loop-less loop-again
     returns-2)

@@ -29,12 +29,5 @@ returns c = five-put (c .args .words .now) (c .args .counts .taken) (c .args .co
 
 pub put-counts-spec : {M : Type 1} → statement M
 put-counts-spec =
-    tie.close
-    (tie.spec
-    slice-write-words
-    slice-write-words-2
-    slice-write-words-3
-    slice-write-words-4
-    slice-write-words-5
-    same-length
-    returns)
+    tie.close (tie.spec slice-write-words slice-write-words-2 slice-write-words-3 slice-write-words-4
+    slice-write-words-5 same-length returns)

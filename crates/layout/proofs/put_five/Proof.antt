@@ -28,12 +28,5 @@ returns c = five-put (c .args .words .now) (c .args .a) (c .args .b) (c .args .c
 
 pub put-five-spec : {M : Type 1} → statement M
 put-five-spec =
-    tie.close
-    (tie.spec
-    slice-write-words
-    slice-write-words-2
-    slice-write-words-3
-    slice-write-words-4
-    slice-write-words-5
-    same-length
-    returns)
+    tie.close (tie.spec slice-write-words slice-write-words-2 slice-write-words-3 slice-write-words-4
+    slice-write-words-5 same-length returns)

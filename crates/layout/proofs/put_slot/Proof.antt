@@ -64,19 +64,6 @@ returns c =
 
 pub put-slot-spec : {M : Type 1} → statement M
 put-slot-spec =
-    tie.close
-    (tie.spec
-    sub-put-five
-    part-put-five-start
-    part-put-five-end
-    cast-put-five
-    stage-tag-requires
-    header-word-requires
-    body-word-requires
-    put-five-requires
-    sub-put-five-2
-    part-put-five-start-2
-    part-put-five-end-2
-    put-five-requires-2
-    same-length
-    returns)
+    tie.close (tie.spec sub-put-five part-put-five-start part-put-five-end cast-put-five stage-tag-requires
+    header-word-requires body-word-requires put-five-requires sub-put-five-2 part-put-five-start-2 part-put-five-end-2
+    put-five-requires-2 same-length returns)

@@ -82,21 +82,6 @@ returns c =
 
 pub put-slots-spec : {M : Type 1} → statement M
 put-slots-spec =
-    tie.close
-    (tie.spec
-    Inv-loop
-    μ-loop
-    loop-holds
-    add-end
-    mul-put-slot
-    sub-put-slot
-    part-put-slot-start
-    part-put-slot-end
-    mul-put-slot-2
-    array-copy-out-put-slot
-    put-slot-requires
-    add-i
-    loop-less
-    loop-again
-    same-length
+    tie.close (tie.spec Inv-loop μ-loop loop-holds add-end mul-put-slot sub-put-slot part-put-slot-start
+    part-put-slot-end mul-put-slot-2 array-copy-out-put-slot put-slot-requires add-i loop-less loop-again same-length
     returns)

@@ -36,14 +36,5 @@ returns c = refl
 
 pub record-at-spec : {M : Type 1} → statement M
 record-at-spec =
-    tie.close
-    (tie.spec
-    mul-t3
-    shared-slice-read-t5
-    add-t7
-    mul-t8
-    shared-slice-read-t10
-    add-t12
-    mul-t13
-    shared-slice-read-t15
-    returns)
+    tie.close (tie.spec mul-t3 shared-slice-read-t5 add-t7 mul-t8 shared-slice-read-t10 add-t12 mul-t13
+    shared-slice-read-t15 returns)

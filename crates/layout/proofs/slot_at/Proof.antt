@@ -44,15 +44,5 @@ returns c = rw (
 
 pub slot-at-spec : {M : Type 1} → statement M
 slot-at-spec =
-    tie.close
-    (tie.spec
-    mul-number
-    shared-slice-read-number
-    number-from-requires
-    add-stage-at
-    stage-at-requires
-    add-record-at
-    record-at-requires
-    add-record-at-2
-    record-at-requires-2
-    returns)
+    tie.close (tie.spec mul-number shared-slice-read-number number-from-requires add-stage-at stage-at-requires
+    add-record-at record-at-requires add-record-at-2 record-at-requires-2 returns)

@@ -35,13 +35,5 @@ returns-3 c = rw (ne-eqb _ _ (c .before .before .if1 .left), le-leb _ _ (c .befo
 
 pub slot-readable-spec : {M : Type 1} → statement M
 slot-readable-spec =
-    tie.close
-    (tie.spec
-    add-tag
-    mul-tag
-    shared-slice-read-tag
-    returns
-    returns-2
-    mul-result
-    shared-slice-read-result
+    tie.close (tie.spec add-tag mul-tag shared-slice-read-tag returns returns-2 mul-result shared-slice-read-result
     returns-3)

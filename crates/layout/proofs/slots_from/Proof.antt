@@ -65,17 +65,5 @@ returns c =
 
 pub slots-from-spec : {M : Type 1} → statement M
 slots-from-spec =
-    tie.close
-    (tie.spec
-    Inv-loop
-    μ-loop
-    free-slot-requires
-    loop-holds
-    slot-at-requires
-    mul-slots
-    array-set-from-slots
-    add-at
-    add-i
-    loop-less
-    loop-again
-    returns)
+    tie.close (tie.spec Inv-loop μ-loop free-slot-requires loop-holds slot-at-requires mul-slots array-set-from-slots
+    add-at add-i loop-less loop-again returns)

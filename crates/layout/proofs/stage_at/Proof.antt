@@ -38,15 +38,6 @@ returns c = c .stage-from .ensures
 
 pub stage-at-spec : {M : Type 1} → statement M
 stage-at-spec =
-    tie.close
-    (tie.spec
-    mul-stage-from
-    shared-slice-read-stage-from
-    add-stage-from
-    mul-stage-from-2
-    shared-slice-read-stage-from-2
-    add-stage-from-2
-    mul-stage-from-3
-    shared-slice-read-stage-from-3
-    stage-from-requires
+    tie.close (tie.spec mul-stage-from shared-slice-read-stage-from add-stage-from mul-stage-from-2
+    shared-slice-read-stage-from-2 add-stage-from-2 mul-stage-from-3 shared-slice-read-stage-from-3 stage-from-requires
     returns)

@@ -44,15 +44,5 @@ returns-2 c = c .before .loop .inv
 
 pub list-all-spec : {M : Type 1} → statement M
 list-all-spec =
-    tie.close
-    (tie.spec
-    Inv-loop
-    μ-loop
-    large-buffer-requires
-    loop-holds
-    list-some-requires
-    returns
-    sub-turns
-    loop-less
-    loop-again
-    returns-2)
+    tie.close (tie.spec Inv-loop μ-loop large-buffer-requires loop-holds list-some-requires returns sub-turns loop-less
+    loop-again returns-2)

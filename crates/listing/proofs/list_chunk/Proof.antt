@@ -79,15 +79,5 @@ returns c =
 
 pub list-chunk-spec : {M : Type 1} → statement M
 list-chunk-spec =
-    tie.close
-    (tie.spec
-    Inv-loop
-    μ-loop
-    loop-holds
-    gather-requires
-    list-kept-requires
-    loop-less
-    loop-again
-    loop-less-2
-    loop-again-2
-    returns)
+    tie.close (tie.spec Inv-loop μ-loop loop-holds gather-requires list-kept-requires loop-less loop-again loop-less-2
+    loop-again-2 returns)

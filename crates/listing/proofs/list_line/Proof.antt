@@ -77,18 +77,6 @@ returns-3 c =
 
 pub list-line-spec : {M : Type 1} → statement M
 list-line-spec =
-    tie.close
-    (tie.spec
-    read-requires
-    enum-known-count
-    front-requires
-    taken-requires
-    say-done-requires
-    enum-known-transport
-    dropped-requires
-    say-done-requires-2
-    enum-told
-    say-malformed-requires
-    returns
-    returns-2
+    tie.close (tie.spec read-requires enum-known-count front-requires taken-requires say-done-requires
+    enum-known-transport dropped-requires say-done-requires-2 enum-told say-malformed-requires returns returns-2
     returns-3)

@@ -58,16 +58,5 @@ returns c = (refl, rw (← c .check-word .ensures) (both-stored _ _ _ _ (c .befo
 
 pub add-check-spec : {M : Type 1} → statement M
 add-check-spec =
-    tie.close
-    (tie.spec
-    slice-reshare-prefix-check-word
-    slice-aggregate-check-word
-    check-word-requires
-    cast-group
-    slice-write-group
-    cast-group-2
-    add-group
-    slice-write-group-2
-    add-result
-    same-length
-    returns)
+    tie.close (tie.spec slice-reshare-prefix-check-word slice-aggregate-check-word check-word-requires cast-group
+    slice-write-group cast-group-2 add-group slice-write-group-2 add-result same-length returns)

@@ -95,16 +95,5 @@ returns-5 c =
 
 pub asked-spec : {M : Type 1} → statement M
 asked-spec =
-    tie.close
-    (tie.spec
-    decode-requires
-    same-length
-    returns
-    decode-requires-2
-    add-check-requires
-    same-length-2
-    returns-2
-    returns-3
-    returns-4
-    number-requires
-    returns-5)
+    tie.close (tie.spec decode-requires same-length returns decode-requires-2 add-check-requires same-length-2 returns-2
+    returns-3 returns-4 number-requires returns-5)

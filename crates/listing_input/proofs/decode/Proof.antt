@@ -108,23 +108,6 @@ returns c =
 
 pub decode-spec : {M : Type 1} → statement M
 decode-spec =
-    tie.close
-    (tie.spec
-    Inv-loop
-    μ-loop
-    loop-holds
-    mul-digit
-    shared-slice-read-digit
-    digit-requires
-    mul-group
-    mul-digit-2
-    add-digit
-    shared-slice-read-digit-2
-    digit-requires-2
-    add-group
-    slice-write-group
-    add-i
-    loop-less
-    loop-again
-    same-length
-    returns)
+    tie.close (tie.spec Inv-loop μ-loop loop-holds mul-digit shared-slice-read-digit digit-requires mul-group
+    mul-digit-2 add-digit shared-slice-read-digit-2 digit-requires-2 add-group slice-write-group add-i loop-less
+    loop-again same-length returns)

@@ -112,14 +112,5 @@ returns-3 c =
 
 pub gather-spec : {M : Type 1} → statement M
 gather-spec =
-    tie.close
-    (tie.spec
-    returns
-    line-end-requires
-    sub-keep
-    part-keep-start
-    part-keep-end
-    keep-requires
-    add-t14
-    returns-2
+    tie.close (tie.spec returns line-end-requires sub-keep part-keep-start part-keep-end keep-requires add-t14 returns-2
     returns-3)

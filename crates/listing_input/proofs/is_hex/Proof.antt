@@ -60,16 +60,5 @@ returns-3 c = sym (c .before .loop .inv .1 ∙ ap allDigits (drop-of-length-le _
 
 pub is-hex-spec : {M : Type 1} → statement M
 is-hex-spec =
-    tie.close
-    (tie.spec
-    Inv-loop
-    μ-loop
-    returns
-    loop-holds
-    shared-slice-read-digit
-    digit-requires
-    returns-2
-    add-i
-    loop-less
-    loop-again
-    returns-3)
+    tie.close (tie.spec Inv-loop μ-loop returns loop-holds shared-slice-read-digit digit-requires returns-2 add-i
+    loop-less loop-again returns-3)

@@ -93,22 +93,6 @@ returns-3 c =
 
 pub keep-spec : {M : Type 1} → statement M
 keep-spec =
-    tie.close
-    (tie.spec
-    returns
-    sub-room
-    sub-copy-in
-    part-copy-in-start
-    part-copy-in-end
-    copy-in-requires
-    add-result
-    same-length
-    returns-2
-    sub-copy-in-2
-    part-copy-in-start-2
-    part-copy-in-end-2
-    slice-aggregate-copy-in
-    copy-in-requires-2
-    add-result-2
-    same-length-2
-    returns-3)
+    tie.close (tie.spec returns sub-room sub-copy-in part-copy-in-start part-copy-in-end copy-in-requires add-result
+    same-length returns-2 sub-copy-in-2 part-copy-in-start-2 part-copy-in-end-2 slice-aggregate-copy-in
+    copy-in-requires-2 add-result-2 same-length-2 returns-3)

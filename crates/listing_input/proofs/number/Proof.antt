@@ -115,22 +115,6 @@ returns c =
 
 pub number-spec : {M : Type 1} → statement M
 number-spec =
-    tie.close
-    (tie.spec
-    shared-slice-read-digit
-    digit-requires
-    mul-high
-    shared-slice-read-digit-2
-    digit-requires-2
-    add-high
-    shared-slice-read-digit-3
-    digit-requires-3
-    mul-low
-    shared-slice-read-digit-4
-    digit-requires-4
-    add-low
-    cast-result
-    mul-result
-    cast-result-2
-    add-result
-    returns)
+    tie.close (tie.spec shared-slice-read-digit digit-requires mul-high shared-slice-read-digit-2 digit-requires-2
+    add-high shared-slice-read-digit-3 digit-requires-3 mul-low shared-slice-read-digit-4 digit-requires-4 add-low
+    cast-result mul-result cast-result-2 add-result returns)

@@ -78,17 +78,5 @@ returns-5 c =
 
 pub read-spec : {M : Type 1} → statement M
 read-spec =
-    tie.close
-    (tie.spec
-    returns
-    returns-2
-    shared-slice-read-if3
-    returns-3
-    sub-digits
-    part-digits-start
-    part-digits-end
-    is-hex-requires
-    returns-4
-    shared-slice-read-asked
-    asked-requires
-    returns-5)
+    tie.close (tie.spec returns returns-2 shared-slice-read-if3 returns-3 sub-digits part-digits-start part-digits-end
+    is-hex-requires returns-4 shared-slice-read-asked asked-requires returns-5)

@@ -76,18 +76,5 @@ returns c =
 
 pub decimal-spec : {M : Type 1} → statement M
 decimal-spec =
-    tie.close
-    (tie.spec
-    Inv-loop
-    μ-loop
-    cast-digits
-    add-digits
-    array-write-digits
-    loop-holds
-    sub-start
-    cast-digits-2
-    add-digits-2
-    array-write-digits-2
-    loop-less
-    loop-again
-    returns)
+    tie.close (tie.spec Inv-loop μ-loop cast-digits add-digits array-write-digits loop-holds sub-start cast-digits-2
+    add-digits-2 array-write-digits-2 loop-less loop-again returns)

@@ -60,14 +60,5 @@ returns c =
 
 pub put-spec : {M : Type 1} → statement M
 put-spec =
-    tie.close
-    (tie.spec
-    sub-copy-in
-    part-copy-in-start
-    part-copy-in-end
-    copy-in-requires
-    add-last
-    slice-write-out
-    add-result
-    same-length
-    returns)
+    tie.close (tie.spec sub-copy-in part-copy-in-start part-copy-in-end copy-in-requires add-last slice-write-out
+    add-result same-length returns)

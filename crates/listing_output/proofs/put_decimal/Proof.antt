@@ -40,12 +40,4 @@ returns c =
 
 pub put-decimal-spec : {M : Type 1} → statement M
 put-decimal-spec =
-    tie.close
-    (tie.spec
-    decimal-requires
-    sub-put
-    part-put-start
-    part-put-end
-    put-requires
-    same-length
-    returns)
+    tie.close (tie.spec decimal-requires sub-put part-put-start part-put-end put-requires same-length returns)

@@ -45,13 +45,5 @@ returns c =
 
 pub put-hex-spec : {M : Type 1} → statement M
 put-hex-spec =
-    tie.close
-    (tie.spec
-    digit-requires
-    digit-requires-2
-    digit-requires-3
-    digit-requires-4
-    slice-aggregate-put
-    put-requires
-    same-length
-    returns)
+    tie.close (tie.spec digit-requires digit-requires-2 digit-requires-3 digit-requires-4 slice-aggregate-put
+    put-requires same-length returns)

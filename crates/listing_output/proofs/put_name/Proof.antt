@@ -40,11 +40,5 @@ returns c =
 
 pub put-name-spec : {M : Type 1} → statement M
 put-name-spec =
-    tie.close
-    (tie.spec
-    name-of-requires
-    array-share-prefix-letters
-    slice-aggregate-put
-    put-requires
-    same-length
+    tie.close (tie.spec name-of-requires array-share-prefix-letters slice-aggregate-put put-requires same-length
     returns)

@@ -52,15 +52,5 @@ returns-2 c =
 
 pub put-part-spec : {M : Type 1} → statement M
 put-part-spec =
-    tie.close
-    (tie.spec
-    enum-told
-    slice-aggregate-put
-    put-requires
-    enum-told-2
-    slice-aggregate-put-2
-    put-requires-2
-    same-length
-    returns
-    same-length-2
-    returns-2)
+    tie.close (tie.spec enum-told slice-aggregate-put put-requires enum-told-2 slice-aggregate-put-2 put-requires-2
+    same-length returns same-length-2 returns-2)

@@ -73,20 +73,6 @@ returns-3 c =
 
 pub put-returned-spec : {M : Type 1} → statement M
 put-returned-spec =
-    tie.close
-    (tie.spec
-    enum-known-returned
-    put-segment-requires
-    enum-known-returned-2
-    put-hex-requires
-    slice-aggregate-put
-    put-requires
-    enum-told
-    slice-aggregate-put-2
-    put-requires-2
-    same-length
-    returns
-    same-length-2
-    returns-2
-    same-length-3
-    returns-3)
+    tie.close (tie.spec enum-known-returned put-segment-requires enum-known-returned-2 put-hex-requires
+    slice-aggregate-put put-requires enum-told slice-aggregate-put-2 put-requires-2 same-length returns same-length-2
+    returns-2 same-length-3 returns-3)

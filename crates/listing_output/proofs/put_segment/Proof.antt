@@ -34,11 +34,4 @@ returns c =
 
 pub put-segment-spec : {M : Type 1} → statement M
 put-segment-spec =
-    tie.close
-    (tie.spec
-    put-hex-requires
-    put-part-requires
-    cast-put-decimal
-    put-decimal-requires
-    same-length
-    returns)
+    tie.close (tie.spec put-hex-requires put-part-requires cast-put-decimal put-decimal-requires same-length returns)

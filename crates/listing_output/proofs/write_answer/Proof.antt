@@ -50,10 +50,4 @@ returns c =
 
 pub write-answer-spec : {M : Type 1} → statement M
 write-answer-spec =
-    tie.close
-    (tie.spec
-    put-decimal-requires
-    put-name-requires
-    returned-with-requires
-    put-returned-requires
-    returns)
+    tie.close (tie.spec put-decimal-requires put-name-requires returned-with-requires put-returned-requires returns)

@@ -42,13 +42,5 @@ returns c =
 
 pub write-counts-spec : {M : Type 1} → statement M
 write-counts-spec =
-    tie.close
-    (tie.spec
-    slice-aggregate-put
-    put-requires
-    put-decimal-requires
-    put-decimal-requires-2
-    put-decimal-requires-3
-    put-decimal-requires-4
-    put-decimal-requires-5
-    returns)
+    tie.close (tie.spec slice-aggregate-put put-requires put-decimal-requires put-decimal-requires-2
+    put-decimal-requires-3 put-decimal-requires-4 put-decimal-requires-5 returns)

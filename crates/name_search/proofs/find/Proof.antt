@@ -213,28 +213,7 @@ returns-2 c =
 
 pub find-spec : {M : Type 1} → statement M
 find-spec =
-    tie.close
-    (tie.spec
-    Inv-parameters
-    μ-parameters
-    Inv-slots
-    μ-slots
-    slots-holds
-    mul-slot
-    array-copy-out-slot
-    header-in-requires
-    legible-requires
-    parameters-holds
-    parameter-at-requires
-    enum-known-parameter
-    enum-told
-    is-named-requires
-    lower-of-requires
-    add-at
-    parameters-less
-    parameters-again
-    add-i
-    slots-less
-    slots-again
-    returns
+    tie.close (tie.spec Inv-parameters μ-parameters Inv-slots μ-slots slots-holds mul-slot array-copy-out-slot
+    header-in-requires legible-requires parameters-holds parameter-at-requires enum-known-parameter enum-told
+    is-named-requires lower-of-requires add-at parameters-less parameters-again add-i slots-less slots-again returns
     returns-2)

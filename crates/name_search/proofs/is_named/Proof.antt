@@ -37,12 +37,5 @@ returns-2 c = rw (ne-eqb _ _ (c .match .rest .1))
 
 pub is-named-spec : {M : Type 1} → statement M
 is-named-spec =
-    tie.close
-    (tie.spec
-    add-end
-    sub-name-matches
-    part-name-matches-start
-    part-name-matches-end
-    name-matches-requires
-    returns
-    returns-2)
+    tie.close (tie.spec add-end sub-name-matches part-name-matches-start part-name-matches-end name-matches-requires
+    returns returns-2)

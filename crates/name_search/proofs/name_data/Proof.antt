@@ -58,15 +58,5 @@ returns-2 c =
 
 pub name-data-spec : {M : Type 1} → statement M
 name-data-spec =
-    tie.close
-    (tie.spec
-    name-of-requires
-    enum-known-start
-    enum-told
-    slice-aggregate-result
-    returns
-    add-end
-    sub-result
-    part-result-start
-    part-result-end
-    returns-2)
+    tie.close (tie.spec name-of-requires enum-known-start enum-told slice-aggregate-result returns add-end sub-result
+    part-result-start part-result-end returns-2)

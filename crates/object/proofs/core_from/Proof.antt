@@ -17,7 +17,8 @@ core-of-requires : tie.Need-core-of-requires
 core-of-requires c κs = search needs
 
 returns-2 : tie.Need-returns-2
-returns-2 c = rw (le-leb 1 (getD (c .before .before .before .before .before .args .marks .now) 0 0) (omega arith)) (c .core-of .ensures)
+returns-2 c = rw (le-leb 1 (getD (c .before .before .before .before .before .args .marks .now) 0 0) (omega arith))
+    (c .core-of .ensures)
 
 pub core-from-spec : {M : Type 1} → statement M
 core-from-spec = tie.close (tie.spec shared-slice-read-if1 returns core-of-requires returns-2)

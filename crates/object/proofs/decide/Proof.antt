@@ -26,17 +26,35 @@ same-as-held-requires c κs =
 
 returns : tie.Need-returns
 returns c =
-    let lent : Lent = shares (c .before .before .before .before .before .before .before .before .before .args .header .now) (c .before .before .before .before .before .before .before .before .before .args .body .now) (c .before .before .before .before .before .before .before .before .before .args .marks .now) in
-    let s : Segment = segment (c .before .before .before .before .before .before .before .before .before .args .number) (c .before .before .before .before .before .before .before .before .before .args .last) (c .before .before .before .before .before .before .before .before .before .args .bytes .now) in
-    let marked = rw (c .before .before .before .before .marks-of .ensures) at (c .before .before .before .holds .ensures) in
-    decided-held (c .before .before .before .before .before .before .before .before .before .args .part) (c .before .before .before .before .before .before .before .before .before .args .limit) s (c .before .before .before .before .before .before .before .before .before .args .slot) lent true (sym marked ∙ c .before .before .if1 .taken) (sym (c .if2 .taken) ∙ c .before .same-as-held .ensures)
+    let lent : Lent =
+    shares (c .before .before .before .before .before .before .before .before .before .args .header .now)
+    (c .before .before .before .before .before .before .before .before .before .args .body .now)
+    (c .before .before .before .before .before .before .before .before .before .args .marks .now) in
+    let s : Segment = segment (c .before .before .before .before .before .before .before .before .before .args .number)
+    (c .before .before .before .before .before .before .before .before .before .args .last)
+    (c .before .before .before .before .before .before .before .before .before .args .bytes .now) in
+    let marked = rw (c .before .before .before .before .marks-of .ensures) at
+    (c .before .before .before .holds .ensures) in
+    decided-held (c .before .before .before .before .before .before .before .before .before .args .part)
+    (c .before .before .before .before .before .before .before .before .before .args .limit) s
+    (c .before .before .before .before .before .before .before .before .before .args .slot) lent true
+    (sym marked ∙ c .before .before .if1 .taken) (sym (c .if2 .taken) ∙ c .before .same-as-held .ensures)
 
 returns-2 : tie.Need-returns-2
 returns-2 c =
-    let lent : Lent = shares (c .before .before .before .before .before .before .before .before .before .args .header .now) (c .before .before .before .before .before .before .before .before .before .args .body .now) (c .before .before .before .before .before .before .before .before .before .args .marks .now) in
-    let s : Segment = segment (c .before .before .before .before .before .before .before .before .before .args .number) (c .before .before .before .before .before .before .before .before .before .args .last) (c .before .before .before .before .before .before .before .before .before .args .bytes .now) in
-    let marked = rw (c .before .before .before .before .marks-of .ensures) at (c .before .before .before .holds .ensures) in
-    decided-held (c .before .before .before .before .before .before .before .before .before .args .part) (c .before .before .before .before .before .before .before .before .before .args .limit) s (c .before .before .before .before .before .before .before .before .before .args .slot) lent false (sym marked ∙ c .before .before .if1 .taken) (sym (c .if2 .left) ∙ c .before .same-as-held .ensures)
+    let lent : Lent =
+    shares (c .before .before .before .before .before .before .before .before .before .args .header .now)
+    (c .before .before .before .before .before .before .before .before .before .args .body .now)
+    (c .before .before .before .before .before .before .before .before .before .args .marks .now) in
+    let s : Segment = segment (c .before .before .before .before .before .before .before .before .before .args .number)
+    (c .before .before .before .before .before .before .before .before .before .args .last)
+    (c .before .before .before .before .before .before .before .before .before .args .bytes .now) in
+    let marked = rw (c .before .before .before .before .marks-of .ensures) at
+    (c .before .before .before .holds .ensures) in
+    decided-held (c .before .before .before .before .before .before .before .before .before .args .part)
+    (c .before .before .before .before .before .before .before .before .before .args .limit) s
+    (c .before .before .before .before .before .before .before .before .before .args .slot) lent false
+    (sym marked ∙ c .before .before .if1 .taken) (sym (c .if2 .left) ∙ c .before .same-as-held .ensures)
 
 core-with-requires : tie.Need-core-with-requires
 core-with-requires c κs = search needs
@@ -54,7 +72,13 @@ takes-requires : tie.Need-takes-requires
 takes-requires c κs = (
   record {
     long = c .before .before .before .before .before .before .before .before .before .before .before .pre .marks;
-    ours = c .before .before .total-in .ensures ∙ tallied-total (c .before .before .before .before .before .before .before .before .before .before .before .args .part) (c .before .before .before .before .before .before .before .before .before .before .before .args .tally) (c .before .before .before .before .before .before .before .before .before .before .before .args .header .now) (c .before .before .before .before .before .before .before .before .before .before .before .args .marks .now) (c .before .before .before .before .before .before .before .before .before .before .before .pre .tallied);
+    ours = c .before .before .total-in .ensures
+        ∙ tallied-total
+        (c .before .before .before .before .before .before .before .before .before .before .before .args .part)
+        (c .before .before .before .before .before .before .before .before .before .before .before .args .tally)
+        (c .before .before .before .before .before .before .before .before .before .before .before .args .header .now)
+        (c .before .before .before .before .before .before .before .before .before .before .before .args .marks .now)
+        (c .before .before .before .before .before .before .before .before .before .before .before .pre .tallied);
     theirs = (rw (c .before .other-part .ensures) at (c .total-in2 .ensures)) ∙ tallied-total (otherPart (c .before .before .before .before .before .before .before .before .before .before .before .args .part)) (c .before .before .before .before .before .before .before .before .before .before .before .args .tally) (c .before .before .before .before .before .before .before .before .before .before .before .args .header .now) (c .before .before .before .before .before .before .before .before .before .before .before .args .marks .now) (c .before .before .before .before .before .before .before .before .before .before .before .pre .tallied);
   },
   c .before .before .before .before .before .before .before .before .before .before .before .pre .bits,
@@ -65,7 +89,8 @@ unfolding partsOf coreIn
 returns-3 c =
     let lent : Lent = shares (c .before .before .before .before .before .before .before .before .before .before .before .before .before .args .header .now) (c .before .before .before .before .before .before .before .before .before .before .before .before .before .args .body .now) (c .before .before .before .before .before .before .before .before .before .before .before .before .before .args .marks .now) in
     let s : Segment = segment (c .before .before .before .before .before .before .before .before .before .before .before .before .before .args .number) (c .before .before .before .before .before .before .before .before .before .before .before .before .before .args .last) (c .before .before .before .before .before .before .before .before .before .before .before .before .before .args .bytes .now) in
-    let marked = rw (c .before .before .before .before .before .before .before .before .marks-of .ensures) at (c .before .before .before .before .before .before .before .holds .ensures) in
+    let marked = rw (c .before .before .before .before .before .before .before .before .marks-of .ensures) at
+    (c .before .before .before .before .before .before .before .holds .ensures) in
     let core : c .before .before .before .before .before .core-with .result ≡ said (c .before .before .before .before .before .before .before .before .before .before .before .before .before .args .part) (c .before .before .before .before .before .before .before .before .before .before .before .before .before .args .limit) s (c .before .before .before .before .before .before .before .before .before .before .before .before .before .args .slot) lent = c .before .before .before .before .before .core-with .ensures ∙ ap (λ (t : Tally). coreWith (c .before .before .before .before .before .before .before .before .before .before .before .before .before .args .part) s (t .core)) (c .before .before .before .before .before .before .before .before .before .before .before .before .before .pre .tallied) in
     decided-new (c .before .before .before .before .before .before .before .before .before .before .before .before .before .args .part) (c .before .before .before .before .before .before .before .before .before .before .before .before .before .args .limit) s (c .before .before .before .before .before .before .before .before .before .before .before .before .before .args .slot) lent false (sym marked ∙ c .before .before .before .before .before .before .if1 .left) (sym (not-true _ (c .if3 .taken)) ∙ (rw core at (c .before .takes .ensures)))
 
@@ -74,23 +99,12 @@ unfolding partsOf coreIn
 returns-4 c =
     let lent : Lent = shares (c .before .before .before .before .before .before .before .before .before .before .before .before .before .args .header .now) (c .before .before .before .before .before .before .before .before .before .before .before .before .before .args .body .now) (c .before .before .before .before .before .before .before .before .before .before .before .before .before .args .marks .now) in
     let s : Segment = segment (c .before .before .before .before .before .before .before .before .before .before .before .before .before .args .number) (c .before .before .before .before .before .before .before .before .before .before .before .before .before .args .last) (c .before .before .before .before .before .before .before .before .before .before .before .before .before .args .bytes .now) in
-    let marked = rw (c .before .before .before .before .before .before .before .before .marks-of .ensures) at (c .before .before .before .before .before .before .before .holds .ensures) in
+    let marked = rw (c .before .before .before .before .before .before .before .before .marks-of .ensures) at
+    (c .before .before .before .before .before .before .before .holds .ensures) in
     let core : c .before .before .before .before .before .core-with .result ≡ said (c .before .before .before .before .before .before .before .before .before .before .before .before .before .args .part) (c .before .before .before .before .before .before .before .before .before .before .before .before .before .args .limit) s (c .before .before .before .before .before .before .before .before .before .before .before .before .before .args .slot) lent = c .before .before .before .before .before .core-with .ensures ∙ ap (λ (t : Tally). coreWith (c .before .before .before .before .before .before .before .before .before .before .before .before .before .args .part) s (t .core)) (c .before .before .before .before .before .before .before .before .before .before .before .before .before .pre .tallied) in
     rw core (decided-new (c .before .before .before .before .before .before .before .before .before .before .before .before .before .args .part) (c .before .before .before .before .before .before .before .before .before .before .before .before .before .args .limit) s (c .before .before .before .before .before .before .before .before .before .before .before .before .before .args .slot) lent true (sym marked ∙ c .before .before .before .before .before .before .if1 .left) (sym (not-false _ (c .if3 .left)) ∙ (rw core at (c .before .takes .ensures))))
 
 pub decide-spec : {M : Type 1} → statement M
 decide-spec =
-    tie.close
-    (tie.spec
-    marks-of-requires
-    holds-requires
-    same-as-held-requires
-    returns
-    returns-2
-    core-with-requires
-    total-in-requires
-    other-part-requires
-    total-in-requires-2
-    takes-requires
-    returns-3
-    returns-4)
+    tie.close (tie.spec marks-of-requires holds-requires same-as-held-requires returns returns-2 core-with-requires
+    total-in-requires other-part-requires total-in-requires-2 takes-requires returns-3 returns-4)

@@ -18,10 +18,18 @@ enum-told-2 : tie.Need-enum-told-2
 enum-told-2 c = search needs
 
 returns : tie.Need-returns
-returns c = ap isSound (sym (c .enum-told .given .1) ∙ c .before .before .soundness-of .ensures) ∙ is-sound (c .before .before .before .before .before .args .limit) (c .before .before .before .before .before .args .slot) (shares (c .before .before .before .before .before .args .header .now) [] (c .before .before .before .before .before .args .marks .now))
+returns c = ap isSound (sym (c .enum-told .given .1) ∙ c .before .before .soundness-of .ensures)
+    ∙ is-sound (c .before .before .before .before .before .args .limit)
+    (c .before .before .before .before .before .args .slot)
+    (shares (c .before .before .before .before .before .args .header .now) []
+    (c .before .before .before .before .before .args .marks .now))
 
 returns-2 : tie.Need-returns-2
-returns-2 c = ap isSound (sym (c .enum-told2 .given .1) ∙ c .before .before .soundness-of .ensures) ∙ is-sound (c .before .before .before .before .before .args .limit) (c .before .before .before .before .before .args .slot) (shares (c .before .before .before .before .before .args .header .now) [] (c .before .before .before .before .before .args .marks .now))
+returns-2 c = ap isSound (sym (c .enum-told2 .given .1) ∙ c .before .before .soundness-of .ensures)
+    ∙ is-sound (c .before .before .before .before .before .args .limit)
+    (c .before .before .before .before .before .args .slot)
+    (shares (c .before .before .before .before .before .args .header .now) []
+    (c .before .before .before .before .before .args .marks .now))
 
 pub is-sound-spec : {M : Type 1} → statement M
 is-sound-spec = tie.close (tie.spec soundness-of-requires enum-told enum-told-2 returns returns-2)

@@ -30,17 +30,12 @@ returns : tie.Need-returns
 returns c = rw (c .before .enum-told .given .1)
 
 returns-2 : tie.Need-returns-2
-returns-2 c = rw (c .before .enum-told2 .given .1) (take-all (length (c .before .before .before .args .marks .now) - 64) (drop 64 (c .before .before .before .args .marks .now)) (rw length-drop (omega arith)))
+returns-2 c =
+    rw (c .before .enum-told2 .given .1)
+    (take-all (length (c .before .before .before .args .marks .now) - 64)
+    (drop 64 (c .before .before .before .args .marks .now)) (rw length-drop (omega arith)))
 
 pub marks-of-spec : {M : Type 1} → statement M
 marks-of-spec =
-    tie.close
-    (tie.spec
-    enum-told
-    slice-aggregate-result
-    enum-told-2
-    sub-result
-    part-result-start
-    part-result-end
-    returns
-    returns-2)
+    tie.close (tie.spec enum-told slice-aggregate-result enum-told-2 sub-result part-result-start part-result-end
+    returns returns-2)

@@ -42,7 +42,11 @@ enum-known-b : tie.Need-enum-known-b
 enum-known-b c = search needs
 
 returns : tie.Need-returns
-returns c = rw (c .before .before .before .before .before .a .given .1, c .before .before .b .given .1, eq-eqb _ _ (c .if1 .taken))
+returns c = rw (
+  c .before .before .before .before .before .a .given .1,
+  c .before .before .b .given .1,
+  eq-eqb _ _ (c .if1 .taken),
+)
 
 returns-2 : tie.Need-returns-2
 returns-2 c = search needs
@@ -69,31 +73,14 @@ returns-9 : tie.Need-returns-9
 returns-9 c = search needs
 
 returns-10 : tie.Need-returns-10
-returns-10 c = rw (c .before .before .before .before .before .a .given .1, c .before .before .b .given .1, ne-eqb _ _ (c .if1 .left))
+returns-10 c = rw (
+  c .before .before .before .before .before .a .given .1,
+  c .before .before .b .given .1,
+  ne-eqb _ _ (c .if1 .left),
+)
 
 pub same-stage-spec : {M : Type 1} → statement M
 same-stage-spec =
-    tie.close
-    (tie.spec
-    enum-told
-    enum-told-2
-    enum-told-3
-    enum-told-4
-    enum-told-5
-    enum-told-6
-    enum-told-7
-    enum-told-8
-    enum-known-a
-    enum-told-9
-    enum-told-10
-    enum-known-b
-    returns
-    returns-2
-    returns-3
-    returns-4
-    returns-5
-    returns-6
-    returns-7
-    returns-8
-    returns-9
-    returns-10)
+    tie.close (tie.spec enum-told enum-told-2 enum-told-3 enum-told-4 enum-told-5 enum-told-6 enum-told-7 enum-told-8
+    enum-known-a enum-told-9 enum-told-10 enum-known-b returns returns-2 returns-3 returns-4 returns-5 returns-6
+    returns-7 returns-8 returns-9 returns-10)

@@ -19,7 +19,11 @@ unfolding soundness soundSlot soundParts partsOf coreIn
 returns c = rw (sym (c .before .marks-right .ensures) ∙ not-true _ (c .if1 .taken))
 
 tally-of-requires : tie.Need-tally-of-requires
-tally-of-requires c κs = (c .before .before .before .before .pre, right-bits _ _ (c .before .marks-right .ensures) (not-false _ (c .if1 .left)))
+tally-of-requires c κs = (
+  c .before .before .before .before .pre,
+  right-bits _ _ (c .before .marks-right .ensures)
+      (not-false _ (c .if1 .left)),
+)
 
 core-fits-requires : tie.Need-core-fits-requires
 core-fits-requires c κs = search needs
@@ -28,7 +32,11 @@ returns-2 : tie.Need-returns-2
 unfolding soundness soundSlot soundParts partsOf coreIn
 returns-2 c =
     let within = rw (c .before .before .tally-of .ensures) at (c .before .core-fits .ensures) in
-    rw (sym (c .before .before .before .before .marks-right .ensures) ∙ not-false _ (c .before .before .before .if1 .left), sym within ∙ not-true _ (c .if2 .taken))
+    rw (
+      sym (c .before .before .before .before .marks-right .ensures)
+          ∙ not-false _ (c .before .before .before .if1 .left),
+      sym within ∙ not-true _ (c .if2 .taken),
+    )
 
 bounds-of-requires : tie.Need-bounds-of-requires
 bounds-of-requires c κs = search needs
@@ -37,14 +45,36 @@ marks-of-requires : tie.Need-marks-of-requires
 marks-of-requires c κs = search needs
 
 sound-requires : tie.Need-sound-requires
-sound-requires c κs = rw (c .before .before .before .before .before .tally-of .ensures, c .marks-of .ensures, c .before .bounds-of .ensures) (counted Header (c .before .before .before .before .before .before .before .before .before .before .args .limit) (c .before .before .before .before .before .tally-of .result .core) (c .before .before .before .before .before .before .before .before .before .before .args .marks .now) (c .before .before .before .before .before .before .before .before .before .before .pre) (right-bits _ _ (c .before .before .before .before .before .before .before .marks-right .ensures) (not-false _ (c .before .before .before .before .before .before .if1 .left))))
+sound-requires c κs = rw (
+  c .before .before .before .before .before .tally-of .ensures,
+  c .marks-of .ensures,
+  c .before .bounds-of .ensures,
+)
+    (counted Header (c .before .before .before .before .before .before .before .before .before .before .args .limit)
+    (c .before .before .before .before .before .tally-of .result .core)
+    (c .before .before .before .before .before .before .before .before .before .before .args .marks .now)
+    (c .before .before .before .before .before .before .before .before .before .before .pre)
+    (right-bits _ _ (c .before .before .before .before .before .before .before .marks-right .ensures)
+    (not-false _ (c .before .before .before .before .before .before .if1 .left))))
 
 returns-3 : tie.Need-returns-3
 unfolding soundness soundSlot soundParts partsOf coreIn
 returns-3 c =
-    let within = rw (c .before .before .before .before .before .before .before .tally-of .ensures) at (c .before .before .before .before .before .before .core-fits .ensures) in
-    let header = rw (c .before .before .before .bounds-of .ensures, c .before .before .before .before .before .before .before .tally-of .ensures, c .before .before .marks-of .ensures) at (c .before .sound .ensures) in
-    rw (sym (c .before .before .before .before .before .before .before .before .before .marks-right .ensures) ∙ not-false _ (c .before .before .before .before .before .before .before .before .if1 .left), sym within ∙ not-false _ (c .before .before .before .before .before .if2 .left), sym header ∙ not-true _ (c .if3 .taken))
+    let within = rw (c .before .before .before .before .before .before .before .tally-of .ensures) at
+    (c .before .before .before .before .before .before .core-fits .ensures) in
+    let header =
+    rw (
+      c .before .before .before .bounds-of .ensures,
+      c .before .before .before .before .before .before .before .tally-of .ensures,
+      c .before .before .marks-of .ensures,
+    ) at (c .before .sound .ensures) in
+    rw (
+      sym (c .before .before .before .before .before .before .before .before .before .marks-right .ensures)
+          ∙ not-false _ (c .before .before .before .before .before .before .before .before .if1 .left),
+      sym within
+          ∙ not-false _ (c .before .before .before .before .before .if2 .left),
+      sym header ∙ not-true _ (c .if3 .taken),
+    )
 
 bounds-of-requires-2 : tie.Need-bounds-of-requires-2
 bounds-of-requires-2 c κs = search needs
@@ -89,22 +119,6 @@ returns-6 c =
 
 pub soundness-of-spec : {M : Type 1} → statement M
 soundness-of-spec =
-    tie.close
-    (tie.spec
-    marks-right-requires
-    returns
-    tally-of-requires
-    core-fits-requires
-    returns-2
-    bounds-of-requires
-    marks-of-requires
-    sound-requires
-    returns-3
-    bounds-of-requires-2
-    marks-of-requires-2
-    sound-requires-2
-    returns-4
-    stage-from-requires
-    same-stage-requires
-    returns-5
-    returns-6)
+    tie.close (tie.spec marks-right-requires returns tally-of-requires core-fits-requires returns-2 bounds-of-requires
+    marks-of-requires sound-requires returns-3 bounds-of-requires-2 marks-of-requires-2 sound-requires-2 returns-4
+    stage-from-requires same-stage-requires returns-5 returns-6)

@@ -13,7 +13,13 @@ marks-of-requires : tie.Need-marks-of-requires
 marks-of-requires c κs = search needs
 
 core-from-requires : tie.Need-core-from-requires
-core-from-requires c κs = rw (c .marks-of .ensures) (omega (arith, marks-length Header (c .before .before .before .args .marks .now) (c .before .before .before .pre .long)))
+core-from-requires c κs =
+    rw (c .marks-of .ensures)
+    (omega (
+      arith,
+      marks-length Header (c .before .before .before .args .marks .now)
+          (c .before .before .before .pre .long),
+    ))
 
 stage-from-requires : tie.Need-stage-from-requires
 stage-from-requires c κs = search needs
@@ -24,8 +30,14 @@ outcome-by-requires c κs = search needs
 returns : tie.Need-returns
 unfolding slotWith stageOf partsOf coreIn
 returns c =
-    let core = rw (c .before .before .before .before .before .marks-of .ensures) at (c .before .before .before .before .core-from .ensures) in
-    let stage = rw (core, c .before .before .before .before .before .before .before .before .pre .ours, c .before .before .before .before .before .before .before .before .pre .theirs) at (c .before .stage-from .ensures) in
+    let core = rw (c .before .before .before .before .before .marks-of .ensures) at
+    (c .before .before .before .before .core-from .ensures) in
+    let stage = rw (
+      core,
+      c .before .before .before .before .before .before .before .before .pre .ours,
+      c .before .before .before .before .before .before .before .before .pre .theirs,
+    ) at
+    (c .before .stage-from .ensures) in
     rw (c .outcome-by .ensures, stage)
 
 pub staged-spec : {M : Type 1} → statement M

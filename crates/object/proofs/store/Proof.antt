@@ -29,9 +29,19 @@ kept-of-requires c κs = search needs
 
 with-requires : tie.Need-with-requires
 with-requires c κs =
-    let lent : Lent = shares (c .before .before .before .before .before .before .before .before .before .args .header .now) (c .before .before .before .before .before .before .before .before .before .args .body .now) (c .before .before .before .before .before .before .before .before .before .args .marks .now) in
-    let s : Segment = segment (c .before .before .before .before .before .before .before .before .before .args .number) (c .before .before .before .before .before .before .before .before .before .args .last) (c .before .before .before .before .before .before .before .before .before .args .bytes .now) in
-    number-small (c .before .before .before .before .before .before .before .before .before .args .tally) (c .before .before .before .before .before .before .before .before .before .args .limit) (c .before .before .before .before .before .before .before .before .before .args .core) s (c .before .before .before .before .before .before .before .before .before .args .slot) lent (c .before .before .before .before .before .before .before .before .before .args .part) (c .before .before .before .before .before .before .before .before .before .pre)
+    let lent : Lent =
+    shares (c .before .before .before .before .before .before .before .before .before .args .header .now)
+    (c .before .before .before .before .before .before .before .before .before .args .body .now)
+    (c .before .before .before .before .before .before .before .before .before .args .marks .now) in
+    let s : Segment = segment (c .before .before .before .before .before .before .before .before .before .args .number)
+    (c .before .before .before .before .before .before .before .before .before .args .last)
+    (c .before .before .before .before .before .before .before .before .before .args .bytes .now) in
+    number-small (c .before .before .before .before .before .before .before .before .before .args .tally)
+    (c .before .before .before .before .before .before .before .before .before .args .limit)
+    (c .before .before .before .before .before .before .before .before .before .args .core) s
+    (c .before .before .before .before .before .before .before .before .before .args .slot) lent
+    (c .before .before .before .before .before .before .before .before .before .args .part)
+    (c .before .before .before .before .before .before .before .before .before .pre)
 
 enum-told : tie.Need-enum-told
 enum-told c = search needs
@@ -159,7 +169,8 @@ unfolding partsOf
 returns-2 c =
     let lent : Lent = shares (c .before .before .before .before .before .before .before .before .before .before .before .before .before .before .before .before .before .before .before .before .before .before .args .header .now) (c .before .before .before .before .before .before .before .before .before .before .before .before .before .before .before .before .before .before .before .before .before .before .args .body .now) (c .before .before .before .before .before .before .before .before .before .before .before .before .before .before .before .before .before .before .before .before .before .before .args .marks .now) in
     let s : Segment = segment (c .before .before .before .before .before .before .before .before .before .before .before .before .before .before .before .before .before .before .before .before .before .before .args .number) (c .before .before .before .before .before .before .before .before .before .before .before .before .before .before .before .before .before .before .before .before .before .before .args .last) (c .before .before .before .before .before .before .before .before .before .before .before .before .before .before .before .before .before .before .before .before .before .before .args .bytes .now) in
-    let told = c .before .before .before .before .before .before .before .before .before .before .enum-told2 .given .1 in
+    let told = c .before .before .before .before .before .before .before .before .before .before .enum-told2 .given .1
+    in
     let f : Fitting (c .before .before .before .before .before .before .before .before .before .before .before .before .before .before .before .before .before .before .before .before .before .before .args .tally) Body (c .before .before .before .before .before .before .before .before .before .before .before .before .before .before .before .before .before .before .before .before .before .before .args .limit) (c .before .before .before .before .before .before .before .before .before .before .before .before .before .before .before .before .before .before .before .before .before .before .args .core) s (c .before .before .before .before .before .before .before .before .before .before .before .before .before .before .before .before .before .before .before .before .before .before .args .slot) lent = rw told at (c .before .before .before .before .before .before .before .before .before .before .before .before .before .before .before .before .before .before .before .before .before .before .pre) in
     let new = (rw (c .before .before .before .before .before .before .before .before .before .before .before .before .before .before .before .bounds-of .ensures, c .before .before .before .before .before .before .before .before .before .before .before .before .before .kept-of .ensures, c .before .before .before .before .before .before .before .before .before .before .before .before .before .before .total-in .ensures, told) at (c .before .before .before .before .before .before .before .before .before .before .before .before .with .ensures)) ∙ record-is (c .before .before .before .before .before .before .before .before .before .before .before .before .before .before .before .before .before .before .before .before .before .before .args .tally) (c .before .before .before .before .before .before .before .before .before .before .before .before .before .before .before .before .before .before .before .before .before .before .args .limit) (c .before .before .before .before .before .before .before .before .before .before .before .before .before .before .before .before .before .before .before .before .before .before .args .core) s (c .before .before .before .before .before .before .before .before .before .before .before .before .before .before .before .before .before .before .before .before .before .before .args .slot) lent Body f in
     let rest = take-all (length (c .before .before .before .before .before .before .before .before .before .before .before .before .before .before .before .before .before .before .before .before .before .before .args .marks .now) - headerNumbers) (drop headerNumbers (c .before .before .before .before .before .before .before .before .before .before .before .before .before .before .before .before .before .before .before .before .before .before .args .marks .now)) (rw length-drop (omega arith)) in
@@ -168,33 +179,8 @@ returns-2 c =
 
 pub store-spec : {M : Type 1} → statement M
 store-spec =
-    tie.close
-    (tie.spec
-    bounds-of-requires
-    total-in-requires
-    kept-of-requires
-    with-requires
-    enum-told
-    bounds-of-requires-2
-    within-requires
-    slice-relend-prefix-put
-    slice-aggregate-put
-    put-requires
-    settle-requires
-    add-staged
-    staged-requires
-    enum-told-2
-    sub-put
-    part-put-start
-    part-put-end
-    put-requires-2
-    add-staged-2
-    staged-requires-2
-    same-length
-    same-length-2
-    same-length-3
-    returns
-    same-length-4
-    same-length-5
-    same-length-6
+    tie.close (tie.spec bounds-of-requires total-in-requires kept-of-requires with-requires enum-told
+    bounds-of-requires-2 within-requires slice-relend-prefix-put slice-aggregate-put put-requires settle-requires
+    add-staged staged-requires enum-told-2 sub-put part-put-start part-put-end put-requires-2 add-staged-2
+    staged-requires-2 same-length same-length-2 same-length-3 returns same-length-4 same-length-5 same-length-6
     returns-2)

@@ -14,8 +14,17 @@ tally-of-requires c κs = search needs
 
 decide-requires : tie.Need-decide-requires
 decide-requires c κs =
-    let lent : Lent = shares (c .before .before .before .before .before .before .before .before .before .before .args .header .now) (c .before .before .before .before .before .before .before .before .before .before .args .body .now) (c .before .before .before .before .before .before .before .before .before .before .args .marks .now) in
-    offered-readable (c .before .before .before .tally-of .result) (c .before .before .before .before .before .before .before .before .before .before .args .part) (c .before .before .before .before .before .before .before .before .before .before .args .number) (c .before .before .before .before .before .before .before .before .before .before .args .limit) (c .before .before .before .before .before .before .before .before .before .before .args .slot) lent (c .before .before .before .before .before .before .before .before .before .before .pre) (c .before .before .before .tally-of .ensures)
+    let lent : Lent =
+    shares (c .before .before .before .before .before .before .before .before .before .before .args .header .now)
+    (c .before .before .before .before .before .before .before .before .before .before .args .body .now)
+    (c .before .before .before .before .before .before .before .before .before .before .args .marks .now) in
+    offered-readable (c .before .before .before .tally-of .result)
+    (c .before .before .before .before .before .before .before .before .before .before .args .part)
+    (c .before .before .before .before .before .before .before .before .before .before .args .number)
+    (c .before .before .before .before .before .before .before .before .before .before .args .limit)
+    (c .before .before .before .before .before .before .before .before .before .before .args .slot) lent
+    (c .before .before .before .before .before .before .before .before .before .before .pre)
+    (c .before .before .before .tally-of .ensures)
 
 enum-told : tie.Need-enum-told
 enum-told c = search needs
@@ -73,23 +82,6 @@ returns-3 c = rw (sym (c .before .before .before .before .before .before .before
 
 pub take-spec : {M : Type 1} → statement M
 take-spec =
-    tie.close
-    (tie.spec
-    tally-of-requires
-    decide-requires
-    enum-told
-    enum-told-2
-    enum-known-decided
-    store-requires
-    same-length
-    same-length-2
-    same-length-3
-    returns
-    same-length-4
-    same-length-5
-    same-length-6
-    returns-2
-    same-length-7
-    same-length-8
-    same-length-9
-    returns-3)
+    tie.close (tie.spec tally-of-requires decide-requires enum-told enum-told-2 enum-known-decided store-requires
+    same-length same-length-2 same-length-3 returns same-length-4 same-length-5 same-length-6 returns-2 same-length-7
+    same-length-8 same-length-9 returns-3)

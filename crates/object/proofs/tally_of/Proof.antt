@@ -11,13 +11,21 @@ marks-of-requires : tie.Need-marks-of-requires
 marks-of-requires c κs = search needs
 
 core-from-requires : tie.Need-core-from-requires
-core-from-requires c κs = rw (c .marks-of .ensures) (omega (arith, marks-length Header (c .before .before .before .args .marks .now) (c .before .before .before .pre .0)))
+core-from-requires c κs =
+    rw (c .marks-of .ensures)
+    (omega (
+      arith,
+      marks-length Header (c .before .before .before .args .marks .now)
+          (c .before .before .before .pre .0),
+    ))
 
 sum-requires : tie.Need-sum-requires
 sum-requires c κs =
     let s = c .before .before .before .before in
-    rw (c .before .marks-of .ensures)
-    (marks-bits Header (s .args .marks .now) (s .pre .1), omega (arith, marks-length Header (s .args .marks .now) (s .pre .0)))
+    rw (c .before .marks-of .ensures) (
+      marks-bits Header (s .args .marks .now) (s .pre .1),
+      omega (arith, marks-length Header (s .args .marks .now) (s .pre .0)),
+    )
 
 marks-of-requires-2 : tie.Need-marks-of-requires-2
 marks-of-requires-2 c κs = search needs
@@ -25,23 +33,19 @@ marks-of-requires-2 c κs = search needs
 sum-requires-2 : tie.Need-sum-requires-2
 sum-requires-2 c κs =
     let s = c .before .before .before .before .before .before in
-    rw (c .marks-of2 .ensures)
-    (marks-bits Body (s .args .marks .now) (s .pre .1), omega (arith, marks-length Body (s .args .marks .now) (s .pre .0)))
+    rw (c .marks-of2 .ensures) (
+      marks-bits Body (s .args .marks .now) (s .pre .1),
+      omega (arith, marks-length Body (s .args .marks .now) (s .pre .0)),
+    )
 
 returns : tie.Need-returns
 returns c =
-    let core = rw (c .before .before .before .before .marks-of .ensures) at (c .before .before .before .core-from .ensures) in
+    let core = rw (c .before .before .before .before .marks-of .ensures) at
+    (c .before .before .before .core-from .ensures) in
     let headers = rw (c .before .before .before .before .marks-of .ensures) at (c .before .before .sum .ensures) in
     let bodies = rw (c .before .marks-of2 .ensures) at (c .sum2 .ensures) in
     rw (core, headers, bodies)
 
 pub tally-of-spec : {M : Type 1} → statement M
 tally-of-spec =
-    tie.close
-    (tie.spec
-    marks-of-requires
-    core-from-requires
-    sum-requires
-    marks-of-requires-2
-    sum-requires-2
-    returns)
+    tie.close (tie.spec marks-of-requires core-from-requires sum-requires marks-of-requires-2 sum-requires-2 returns)

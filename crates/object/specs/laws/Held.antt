@@ -47,4 +47,5 @@ pub record Added (part : Part) (limit : ℕ) (s : Segment) (slot : Slot) (hs bs 
 pub record Shows (limit : ℕ) (lent : Lent) (header body : ℕ) (hs bs : List Segment) : Type 0 where
   pub object : Fits limit hs bs
   pub every : (f : Fits limit hs bs) → (take header (lent .header) ≡ f .header) × (take body (lent .body) ≡ f .body)
-  pub byNumber : (take header (lent .header) ≡ joined headerNumbers hs) × (take body (lent .body) ≡ joined bodyNumbers bs)
+  pub byNumber : (take header (lent .header) ≡ joined headerNumbers hs)
+      × (take body (lent .body) ≡ joined bodyNumbers bs)

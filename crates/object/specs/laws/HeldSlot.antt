@@ -41,17 +41,32 @@ use Rattle.part.specs.laws.Step.{Room, Met, reads, settled-length, settled-keep
 
 -- ---- what a fitting object says of a part
 
-pub fits-room : (part : Part) (limit : ℕ) (ps : Parts) (hs bs : List Segment) (f : Fits limit hs bs) → Shaped limit ps → Room (boundsOf part limit (coreOf hs)) (cutOf part f) (length (partOf part f)) (memoryOf part ps) (those part hs bs)
+pub fits-room : (part : Part) (limit : ℕ) (ps : Parts) (hs bs : List Segment) (f : Fits limit hs bs) → Shaped limit ps
+    → Room (boundsOf part limit (coreOf hs)) (cutOf part f) (length (partOf part f)) (memoryOf part ps)
+    (those part hs bs)
 fits-room part limit ps hs bs f h =
     let w = fits-within limit hs bs f part in
-    record { within = w; space = omega (arith, w .short, bounds-most part limit (coreOf hs) (fits-core limit hs bs f), share-width part limit ps h); sits = fits-sits limit hs bs f part }
+    record {
+      within = w;
+      space = omega (
+        arith,
+        w .short,
+        bounds-most part limit (coreOf hs) (fits-core limit hs bs f),
+        share-width part limit ps h,
+      );
+      sits = fits-sits limit hs bs f part;
+    }
 
-pub part-keeps : (part : Part) (limit : ℕ) (ps : Parts) (hs bs : List Segment) → Gathers limit ps hs bs → Keeps (boundsOf part limit (coreOf hs)) (memoryOf part ps) (those part hs bs)
+pub part-keeps : (part : Part) (limit : ℕ) (ps : Parts) (hs bs : List Segment) → Gathers limit ps hs bs
+    → Keeps (boundsOf part limit (coreOf hs)) (memoryOf part ps) (those part hs bs)
 part-keeps Header limit ps hs bs g = g .header
 part-keeps Body limit ps hs bs g = g .body
 
-pub part-reads : (part : Part) (limit : ℕ) (ps : Parts) (hs bs : List Segment) → Gathers limit ps hs bs → Each (λ s. segmentAt (memoryOf part ps) (s .number) ≡ s) (those part hs bs)
-part-reads part limit ps hs bs g = reads (boundsOf part limit (coreOf hs)) (cutOf part (g .object)) (length (partOf part (g .object))) (memoryOf part ps) (those part hs bs) (part-keeps part limit ps hs bs g) (fits-room part limit ps hs bs (g .object) (g .shape))
+pub part-reads : (part : Part) (limit : ℕ) (ps : Parts) (hs bs : List Segment) → Gathers limit ps hs bs
+    → Each (λ s. segmentAt (memoryOf part ps) (s .number) ≡ s) (those part hs bs)
+part-reads part limit ps hs bs g = reads (boundsOf part limit (coreOf hs)) (cutOf part (g .object))
+    (length (partOf part (g .object))) (memoryOf part ps) (those part hs bs) (part-keeps part limit ps hs bs g)
+    (fits-room part limit ps hs bs (g .object) (g .shape))
 
 -- ---- what header segment 0 says, read off the header's share
 
@@ -60,10 +75,12 @@ place-first false size width k = zero-mul size
 place-first true zero width k = refl
 place-first true (suc size) width k = zero-mul (suc size)
 
-laid-first : (last : Bool) (size n : ℕ) (share bytes : List ℕ) → n ≡ 0 → LaidAs last size share n bytes → take (length bytes) share ≡ bytes
+laid-first : (last : Bool) (size n : ℕ) (share bytes : List ℕ) → n ≡ 0 → LaidAs last size share n bytes
+    → take (length bytes) share ≡ bytes
 laid-first last size n share bytes e p = rw (e, place-first) at p
 
-first-long : (last : Bool) (S L n k : ℕ) → sizeLeast ≤ S → headerLeast ≤ L → n ≡ 0 → SitsAs last S L n k → headerLeast ≤ k
+first-long : (last : Bool) (S L n k : ℕ) → sizeLeast ≤ S → headerLeast ≤ L → n ≡ 0 → SitsAs last S L n k
+    → headerLeast ≤ k
 first-long true S L n k h g e t = let z : n * S ≡ 0 = ap (λ (x : ℕ). x * S) e ∙ zero-mul S in omega (arith, t .0)
 first-long false S L n k h g e t = omega (arith, t .0)
 
@@ -71,46 +88,62 @@ first-long false S L n k h g e t = omega (arith, t .0)
 abbrev Says : List ℕ → Segment → Type 0
 Says share s = s .number ≡ 0 → (bodySize (s .bytes) ≡ bodySize share) × (headerSize (s .bytes) ≡ headerSize share)
 
-first-says : (S L size : ℕ) (share : List ℕ) (s : Segment) → sizeLeast ≤ S → headerLeast ≤ L → Sits S L s → Laid size share s → Says share s
+first-says : (S L size : ℕ) (share : List ℕ) (s : Segment) → sizeLeast ≤ S → headerLeast ≤ L → Sits S L s
+    → Laid size share s → Says share s
 unfolding Sits Laid
 first-says S L size share s h g t p e =
     let f : take (length (s .bytes)) share ≡ s .bytes = laid-first (s .last) size (s .number) share (s .bytes) e p in
-    let l : headerLeast ≤ length (s .bytes) = first-long (s .last) S L (s .number) (length (s .bytes)) h g e t in
-    (ap bodySize (sym f) ∙ front-body (length (s .bytes)) share l, ap headerSize (sym f) ∙ front-header (length (s .bytes)) share l)
+    let l : headerLeast ≤ length (s .bytes) = first-long (s .last) S L (s .number) (length (s .bytes)) h g e t in (
+      ap bodySize (sym f) ∙ front-body (length (s .bytes)) share l,
+      ap headerSize (sym f)
+          ∙ front-header (length (s .bytes)) share l,
+    )
 
-core-present : (share : List ℕ) (ss : List Segment) → Each (Says share) ss → Numbered 0 ss → coreOf ss ≡ Seen (bodySize share) (headerSize share)
+core-present : (share : List ℕ) (ss : List Segment) → Each (Says share) ss → Numbered 0 ss → coreOf ss
+    ≡ Seen (bodySize share) (headerSize share)
 core-present share [] e i = absurd i
 core-present share (s ∷ ss) e i = go (eqb (s .number) 0) refl i (core-present share ss (e .1))
   where
-    go : (b : Bool) → eqb (s .number) 0 ≡ b → Numbered 0 (s ∷ ss) → (Numbered 0 ss → coreOf ss ≡ Seen (bodySize share) (headerSize share)) → pick b (Seen (bodySize (s .bytes)) (headerSize (s .bytes))) (coreOf ss) ≡ Seen (bodySize share) (headerSize share)
+    go : (b : Bool) → eqb (s .number) 0 ≡ b → Numbered 0 (s ∷ ss)
+        → (Numbered 0 ss → coreOf ss ≡ Seen (bodySize share) (headerSize share))
+        → pick b (Seen (bodySize (s .bytes)) (headerSize (s .bytes))) (coreOf ss)
+        ≡ Seen (bodySize share) (headerSize share)
     go true x j rest = let r = e .0 (eqb-true (s .number) 0 x) in rw (r .0, r .1) refl
     go false x (inl j) rest = absurd (eqb-false (s .number) 0 x j)
     go false x (inr j) rest = rest j
 
 -- segments of a part that is long enough, laid in the header's share and marked there, say what is read off it
-pub core-laid : (m : Memory) (S L : ℕ) (ss : List Segment) → sizeLeast ≤ S → headerLeast ≤ L → Each (Sits S L) ss → Each (Laid (m .kept .size) (m .share)) ss → Marked (m .marks) ss → coreIn m ≡ coreOf ss
+pub core-laid : (m : Memory) (S L : ℕ) (ss : List Segment) → sizeLeast ≤ S → headerLeast ≤ L → Each (Sits S L) ss
+    → Each (Laid (m .kept .size) (m .share)) ss → Marked (m .marks) ss → coreIn m ≡ coreOf ss
 unfolding coreIn
 core-laid m S L ss h g t p k = go (getD (m .marks) 0 0) (k .marked 0)
   where
     says : Each (Says (m .share)) ss
     says = each-zip (λ s t p. first-says S L (m .kept .size) (m .share) s h g t p) ss t p
 
-    go : (mark : ℕ) → (0 < mark) ↔ Numbered 0 ss → pick (leb 1 mark) (Seen (bodySize (m .share)) (headerSize (m .share))) Unseen ≡ coreOf ss
+    go : (mark : ℕ) → (0 < mark) ↔ Numbered 0 ss
+        → pick (leb 1 mark) (Seen (bodySize (m .share)) (headerSize (m .share))) Unseen ≡ coreOf ss
     go zero i = sym (core-absent ss (λ j. let z : 0 < 0 = i .1 j in omega arith))
-    go (suc mark) i = rw (le-leb 1 (suc mark) (omega arith)) (sym (core-present (m .share) ss says (i .0 (omega arith))))
+    go (suc mark) i =
+        rw (le-leb 1 (suc mark) (omega arith)) (sym (core-present (m .share) ss says (i .0 (omega arith))))
 
-pub core-read : (limit : ℕ) (ps : Parts) (hs bs : List Segment) → Gathers limit ps hs bs → coreIn (ps .header) ≡ coreOf hs
+pub core-read : (limit : ℕ) (ps : Parts) (hs bs : List Segment) → Gathers limit ps hs bs → coreIn (ps .header)
+    ≡ coreOf hs
 core-read limit ps hs bs g =
     let f = g .object in
-    core-laid (ps .header) (f .headerCut) (length (f .header)) hs (f .headerCuts .low) (f .object .headerLow) (fits-sits limit hs bs f Header) (g .header .laid) (g .header .marked)
+    core-laid (ps .header) (f .headerCut) (length (f .header)) hs (f .headerCuts .low) (f .object .headerLow)
+    (fits-sits limit hs bs f Header) (g .header .laid) (g .header .marked)
 
 -- ---- the records
 
-pass : (limit : ℕ) (hs bs : List Segment) → Fits limit hs bs → (part : Part) → Agree (those part hs bs) × Clear (those part hs bs)
+pass : (limit : ℕ) (hs bs : List Segment) → Fits limit hs bs → (part : Part) → Agree (those part hs bs)
+    × Clear (those part hs bs)
 pass limit hs bs f Header = let p = fits-passes limit hs bs f in (p .headerAgree, p .headerClear)
 pass limit hs bs f Body = let p = fits-passes limit hs bs f in (p .bodyAgree, p .bodyClear)
 
-with-as : (last : Bool) (b c : Bounds) (n k top : ℕ) (p : Record) → settle c (pick last (leb 1 top) true) (addPart last n k (settle b (leb 1 top) p)) ≡ settle c (leb 1 (addTop last n top)) (addPart last n k p)
+with-as : (last : Bool) (b c : Bounds) (n k top : ℕ) (p : Record)
+    → settle c (pick last (leb 1 top) true) (addPart last n k (settle b (leb 1 top) p))
+    ≡ settle c (leb 1 (addTop last n top)) (addPart last n k p)
 with-as true b c n k top p = settle-last c b (leb 1 top) n k p
 with-as false b c n k top p = rw (le-leb 1 (max (suc n) top) (omega arith)) (settle-full c b (leb 1 top) n k p)
 
@@ -121,43 +154,83 @@ module _ (part : Part) (limit : ℕ) (ps : Parts) (hs bs : List Segment) (g : Ga
   pub full-read : fullIn (memoryOf part ps .kept) (memoryOf part ps .marks) ≡ someFull (summary (those part hs bs))
   full-read =
       let p = pass limit hs bs (g .object) part in
-      rw (k .kept) (full-kept (boundsOf part limit (coreOf hs)) (boundsOf part limit (coreOf hs)) (memoryOf part ps .marks) (those part hs bs) (k .marked) (p .0) (p .1))
+      rw (k .kept)
+      (full-kept (boundsOf part limit (coreOf hs)) (boundsOf part limit (coreOf hs)) (memoryOf part ps .marks)
+      (those part hs bs) (k .marked) (p .0) (p .1))
 
-  record-with : (c : Bounds) (s : Segment) → recordWith c s (memoryOf part ps) ≡ recordOf c (summary (s ∷ those part hs bs))
+  record-with : (c : Bounds) (s : Segment) → recordWith c s (memoryOf part ps)
+      ≡ recordOf c (summary (s ∷ those part hs bs))
   unfolding recordWith
-  record-with c s = rw (full-read, k .kept) (with-as (s .last) (boundsOf part limit (coreOf hs)) c (s .number) (length (s .bytes)) (summary (those part hs bs) .top) (summary (those part hs bs) .part))
+  record-with c s =
+      rw (full-read, k .kept) (with-as (s .last) (boundsOf part limit (coreOf hs)) c (s .number) (length (s .bytes))
+      (summary (those part hs bs) .top) (summary (those part hs bs) .part))
 
   record-within : (c : Bounds) → recordWithin c (memoryOf part ps) ≡ recordOf c (summary (those part hs bs))
   unfolding recordWithin
-  record-within c = rw (full-read, k .kept) (settle-again c (boundsOf part limit (coreOf hs)) (someFull (summary (those part hs bs))) (summary (those part hs bs) .part))
+  record-within c =
+      rw (full-read, k .kept) (settle-again c (boundsOf part limit (coreOf hs)) (someFull (summary (those part hs bs)))
+      (summary (those part hs bs) .part))
 
 -- ---- the test is exact
 
-pub takes-fits : (part : Part) (limit : ℕ) (s : Segment) (ps : Parts) (hs bs : List Segment) → limit ≤ limitMost → Bytes (s .bytes) → Gathers limit ps hs bs → ¬ (Numbered (s .number) (those part hs bs)) → (takesIn part limit s ps ≡ true) ↔ Fits limit (headersWith part s hs) (bodiesWith part s bs)
+pub takes-fits : (part : Part) (limit : ℕ) (s : Segment) (ps : Parts) (hs bs : List Segment) → limit ≤ limitMost
+    → Bytes (s .bytes) → Gathers limit ps hs bs → ¬ (Numbered (s .number) (those part hs bs))
+    → (takesIn part limit s ps ≡ true) ↔ Fits limit (headersWith part s hs) (bodiesWith part s bs)
 unfolding takesIn
-takes-fits Header limit s ps hs bs z y g a = rw (core-read limit ps hs bs g, g .header .kept, g .body .kept) (taken limit hs bs (g .object) (ps .header .marks) (ps .body .marks) (g .header .marked) (g .body .marked) Header s z y a)
-takes-fits Body limit s ps hs bs z y g a = rw (core-read limit ps hs bs g, g .header .kept, g .body .kept) (taken limit hs bs (g .object) (ps .header .marks) (ps .body .marks) (g .header .marked) (g .body .marked) Body s z y a)
+takes-fits Header limit s ps hs bs z y g a = rw (core-read limit ps hs bs g, g .header .kept, g .body .kept)
+    (taken limit hs bs (g .object) (ps .header .marks) (ps .body .marks) (g .header .marked) (g .body .marked) Header s
+    z y a)
+takes-fits Body limit s ps hs bs z y g a = rw (core-read limit ps hs bs g, g .header .kept, g .body .kept)
+    (taken limit hs bs (g .object) (ps .header .marks) (ps .body .marks) (g .header .marked) (g .body .marked) Body s z
+    y a)
 
 -- ---- one segment more
 
-abbrev pub fits-less : (part : Part) (limit : ℕ) (s : Segment) (hs bs : List Segment) → Fits limit (headersWith part s hs) (bodiesWith part s bs) → Fits limit hs bs
-fits-less Header limit s hs bs f = record { header = f .header; body = f .body; object = f .object; headerCut = f .headerCut; bodyCut = f .bodyCut; headerCuts = f .headerCuts; bodyCuts = f .bodyCuts; headerSent = f .headerSent .1; bodySent = f .bodySent }
-fits-less Body limit s hs bs f = record { header = f .header; body = f .body; object = f .object; headerCut = f .headerCut; bodyCut = f .bodyCut; headerCuts = f .headerCuts; bodyCuts = f .bodyCuts; headerSent = f .headerSent; bodySent = f .bodySent .1 }
+abbrev pub fits-less : (part : Part) (limit : ℕ) (s : Segment) (hs bs : List Segment)
+    → Fits limit (headersWith part s hs) (bodiesWith part s bs) → Fits limit hs bs
+fits-less Header limit s hs bs f =
+    record {
+      header = f .header;
+      body = f .body;
+      object = f .object;
+      headerCut = f .headerCut;
+      bodyCut = f .bodyCut;
+      headerCuts = f .headerCuts;
+      bodyCuts = f .bodyCuts;
+      headerSent = f .headerSent .1;
+      bodySent = f .bodySent;
+    }
+fits-less Body limit s hs bs f =
+    record {
+      header = f .header;
+      body = f .body;
+      object = f .object;
+      headerCut = f .headerCut;
+      bodyCut = f .bodyCut;
+      headerCuts = f .headerCuts;
+      bodyCuts = f .bodyCuts;
+      headerSent = f .headerSent;
+      bodySent = f .bodySent .1;
+    }
 
 -- what was said stays said, so bounds that have met stay so
 after-unseen : (b : Bool) (c d : Core) (body header : ℕ) → pick b (Seen body header) c ≡ d → d ≡ Unseen → c ≡ Unseen
 after-unseen true c d body header e f = let z : _≡_ {A = ℕ} 0 1 = cc in absurd (omega arith)
 after-unseen false c d body header e f = e ∙ f
 
-met-as : (part : Part) (limit : ℕ) (c d : Core) → (d ≡ Unseen → c ≡ Unseen) → Met (boundsOf part limit c) → Met (boundsOf part limit d)
+met-as : (part : Part) (limit : ℕ) (c d : Core) → (d ≡ Unseen → c ≡ Unseen) → Met (boundsOf part limit c)
+    → Met (boundsOf part limit d)
 unfolding boundsOf
 met-as Header limit c (Seen body header) h e = refl
 met-as Body limit c (Seen body header) h e = refl
 met-as Header limit c Unseen h e = rw (h refl) at e
 met-as Body limit c Unseen h e = rw (h refl) at e
 
-met-after : (part : Part) (limit : ℕ) (s : Segment) (c : Core) → Met (boundsOf part limit c) → Met (boundsOf part limit (coreAfter s c))
-met-after part limit s c = met-as part limit c (coreAfter s c) (after-unseen (eqb (s .number) 0) c (coreAfter s c) (bodySize (s .bytes)) (headerSize (s .bytes)) refl)
+met-after : (part : Part) (limit : ℕ) (s : Segment) (c : Core) → Met (boundsOf part limit c)
+    → Met (boundsOf part limit (coreAfter s c))
+met-after part limit s c =
+    met-as part limit c (coreAfter s c)
+    (after-unseen (eqb (s .number) 0) c (coreAfter s c) (bodySize (s .bytes)) (headerSize (s .bytes)) refl)
 
 put-marks : (s : Segment) (p : Record) (m : Memory) → length (put s (settled p m) .marks) ≡ length (m .marks)
 unfolding put settled
@@ -168,32 +241,56 @@ unfolding settled
 settled-marks p m = refl
 
 -- the parts that are left, by the records that the segments give
-header-parts : (limit : ℕ) (s : Segment) (ps : Parts) (hs bs : List Segment) → Gathers limit ps hs bs → partsWith Header limit s ps ≡ record { header = put s (settled (recordOf (boundsOf Header limit (coreOf (s ∷ hs))) (summary (s ∷ hs))) (ps .header)); body = settled (recordOf (boundsOf Body limit (coreOf (s ∷ hs))) (summary bs)) (ps .body) }
+header-parts : (limit : ℕ) (s : Segment) (ps : Parts) (hs bs : List Segment) → Gathers limit ps hs bs
+    → partsWith Header limit s ps
+    ≡ record {
+      header =
+          put s (settled (recordOf (boundsOf Header limit (coreOf (s ∷ hs))) (summary (s ∷ hs))) (ps .header));
+      body =
+          settled (recordOf (boundsOf Body limit (coreOf (s ∷ hs))) (summary bs)) (ps .body);
+    }
 unfolding partsWith
 header-parts limit s ps hs bs g =
     let c : coreAfter s (coreIn (ps .header)) ≡ coreOf (s ∷ hs) = ap (coreAfter s) (core-read limit ps hs bs g) in
-    let h = ap (λ (x : Core). recordWith (boundsOf Header limit x) s (ps .header)) c ∙ record-with Header limit ps hs bs g (boundsOf Header limit (coreOf (s ∷ hs))) s in
-    let b = ap (λ (x : Core). recordWithin (boundsOf Body limit x) (ps .body)) c ∙ record-within Body limit ps hs bs g (boundsOf Body limit (coreOf (s ∷ hs))) in
+    let h = ap (λ (x : Core). recordWith (boundsOf Header limit x) s (ps .header)) c
+    ∙ record-with Header limit ps hs bs g (boundsOf Header limit (coreOf (s ∷ hs))) s in
+    let b = ap (λ (x : Core). recordWithin (boundsOf Body limit x) (ps .body)) c
+    ∙ record-within Body limit ps hs bs g (boundsOf Body limit (coreOf (s ∷ hs))) in
     λ i. record { header = put s (settled (h i) (ps .header)); body = settled (b i) (ps .body) }
 
-body-parts : (limit : ℕ) (s : Segment) (ps : Parts) (hs bs : List Segment) → Gathers limit ps hs bs → partsWith Body limit s ps ≡ record { header = ps .header; body = put s (settled (recordOf (boundsOf Body limit (coreOf hs)) (summary (s ∷ bs))) (ps .body)) }
+body-parts : (limit : ℕ) (s : Segment) (ps : Parts) (hs bs : List Segment) → Gathers limit ps hs bs
+    → partsWith Body limit s ps
+    ≡ record {
+      header = ps .header;
+      body =
+          put s (settled (recordOf (boundsOf Body limit (coreOf hs)) (summary (s ∷ bs))) (ps .body));
+    }
 unfolding partsWith
 body-parts limit s ps hs bs g =
-    let b = ap (λ (x : Core). recordWith (boundsOf Body limit x) s (ps .body)) (core-read limit ps hs bs g) ∙ record-with Body limit ps hs bs g (boundsOf Body limit (coreOf hs)) s in
+    let b = ap (λ (x : Core). recordWith (boundsOf Body limit x) s (ps .body)) (core-read limit ps hs bs g)
+    ∙ record-with Body limit ps hs bs g (boundsOf Body limit (coreOf hs)) s in
     λ i. record { header = ps .header; body = put s (settled (b i) (ps .body)) }
 
-header-next : (limit : ℕ) (s : Segment) (ps : Parts) (hs bs : List Segment) → Gathers limit ps hs bs → ¬ (Numbered (s .number) hs) → Fits limit (s ∷ hs) bs → Gathers limit (partsWith Header limit s ps) (s ∷ hs) bs
-header-next limit s ps hs bs g a f = subst (λ (x : Parts). Gathers limit x (s ∷ hs) bs) (sym (header-parts limit s ps hs bs g)) (record {
-  object = f;
-  shape = record {
-    headerShare = put-length b c S L (ps .header) s hs (g .header) w room ∙ g .shape .headerShare;
-    bodyShare = settled-length b' c' T M (ps .body) bs (g .body) room' w' ∙ g .shape .bodyShare;
-    headerMarks = put-marks s (recordOf c (summary (s ∷ hs))) (ps .header) ∙ g .shape .headerMarks;
-    bodyMarks = rw settled-marks (g .shape .bodyMarks);
-  };
-  header = put-keeps b c S L (ps .header) s hs (g .header) w room a (omega (arith, g .shape .headerMarks, sent-number headerNumbers S (f .header) s (f .headerCuts) (f .headerSent .0)));
-  body = settled-keeps b' c' T M (ps .body) bs (g .body) room' w' (met-after Body limit s (coreOf hs));
-})
+header-next : (limit : ℕ) (s : Segment) (ps : Parts) (hs bs : List Segment) → Gathers limit ps hs bs
+    → ¬ (Numbered (s .number) hs) → Fits limit (s ∷ hs) bs → Gathers limit (partsWith Header limit s ps) (s ∷ hs) bs
+header-next limit s ps hs bs g a f = subst (λ (x : Parts). Gathers limit x (s ∷ hs) bs)
+    (sym (header-parts limit s ps hs bs g)) (record {
+      object = f;
+      shape = record {
+        headerShare = put-length b c S L (ps .header) s hs (g .header) w room ∙ g .shape .headerShare;
+        bodyShare = settled-length b' c' T M (ps .body) bs (g .body) room' w' ∙ g .shape .bodyShare;
+        headerMarks = put-marks s (recordOf c (summary (s ∷ hs))) (ps .header) ∙ g .shape .headerMarks;
+        bodyMarks = rw settled-marks (g .shape .bodyMarks);
+      };
+      header = put-keeps b c S L (ps .header) s hs (g .header) w room a
+          (omega (
+            arith,
+            g .shape .headerMarks,
+            sent-number headerNumbers S (f .header) s (f .headerCuts)
+                (f .headerSent .0),
+          ));
+      body = settled-keeps b' c' T M (ps .body) bs (g .body) room' w' (met-after Body limit s (coreOf hs));
+    })
   where
     old : Fits limit hs bs
     old = fits-less Header limit s hs bs f
@@ -234,18 +331,21 @@ header-next limit s ps hs bs g a f = subst (λ (x : Parts). Gathers limit x (s �
     room' : Room b' T M (ps .body) bs
     room' = fits-room Body limit ps hs bs old (g .shape)
 
-body-next : (limit : ℕ) (s : Segment) (ps : Parts) (hs bs : List Segment) → Gathers limit ps hs bs → ¬ (Numbered (s .number) bs) → Fits limit hs (s ∷ bs) → Gathers limit (partsWith Body limit s ps) hs (s ∷ bs)
-body-next limit s ps hs bs g a f = subst (λ (x : Parts). Gathers limit x hs (s ∷ bs)) (sym (body-parts limit s ps hs bs g)) (record {
-  object = f;
-  shape = record {
-    headerShare = g .shape .headerShare;
-    bodyShare = put-length b b T M (ps .body) s bs (g .body) w room ∙ g .shape .bodyShare;
-    headerMarks = g .shape .headerMarks;
-    bodyMarks = put-marks s (recordOf b (summary (s ∷ bs))) (ps .body) ∙ g .shape .bodyMarks;
-  };
-  header = g .header;
-  body = put-keeps b b T M (ps .body) s bs (g .body) w room a (omega (arith, g .shape .bodyMarks, sent-number bodyNumbers T (f .body) s (f .bodyCuts) (f .bodySent .0)));
-})
+body-next : (limit : ℕ) (s : Segment) (ps : Parts) (hs bs : List Segment) → Gathers limit ps hs bs
+    → ¬ (Numbered (s .number) bs) → Fits limit hs (s ∷ bs) → Gathers limit (partsWith Body limit s ps) hs (s ∷ bs)
+body-next limit s ps hs bs g a f = subst (λ (x : Parts). Gathers limit x hs (s ∷ bs))
+    (sym (body-parts limit s ps hs bs g)) (record {
+      object = f;
+      shape = record {
+        headerShare = g .shape .headerShare;
+        bodyShare = put-length b b T M (ps .body) s bs (g .body) w room ∙ g .shape .bodyShare;
+        headerMarks = g .shape .headerMarks;
+        bodyMarks = put-marks s (recordOf b (summary (s ∷ bs))) (ps .body) ∙ g .shape .bodyMarks;
+      };
+      header = g .header;
+      body = put-keeps b b T M (ps .body) s bs (g .body) w room a
+          (omega (arith, g .shape .bodyMarks, sent-number bodyNumbers T (f .body) s (f .bodyCuts) (f .bodySent .0)));
+    })
   where
     T : ℕ
     T = f .bodyCut
@@ -263,6 +363,8 @@ body-next limit s ps hs bs g a f = subst (λ (x : Parts). Gathers limit x hs (s 
     room = fits-room Body limit ps hs (s ∷ bs) f (g .shape)
 
 -- a segment of a new number that fits is held afterwards, with those that were
-pub next-gathers : (part : Part) (limit : ℕ) (s : Segment) (ps : Parts) (hs bs : List Segment) → Gathers limit ps hs bs → ¬ (Numbered (s .number) (those part hs bs)) → Fits limit (headersWith part s hs) (bodiesWith part s bs) → Gathers limit (partsWith part limit s ps) (headersWith part s hs) (bodiesWith part s bs)
+pub next-gathers : (part : Part) (limit : ℕ) (s : Segment) (ps : Parts) (hs bs : List Segment) → Gathers limit ps hs bs
+    → ¬ (Numbered (s .number) (those part hs bs)) → Fits limit (headersWith part s hs) (bodiesWith part s bs)
+    → Gathers limit (partsWith part limit s ps) (headersWith part s hs) (bodiesWith part s bs)
 next-gathers Header limit s ps hs bs g a f = header-next limit s ps hs bs g a f
 next-gathers Body limit s ps hs bs g a f = body-next limit s ps hs bs g a f

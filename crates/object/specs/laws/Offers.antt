@@ -32,7 +32,8 @@ ifStored Conflict more same = same
 
 abbrev pub storedHeaders : List Offer → List Segment
 storedHeaders [] = []
-storedHeaders (o ∷ os) = ifStored (o .outcome) (headersWith (o .part) (o .segment) (storedHeaders os)) (storedHeaders os)
+storedHeaders (o ∷ os) = ifStored (o .outcome) (headersWith (o .part) (o .segment) (storedHeaders os))
+    (storedHeaders os)
 
 abbrev pub storedBodies : List Offer → List Segment
 storedBodies [] = []
@@ -43,15 +44,19 @@ storedBodies (o ∷ os) = ifStored (o .outcome) (bodiesWith (o .part) (o .segmen
 abbrev pub After : ℕ → Slot → Lent → List Offer → Slot → Lent → Type 0
 After limit slot₀ lent₀ [] slot lent = (slot ≡ slot₀) × (lent ≡ lent₀)
 After limit slot₀ lent₀ (o ∷ os) slot lent =
-    (slot' : Slot) × (lent' : Lent) × After limit slot₀ lent₀ os slot' lent' × Bytes (o .segment .bytes) × (takeInto (o .part) limit (o .segment) slot' lent' ≡ record { outcome = o .outcome; slot = slot; lent = lent })
+    (slot' : Slot) × (lent' : Lent) × After limit slot₀ lent₀ os slot' lent' × Bytes (o .segment .bytes)
+    × (takeInto (o .part) limit (o .segment) slot' lent'
+    ≡ record { outcome = o .outcome; slot = slot; lent = lent })
 
 -- nothing was stored yet and all is as it was, or the slot is sound and holds what was
-pub data Standing (limit : ℕ) (slot₀ : Slot) (lent₀ : Lent) (slot : Slot) (lent : Lent) (hs bs : List Segment) : Type 0 where
-  none : hs ≡ [] → bs ≡ [] → slot ≡ slot₀ → lent ≡ lent₀ → Standing limit slot₀ lent₀ slot lent hs bs
-  some : Holds limit slot lent hs bs → soundSlot limit slot lent ≡ true → Standing limit slot₀ lent₀ slot lent hs bs
+pub data Standing (limit : ℕ) (slot₀ : Slot) (lent₀ : Lent) (slot : Slot) (lent : Lent) (hs bs : List Segment) : Type 0
+  where
+    none : hs ≡ [] → bs ≡ [] → slot ≡ slot₀ → lent ≡ lent₀ → Standing limit slot₀ lent₀ slot lent hs bs
+    some : Holds limit slot lent hs bs → soundSlot limit slot lent ≡ true → Standing limit slot₀ lent₀ slot lent hs bs
 
 -- ---- segments of one object and cut
 
 -- every segment that it sends was offered
 abbrev pub AllOffered : {limit : ℕ} → Source limit → List Offer → Type 0
-AllOffered c os = (part : Part) (s : Segment) → SentBy c part s → (o : Offer) × Among o os × (o .part ≡ part) × (o .segment ≡ s)
+AllOffered c os = (part : Part) (s : Segment) → SentBy c part s → (o : Offer) × Among o os × (o .part ≡ part)
+    × (o .segment ≡ s)

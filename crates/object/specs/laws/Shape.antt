@@ -54,5 +54,8 @@ pub record Written (s : Segment) (size width i : ℕ) : Type 0 where
 
 -- what a call leaves of a slot: each byte but those that are written or copied to, and each mark but the segment's
 pub record Leaves (part : Part) (s : Segment) (slot : Slot) (lent : Lent) (t : Taken) : Type 0 where
-  pub bytes : (p : Part) (i : ℕ) → ¬ (Copied (keptOf p slot) (keptOf p (t .slot)) i) → (p ≡ part → ¬ (Written s (keptOf p (t .slot) .size) (length (shareOf p lent)) i)) → getD (shareOf p (t .lent)) i 0 ≡ getD (shareOf p lent) i 0
-  pub marks : (p : Part) (n : ℕ) → ¬ ((p ≡ part) × (n ≡ s .number)) → getD (memoryOf p (partsOf (t .slot) (t .lent)) .marks) n 0 ≡ getD (memoryOf p (partsOf slot lent) .marks) n 0
+  pub bytes : (p : Part) (i : ℕ) → ¬ (Copied (keptOf p slot) (keptOf p (t .slot)) i)
+      → (p ≡ part → ¬ (Written s (keptOf p (t .slot) .size) (length (shareOf p lent)) i))
+      → getD (shareOf p (t .lent)) i 0 ≡ getD (shareOf p lent) i 0
+  pub marks : (p : Part) (n : ℕ) → ¬ ((p ≡ part) × (n ≡ s .number))
+      → getD (memoryOf p (partsOf (t .slot) (t .lent)) .marks) n 0 ≡ getD (memoryOf p (partsOf slot lent) .marks) n 0

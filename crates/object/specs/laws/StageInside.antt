@@ -30,7 +30,8 @@ same-stage Gathering Gathering e = refl
 same-stage Gathering (Finished h b) e = absurd (false-true refl e)
 same-stage (Finished h b) Free e = absurd (false-true refl e)
 same-stage (Finished h b) Gathering e = absurd (false-true refl e)
-same-stage (Finished h b) (Finished h' b') e = let r = both-true (eqb h h') (eqb b b') e in rw (eqb-true h h' (r .0), eqb-true b b' (r .1)) refl
+same-stage (Finished h b) (Finished h' b') e = let r = both-true (eqb h h') (eqb b b') e in
+    rw (eqb-true h h' (r .0), eqb-true b b' (r .1)) refl
 
 -- the stage of a sound slot is the one that its parts give
 pub sound-stage : (limit : ℕ) (stage : Stage) (ps : Parts) → soundParts limit stage ps ≡ true → stage ≡ stageOf ps
@@ -52,11 +53,16 @@ finished-core true (Seen body header) h b e = let x : header ≡ h = cc in let y
 
 core-lengths : (limit h b : ℕ) → coreFits limit (Seen b h) ≡ true → (h ≤ headerMost) × (b ≤ limit)
 unfolding coreFits
-core-lengths limit h b e = let t = all-true (coreTests limit (Seen b h)) e in (leb-true h headerMost (t .1 .0), leb-true b limit (t .1 .1 .0))
+core-lengths limit h b e = let t = all-true (coreTests limit (Seen b h)) e in
+    (leb-true h headerMost (t .1 .0), leb-true b limit (t .1 .1 .0))
 
 -- the two lengths of a finished object lie inside the shares
-pub finished-inside : (limit h b : ℕ) (ps : Parts) → soundParts limit (Finished h b) ps ≡ true → (h ≤ headerMost) × (b ≤ limit)
+pub finished-inside : (limit h b : ℕ) (ps : Parts) → soundParts limit (Finished h b) ps ≡ true → (h ≤ headerMost)
+    × (b ≤ limit)
 unfolding stageOf
 finished-inside limit h b ps e =
-    let c : coreIn (ps .header) ≡ Seen b h = finished-core (finished (coreIn (ps .header)) (sumOf (ps .header .marks)) (ps .header .kept) (sumOf (ps .body .marks)) (ps .body .kept)) (coreIn (ps .header)) h b (sym (sound-stage limit (Finished h b) ps e)) in
+    let c : coreIn (ps .header) ≡ Seen b h =
+    finished-core
+    (finished (coreIn (ps .header)) (sumOf (ps .header .marks)) (ps .header .kept) (sumOf (ps .body .marks))
+    (ps .body .kept)) (coreIn (ps .header)) h b (sym (sound-stage limit (Finished h b) ps e)) in
     core-lengths limit h b (rw c at (sound-right Header limit (Finished h b) ps e .core))

@@ -22,7 +22,8 @@ use Rattle.object.specs.State.{markedSegments}
 use Rattle.object.specs.laws.StateExact.{sound-holds}
 use Rattle.object.specs.Parts.{Lent, partsOf}
 
-module _ (part : Part) (limit : ℕ) (s : Segment) (slot : Slot) (lent : Lent) (z : limit ≤ limitMost) (y : Bytes (s .bytes)) (l : IsLent limit lent) (sound : soundSlot limit slot lent ≡ true) where
+module _ (part : Part) (limit : ℕ) (s : Segment) (slot : Slot) (lent : Lent) (z : limit ≤ limitMost)
+    (y : Bytes (s .bytes)) (l : IsLent limit lent) (sound : soundSlot limit slot lent ≡ true) where
   hs : List Segment
   hs = markedSegments Header slot lent
 
@@ -36,27 +37,38 @@ module _ (part : Part) (limit : ℕ) (s : Segment) (slot : Slot) (lent : Lent) (
   told : Tells (takeInto part limit s slot lent .outcome) part limit s slot lent hs bs (takeInto part limit s slot lent)
   told = outcome-tells part limit s slot lent hs bs z y g (takeInto part limit s slot lent .outcome) refl
 
-  pub conflict-answered : (takeInto part limit s slot lent .outcome ≡ Conflict) ↔ (¬ (Fits limit (headersWith part s (markedSegments Header slot lent)) (bodiesWith part s (markedSegments Body slot lent))))
+  pub conflict-answered : (takeInto part limit s slot lent .outcome ≡ Conflict)
+      ↔ (¬ (Fits limit (headersWith part s (markedSegments Header slot lent))
+      (bodiesWith part s (markedSegments Body slot lent))))
   unfolding hs bs
   conflict-answered = conflict-exactly part limit s slot lent hs bs z y g
 
-  pub repeat-answered : (takeInto part limit s slot lent .outcome ≡ Repeat) ↔ Among s (those part (markedSegments Header slot lent) (markedSegments Body slot lent))
+  pub repeat-answered : (takeInto part limit s slot lent .outcome ≡ Repeat)
+      ↔ Among s (those part (markedSegments Header slot lent) (markedSegments Body slot lent))
   unfolding hs bs
   repeat-answered = repeat-exactly part limit s slot lent hs bs z y g
 
-  pub complete-answered : (takeInto part limit s slot lent .outcome ≡ Complete) ↔ (((f : Fits limit (headersWith part s (markedSegments Header slot lent)) (bodiesWith part s (markedSegments Body slot lent))) × Finished f) × ((f : Fits limit (markedSegments Header slot lent) (markedSegments Body slot lent)) → ¬ (Finished f)))
+  pub complete-answered : (takeInto part limit s slot lent .outcome ≡ Complete)
+      ↔ (((f : Fits limit (headersWith part s (markedSegments Header slot lent))
+      (bodiesWith part s (markedSegments Body slot lent))) × Finished f)
+      × ((f : Fits limit (markedSegments Header slot lent) (markedSegments Body slot lent)) → ¬ (Finished f)))
   unfolding hs bs
   complete-answered = complete-exactly part limit s slot lent hs bs z y g
 
-  pub stored-answered : (takeInto part limit s slot lent .outcome ≡ Stored) ↔ (((f : Fits limit (headersWith part s (markedSegments Header slot lent)) (bodiesWith part s (markedSegments Body slot lent))) × (¬ (Finished f))) × (¬ (Among s (those part (markedSegments Header slot lent) (markedSegments Body slot lent)))))
+  pub stored-answered : (takeInto part limit s slot lent .outcome ≡ Stored)
+      ↔ (((f : Fits limit (headersWith part s (markedSegments Header slot lent))
+      (bodiesWith part s (markedSegments Body slot lent))) × (¬ (Finished f)))
+      × (¬ (Among s (those part (markedSegments Header slot lent) (markedSegments Body slot lent)))))
   unfolding hs bs
   stored-answered = stored-exactly part limit s slot lent hs bs z y g
 
   -- it stays sound, whatever the outcome
-  pub sound-stays : soundSlot limit (takeInto part limit s slot lent .slot) (takeInto part limit s slot lent .lent) ≡ true
+  pub sound-stays : soundSlot limit (takeInto part limit s slot lent .slot) (takeInto part limit s slot lent .lent)
+      ≡ true
   sound-stays = go (takeInto part limit s slot lent .outcome) (takeInto part limit s slot lent) told
     where
-      go : (o : Outcome) (t : Taken) → Tells o part limit s slot lent hs bs t → soundSlot limit (t .slot) (t .lent) ≡ true
+      go : (o : Outcome) (t : Taken) → Tells o part limit s slot lent hs bs t → soundSlot limit (t .slot) (t .lent)
+          ≡ true
       go Stored t w = added-sound part limit s slot hs bs t (w .0)
       go Complete t w = added-sound part limit s slot hs bs t (w .0)
       go Repeat t w = rw (w .1) sound

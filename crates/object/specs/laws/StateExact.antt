@@ -60,26 +60,44 @@ some-mark (suc m ∷ l) h = (0, omega arith)
 
 -- ---- a sound slot holds its marked segments
 
-pub sound-holds : (limit : ℕ) (slot : Slot) (lent : Lent) → limit ≤ limitMost → IsLent limit lent → soundSlot limit slot lent ≡ true → Holds limit slot lent (markedSegments Header slot lent) (markedSegments Body slot lent)
+pub sound-holds : (limit : ℕ) (slot : Slot) (lent : Lent) → limit ≤ limitMost → IsLent limit lent
+    → soundSlot limit slot lent ≡ true → Holds limit slot lent (markedSegments Header slot lent)
+    (markedSegments Body slot lent)
 unfolding partsOf
 sound-holds limit slot lent z l e =
     let ps : Parts = partsOf slot lent in
     let t = sound-slot limit slot lent e in
-    let g : Gathers limit ps (heldIn (ps .header)) (heldIn (ps .body)) = sound-gathers limit (slot .stage) ps z (lent-shaped limit slot lent (l .headerLength) (l .bodyLength) (l .marksLength)) (lent-bits slot lent (t .0)) (l .headerBytes) (l .bodyBytes) (t .2) in
-    record { gathers = g; stage = subst (λ (x : Stage). StageFor (g .object) x) (sym (sound-stage limit (slot .stage) ps (t .2))) (stage-right limit ps (heldIn (ps .header)) (heldIn (ps .body)) g (g .object)) }
+    let g : Gathers limit ps (heldIn (ps .header)) (heldIn (ps .body)) =
+    sound-gathers limit (slot .stage) ps z
+    (lent-shaped limit slot lent (l .headerLength) (l .bodyLength) (l .marksLength)) (lent-bits slot lent (t .0))
+    (l .headerBytes) (l .bodyBytes) (t .2) in
+    record {
+      gathers = g;
+      stage = subst (λ (x : Stage). StageFor (g .object) x)
+          (sym (sound-stage limit (slot .stage) ps (t .2)))
+          (stage-right limit ps (heldIn (ps .header)) (heldIn (ps .body)) g (g .object));
+    }
 
 -- ---- a slot that holds segments, one at least, passes
 
-parts-largest : (slot : Slot) (lent : Lent) → Each (λ m. m ≤ 1) (partsOf slot lent .header .marks) → Each (λ m. m ≤ 1) (partsOf slot lent .body .marks) → largestOf (lent .marks) ≤ 1
+parts-largest : (slot : Slot) (lent : Lent) → Each (λ m. m ≤ 1) (partsOf slot lent .header .marks)
+    → Each (λ m. m ≤ 1) (partsOf slot lent .body .marks) → largestOf (lent .marks) ≤ 1
 unfolding partsOf
-parts-largest slot lent h b = each-largest (lent .marks) (subst (λ (l : List ℕ). Each (λ m. m ≤ 1) l) (take-append-drop headerNumbers (lent .marks)) (each-append (λ m. m ≤ 1) (take headerNumbers (lent .marks)) (drop headerNumbers (lent .marks)) h b))
+parts-largest slot lent h b =
+    each-largest (lent .marks)
+    (subst (λ (l : List ℕ). Each (λ m. m ≤ 1) l) (take-append-drop headerNumbers (lent .marks))
+    (each-append (λ m. m ≤ 1) (take headerNumbers (lent .marks)) (drop headerNumbers (lent .marks)) h b))
 
-parts-sum : (slot : Slot) (lent : Lent) (part : Part) (n : ℕ) → 0 < getD (memoryOf part (partsOf slot lent) .marks) n 0 → 1 ≤ sumOf (lent .marks)
+parts-sum : (slot : Slot) (lent : Lent) (part : Part) (n : ℕ) → 0 < getD (memoryOf part (partsOf slot lent) .marks) n 0
+    → 1 ≤ sumOf (lent .marks)
 unfolding partsOf
-parts-sum slot lent Header n h = omega (arith, sum-split (lent .marks) headerNumbers, total-some (take headerNumbers (lent .marks)) n h)
-parts-sum slot lent Body n h = omega (arith, sum-split (lent .marks) headerNumbers, total-some (drop headerNumbers (lent .marks)) n h)
+parts-sum slot lent Header n h =
+    omega (arith, sum-split (lent .marks) headerNumbers, total-some (take headerNumbers (lent .marks)) n h)
+parts-sum slot lent Body n h =
+    omega (arith, sum-split (lent .marks) headerNumbers, total-some (drop headerNumbers (lent .marks)) n h)
 
-holds-passes : (limit : ℕ) (slot : Slot) (lent : Lent) (hs bs : List Segment) → Holds limit slot lent hs bs → 1 ≤ sumOf (lent .marks) → soundSlot limit slot lent ≡ true
+holds-passes : (limit : ℕ) (slot : Slot) (lent : Lent) (hs bs : List Segment) → Holds limit slot lent hs bs
+    → 1 ≤ sumOf (lent .marks) → soundSlot limit slot lent ≡ true
 unfolding soundSlot
 holds-passes limit slot lent hs bs h some =
     true-both (marksRight (lent .marks)) (soundParts limit (slot .stage) (partsOf slot lent))
@@ -92,14 +110,19 @@ holds-passes limit slot lent hs bs h some =
     g = h .gathers
 
     stage : slot .stage ≡ stageOf (partsOf slot lent)
-    stage = stage-one limit hs bs (g .object) (slot .stage) (stageOf (partsOf slot lent)) (h .stage) (stage-right limit (partsOf slot lent) hs bs g (g .object))
+    stage = stage-one limit hs bs (g .object) (slot .stage) (stageOf (partsOf slot lent)) (h .stage)
+        (stage-right limit (partsOf slot lent) hs bs g (g .object))
 
-pub holds-sound : (limit : ℕ) (slot : Slot) (lent : Lent) (hs bs : List Segment) → Holds limit slot lent hs bs → (part : Part) (n : ℕ) → Numbered n (those part hs bs) → soundSlot limit slot lent ≡ true
-holds-sound limit slot lent hs bs h part n i = holds-passes limit slot lent hs bs h (parts-sum slot lent part n (part-keeps part limit (partsOf slot lent) hs bs (h .gathers) .marked .marked n .1 i))
+pub holds-sound : (limit : ℕ) (slot : Slot) (lent : Lent) (hs bs : List Segment) → Holds limit slot lent hs bs
+    → (part : Part) (n : ℕ) → Numbered n (those part hs bs) → soundSlot limit slot lent ≡ true
+holds-sound limit slot lent hs bs h part n i =
+    holds-passes limit slot lent hs bs h
+    (parts-sum slot lent part n (part-keeps part limit (partsOf slot lent) hs bs (h .gathers) .marked .marked n .1 i))
 
 -- ---- THE STATE of a held slot, decided
 
-passes-sound : (limit : ℕ) (slot : Slot) (lent : Lent) → limit ≤ limitMost → IsLent limit lent → soundSlot limit slot lent ≡ true → Sound limit slot lent
+passes-sound : (limit : ℕ) (slot : Slot) (lent : Lent) → limit ≤ limitMost → IsLent limit lent
+    → soundSlot limit slot lent ≡ true → Sound limit slot lent
 unfolding partsOf
 passes-sound limit slot lent z l e =
     let t = sound-slot limit slot lent e in
@@ -114,18 +137,29 @@ passes-sound limit slot lent z l e =
       stage = h .stage;
     }
 
-sound-bits : (part : Part) (slot : Slot) (lent : Lent) → Each (λ m. (m ≡ 0) ⊎ (m ≡ 1)) (lent .marks) → Each (λ m. m ≤ 1) (memoryOf part (partsOf slot lent) .marks)
+sound-bits : (part : Part) (slot : Slot) (lent : Lent) → Each (λ m. (m ≡ 0) ⊎ (m ≡ 1)) (lent .marks)
+    → Each (λ m. m ≤ 1) (memoryOf part (partsOf slot lent) .marks)
 unfolding partsOf
 sound-bits Header slot lent e = each-take (λ m. m ≤ 1) headerNumbers (lent .marks) (each-map bit-most (lent .marks) e)
 sound-bits Body slot lent e = each-drop (λ m. m ≤ 1) headerNumbers (lent .marks) (each-map bit-most (lent .marks) e)
 
-sound-kept : (part : Part) (limit : ℕ) (slot : Slot) (lent : Lent) → Sound limit slot lent → memoryOf part (partsOf slot lent) .kept ≡ recordOf (boundsOf part limit (coreOf (markedSegments Header slot lent))) (summary (markedSegments part slot lent))
+sound-kept : (part : Part) (limit : ℕ) (slot : Slot) (lent : Lent) → Sound limit slot lent
+    → memoryOf part (partsOf slot lent) .kept
+    ≡ recordOf (boundsOf part limit (coreOf (markedSegments Header slot lent)))
+    (summary (markedSegments part slot lent))
 unfolding partsOf
 sound-kept Header limit slot lent d = d .header
 sound-kept Body limit slot lent d = d .body
 
-sound-passes : (limit : ℕ) (slot : Slot) (lent : Lent) → IsLent limit lent → Sound limit slot lent → soundSlot limit slot lent ≡ true
-sound-passes limit slot lent l d = holds-passes limit slot lent hs bs (record { gathers = record { object = d .object; shape = shape; header = keeps Header; body = keeps Body }; stage = d .stage }) (total-some (lent .marks) (d .some .0) (omega (arith, d .some .1)))
+sound-passes : (limit : ℕ) (slot : Slot) (lent : Lent) → IsLent limit lent → Sound limit slot lent
+    → soundSlot limit slot lent ≡ true
+sound-passes limit slot lent l d =
+    holds-passes limit slot lent hs bs
+    (record {
+      gathers = record { object = d .object; shape = shape; header = keeps Header; body = keeps Body };
+      stage =
+          d .stage;
+    }) (total-some (lent .marks) (d .some .0) (omega (arith, d .some .1)))
   where
     hs : List Segment
     hs = markedSegments Header slot lent
@@ -144,8 +178,13 @@ sound-passes limit slot lent l d = holds-passes limit slot lent hs bs (record { 
     these Body = refl
 
     keeps : (part : Part) → Keeps (boundsOf part limit (coreOf hs)) (memoryOf part ps) (markedSegments part slot lent)
-    keeps part = reads-keeps (boundsOf part limit (coreOf hs)) (cutOf part (d .object)) (length (partOf part (d .object))) (memoryOf part ps) (markedSegments part slot lent) (sound-kept part limit slot lent d) (held-reads (memoryOf part ps)) (held-marked (memoryOf part ps) (sound-bits part slot lent (d .marks))) (rw these at (fits-room part limit ps hs bs (d .object) shape))
+    keeps part = reads-keeps (boundsOf part limit (coreOf hs)) (cutOf part (d .object))
+        (length (partOf part (d .object))) (memoryOf part ps) (markedSegments part slot lent)
+        (sound-kept part limit slot lent d) (held-reads (memoryOf part ps))
+        (held-marked (memoryOf part ps) (sound-bits part slot lent (d .marks)))
+        (rw these at (fits-room part limit ps hs bs (d .object) shape))
 
 -- THE TEST is exact
-pub sound-exactly : (limit : ℕ) (slot : Slot) (lent : Lent) → limit ≤ limitMost → IsLent limit lent → (soundSlot limit slot lent ≡ true) ↔ Sound limit slot lent
+pub sound-exactly : (limit : ℕ) (slot : Slot) (lent : Lent) → limit ≤ limitMost → IsLent limit lent
+    → (soundSlot limit slot lent ≡ true) ↔ Sound limit slot lent
 sound-exactly limit slot lent z l = (passes-sound limit slot lent z l, sound-passes limit slot lent l)

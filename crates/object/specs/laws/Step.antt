@@ -50,52 +50,77 @@ same-exactly s t n = (
       let f : s .last ≡ t .last = flag-same (s .last) (t .last) .0 (r .0) in
       let g : s .bytes ≡ t .bytes = equal-exactly (s .bytes) (t .bytes) .0 (r .1) in
       λ i. record { number = n i; last = f i; bytes = g i }),
-  (λ e. true-both (sameFlag (s .last) (t .last)) (equal (s .bytes) (t .bytes)) (flag-same (s .last) (t .last) .1 (ap (λ (x : Segment). x .last) e)) (equal-exactly (s .bytes) (t .bytes) .1 (ap (λ (x : Segment). x .bytes) e))),
+  (λ e. true-both (sameFlag (s .last) (t .last)) (equal (s .bytes) (t .bytes))
+      (flag-same (s .last) (t .last) .1 (ap (λ (x : Segment). x .last) e))
+      (equal-exactly (s .bytes) (t .bytes) .1 (ap (λ (x : Segment). x .bytes) e))),
 )
 
 -- ---- the slot that is left
 
 -- the parts of the slot and of the shares that parts leave are these parts
-pub parts-back : (number : ℕ) (ps : Parts) → length (ps .header .marks) ≡ headerNumbers → partsOf (slotWith number ps) (lentOf ps) ≡ ps
+pub parts-back : (number : ℕ) (ps : Parts) → length (ps .header .marks) ≡ headerNumbers
+    → partsOf (slotWith number ps) (lentOf ps) ≡ ps
 unfolding partsOf slotWith lentOf
 parts-back number ps h =
-    let t : take headerNumbers (ps .header .marks ++ ps .body .marks) ≡ ps .header .marks = take-at (ps .header .marks) (ps .body .marks) headerNumbers h in
-    let d : drop headerNumbers (ps .header .marks ++ ps .body .marks) ≡ ps .body .marks = drop-at (ps .header .marks) (ps .body .marks) headerNumbers h in
+    let t : take headerNumbers (ps .header .marks ++ ps .body .marks) ≡ ps .header .marks =
+    take-at (ps .header .marks) (ps .body .marks) headerNumbers h in
+    let d : drop headerNumbers (ps .header .marks ++ ps .body .marks) ≡ ps .body .marks =
+    drop-at (ps .header .marks) (ps .body .marks) headerNumbers h in
     λ i. record {
       header = record { kept = ps .header .kept; marks = t i; share = ps .header .share };
       body = record { kept = ps .body .kept; marks = d i; share = ps .body .share };
     }
 
-pub parts-hold : (limit number : ℕ) (ps : Parts) (hs bs : List Segment) → Gathers limit ps hs bs → Holds limit (slotWith number ps) (lentOf ps) hs bs
+pub parts-hold : (limit number : ℕ) (ps : Parts) (hs bs : List Segment) → Gathers limit ps hs bs
+    → Holds limit (slotWith number ps) (lentOf ps) hs bs
 unfolding slotWith
 parts-hold limit number ps hs bs g =
-    let k : Gathers limit (partsOf (slotWith number ps) (lentOf ps)) hs bs = subst (λ (x : Parts). Gathers limit x hs bs) (sym (parts-back number ps (g .shape .headerMarks))) g in
+    let k : Gathers limit (partsOf (slotWith number ps) (lentOf ps)) hs bs =
+    subst (λ (x : Parts). Gathers limit x hs bs) (sym (parts-back number ps (g .shape .headerMarks))) g in
     record { gathers = k; stage = stage-right limit ps hs bs g (k .object) }
 
 -- ---- what an outcome tells
 
 abbrev pub Tells : Outcome → Part → ℕ → Segment → Slot → Lent → List Segment → List Segment → Taken → Type 0
-Tells Stored part limit s slot lent hs bs t = Added part limit s slot hs bs t × ((f : Fits limit (headersWith part s hs) (bodiesWith part s bs)) → ¬ (Finished f))
-Tells Complete part limit s slot lent hs bs t = Added part limit s slot hs bs t × ((f : Fits limit (headersWith part s hs) (bodiesWith part s bs)) → Finished f)
+Tells Stored part limit s slot lent hs bs t = Added part limit s slot hs bs t
+    × ((f : Fits limit (headersWith part s hs) (bodiesWith part s bs)) → ¬ (Finished f))
+Tells Complete part limit s slot lent hs bs t = Added part limit s slot hs bs t
+    × ((f : Fits limit (headersWith part s hs) (bodiesWith part s bs)) → Finished f)
 Tells Repeat part limit s slot lent hs bs t = Among s (those part hs bs) × (t ≡ unchanged Repeat slot lent)
-Tells Conflict part limit s slot lent hs bs t = (¬ (Fits limit (headersWith part s hs) (bodiesWith part s bs))) × (t ≡ unchanged Conflict slot lent)
+Tells Conflict part limit s slot lent hs bs t = (¬ (Fits limit (headersWith part s hs) (bodiesWith part s bs)))
+    × (t ≡ unchanged Conflict slot lent)
 
-by-stage : (part : Part) (limit : ℕ) (s : Segment) (slot : Slot) (lent : Lent) (hs bs : List Segment) (t : Taken) (stage : Stage) → Added part limit s slot hs bs t → ((f : Fits limit (headersWith part s hs) (bodiesWith part s bs)) → StageFor f stage) → Tells (outcomeBy stage) part limit s slot lent hs bs t
+by-stage : (part : Part) (limit : ℕ) (s : Segment) (slot : Slot) (lent : Lent) (hs bs : List Segment) (t : Taken)
+    (stage : Stage) → Added part limit s slot hs bs t
+    → ((f : Fits limit (headersWith part s hs) (bodiesWith part s bs)) → StageFor f stage)
+    → Tells (outcomeBy stage) part limit s slot lent hs bs t
 by-stage part limit s slot lent hs bs t Stage.Free w r = absurd (r (w .holds .gathers .object))
 by-stage part limit s slot lent hs bs t Stage.Gathering w r = (w, r)
 by-stage part limit s slot lent hs bs t (Stage.Finished h b) w r = (w, (λ f. r f .0))
 
-module _ (part : Part) (limit : ℕ) (s : Segment) (slot : Slot) (lent : Lent) (hs bs : List Segment) (z : limit ≤ limitMost) (y : Bytes (s .bytes)) (g : Gathers limit (partsOf slot lent) hs bs) where
-  if-new : ¬ (Numbered (s .number) (those part hs bs)) → (b : Bool) → takesIn part limit s (partsOf slot lent) ≡ b → Tells (ifNew b part limit s slot lent .outcome) part limit s slot lent hs bs (ifNew b part limit s slot lent)
+module _ (part : Part) (limit : ℕ) (s : Segment) (slot : Slot) (lent : Lent) (hs bs : List Segment)
+    (z : limit ≤ limitMost) (y : Bytes (s .bytes)) (g : Gathers limit (partsOf slot lent) hs bs) where
+  if-new : ¬ (Numbered (s .number) (those part hs bs)) → (b : Bool) → takesIn part limit s (partsOf slot lent) ≡ b
+      → Tells (ifNew b part limit s slot lent .outcome) part limit s slot lent hs bs (ifNew b part limit s slot lent)
   unfolding slotWith
   if-new a true e =
-      let f : Fits limit (headersWith part s hs) (bodiesWith part s bs) = takes-fits part limit s (partsOf slot lent) hs bs z y g a .0 e in
+      let f : Fits limit (headersWith part s hs) (bodiesWith part s bs) =
+      takes-fits part limit s (partsOf slot lent) hs bs z y g a .0 e in
       let ps : Parts = partsWith part limit s (partsOf slot lent) in
-      let k : Gathers limit ps (headersWith part s hs) (bodiesWith part s bs) = next-gathers part limit s (partsOf slot lent) hs bs g a f in
-      by-stage part limit s slot lent hs bs (storedAs (slot .number) ps) (stageOf ps) (record { new = a; holds = parts-hold limit (slot .number) ps (headersWith part s hs) (bodiesWith part s bs) k; number = refl }) (stage-right limit ps (headersWith part s hs) (bodiesWith part s bs) k)
+      let k : Gathers limit ps (headersWith part s hs) (bodiesWith part s bs) =
+      next-gathers part limit s (partsOf slot lent) hs bs g a f in
+      by-stage part limit s slot lent hs bs (storedAs (slot .number) ps) (stageOf ps)
+      (record {
+        new = a;
+        holds = parts-hold limit (slot .number) ps (headersWith part s hs) (bodiesWith part s bs)
+            k;
+        number = refl;
+      }) (stage-right limit ps (headersWith part s hs) (bodiesWith part s bs) k)
   if-new a false e = ((λ f. false-true e (takes-fits part limit s (partsOf slot lent) hs bs z y g a .1 f)), refl)
 
-  if-held : Numbered (s .number) (those part hs bs) → (b : Bool) → sameSegment s (segmentAt (memoryOf part (partsOf slot lent)) (s .number)) ≡ b → Tells (ifHeld b part limit s slot lent .outcome) part limit s slot lent hs bs (ifHeld b part limit s slot lent)
+  if-held : Numbered (s .number) (those part hs bs) → (b : Bool)
+      → sameSegment s (segmentAt (memoryOf part (partsOf slot lent)) (s .number)) ≡ b
+      → Tells (ifHeld b part limit s slot lent .outcome) part limit s slot lent hs bs (ifHeld b part limit s slot lent)
   if-held i b e = go b e
     where
       t : Segment
@@ -105,22 +130,31 @@ module _ (part : Part) (limit : ℕ) (s : Segment) (slot : Slot) (lent : Lent) (
       n = sym (at-number (memoryOf part (partsOf slot lent)) (s .number))
 
       held : Among t (those part hs bs)
-      held = at-among (memoryOf part (partsOf slot lent)) (s .number) (those part hs bs) (part-reads part limit (partsOf slot lent) hs bs g) i
+      held = at-among (memoryOf part (partsOf slot lent)) (s .number) (those part hs bs)
+          (part-reads part limit (partsOf slot lent) hs bs g) i
 
-      go : (b : Bool) → sameSegment s t ≡ b → Tells (ifHeld b part limit s slot lent .outcome) part limit s slot lent hs bs (ifHeld b part limit s slot lent)
+      go : (b : Bool) → sameSegment s t ≡ b → Tells (ifHeld b part limit s slot lent .outcome) part limit s slot lent hs
+          bs (ifHeld b part limit s slot lent)
       go true e = (subst (λ (x : Segment). Among x (those part hs bs)) (sym (same-exactly s t n .0 e)) held, refl)
       go false e = ((λ f. false-true e (same-exactly s t n .1 (same-fits part limit s t hs bs f held n))), refl)
 
   -- whatever the outcome is, it tells what document 01 says
   told : Tells (takeInto part limit s slot lent .outcome) part limit s slot lent hs bs (takeInto part limit s slot lent)
-  told = rw (take-by-mark part limit s slot lent) (go (getD (memoryOf part (partsOf slot lent) .marks) (s .number) 0) (part-keeps part limit (partsOf slot lent) hs bs g .marked .marked (s .number)))
+  told = rw (take-by-mark part limit s slot lent)
+      (go (getD (memoryOf part (partsOf slot lent) .marks) (s .number) 0)
+      (part-keeps part limit (partsOf slot lent) hs bs g .marked .marked (s .number)))
     where
-      go : (mark : ℕ) → (0 < mark) ↔ Numbered (s .number) (those part hs bs) → Tells (byMark mark part limit s slot lent .outcome) part limit s slot lent hs bs (byMark mark part limit s slot lent)
+      go : (mark : ℕ) → (0 < mark) ↔ Numbered (s .number) (those part hs bs)
+          → Tells (byMark mark part limit s slot lent .outcome) part limit s slot lent hs bs
+          (byMark mark part limit s slot lent)
       go zero i = if-new (λ j. let q : 0 < 0 = i .1 j in omega arith) (takesIn part limit s (partsOf slot lent)) refl
-      go (suc mark) i = if-held (i .0 (omega arith)) (sameSegment s (segmentAt (memoryOf part (partsOf slot lent)) (s .number))) refl
+      go (suc mark) i =
+          if-held (i .0 (omega arith)) (sameSegment s (segmentAt (memoryOf part (partsOf slot lent)) (s .number))) refl
 
-  pub outcome-tells : (o : Outcome) → takeInto part limit s slot lent .outcome ≡ o → Tells o part limit s slot lent hs bs (takeInto part limit s slot lent)
-  outcome-tells o e = subst (λ (x : Outcome). Tells x part limit s slot lent hs bs (takeInto part limit s slot lent)) e told
+  pub outcome-tells : (o : Outcome) → takeInto part limit s slot lent .outcome ≡ o
+      → Tells o part limit s slot lent hs bs (takeInto part limit s slot lent)
+  outcome-tells o e = subst (λ (x : Outcome). Tells x part limit s slot lent hs bs (takeInto part limit s slot lent)) e
+      told
 
 -- ---- each outcome comes exactly when
 
@@ -129,7 +163,9 @@ among-with : (s : Segment) (ss : List Segment) → Among s ss → (t : Segment) 
 among-with s ss i t (inl e) = rw e at i
 among-with s ss i t (inr j) = j
 
-finished-less : (part : Part) (limit : ℕ) (s : Segment) (hs bs : List Segment) (f : Fits limit (headersWith part s hs) (bodiesWith part s bs)) → Among s (those part hs bs) → Finished f → (g : Fits limit hs bs) × Finished g
+finished-less : (part : Part) (limit : ℕ) (s : Segment) (hs bs : List Segment)
+    (f : Fits limit (headersWith part s hs) (bodiesWith part s bs)) → Among s (those part hs bs) → Finished f
+    → (g : Fits limit hs bs) × Finished g
 finished-less Header limit s hs bs f i w = (
   fits-less Header limit s hs bs f,
   record { header = λ t u. among-with s hs i t (w .header t u); body = w .body },
@@ -140,19 +176,30 @@ finished-less Body limit s hs bs f i w = (
 )
 
 -- once every segment is in, one of a new number does not fit
-finished-new : (part : Part) (limit : ℕ) (s : Segment) (hs bs : List Segment) (f : Fits limit (headersWith part s hs) (bodiesWith part s bs)) (g : Fits limit hs bs) → Finished g → Among s (those part hs bs)
-finished-new Header limit s hs bs f g w = finished-every limit hs bs g (fits-less Header limit s hs bs f) w .header s (f .headerSent .0)
-finished-new Body limit s hs bs f g w = finished-every limit hs bs g (fits-less Body limit s hs bs f) w .body s (f .bodySent .0)
+finished-new : (part : Part) (limit : ℕ) (s : Segment) (hs bs : List Segment)
+    (f : Fits limit (headersWith part s hs) (bodiesWith part s bs)) (g : Fits limit hs bs) → Finished g
+    → Among s (those part hs bs)
+finished-new Header limit s hs bs f g w = finished-every limit hs bs g (fits-less Header limit s hs bs f) w .header s
+    (f .headerSent .0)
+finished-new Body limit s hs bs f g w = finished-every limit hs bs g (fits-less Body limit s hs bs f) w .body s
+    (f .bodySent .0)
 
-module _ (part : Part) (limit : ℕ) (s : Segment) (slot : Slot) (lent : Lent) (hs bs : List Segment) (z : limit ≤ limitMost) (y : Bytes (s .bytes)) (g : Gathers limit (partsOf slot lent) hs bs) where
-  tells : (o : Outcome) → takeInto part limit s slot lent .outcome ≡ o → Tells o part limit s slot lent hs bs (takeInto part limit s slot lent)
+module _ (part : Part) (limit : ℕ) (s : Segment) (slot : Slot) (lent : Lent) (hs bs : List Segment)
+    (z : limit ≤ limitMost) (y : Bytes (s .bytes)) (g : Gathers limit (partsOf slot lent) hs bs) where
+  tells : (o : Outcome) → takeInto part limit s slot lent .outcome ≡ o
+      → Tells o part limit s slot lent hs bs (takeInto part limit s slot lent)
   tells = outcome-tells part limit s slot lent hs bs z y g
 
   -- CONFLICT: no object and cut send the segment and those that are held
-  pub conflict-exactly : (takeInto part limit s slot lent .outcome ≡ Conflict) ↔ (¬ (Fits limit (headersWith part s hs) (bodiesWith part s bs)))
-  conflict-exactly = ((λ e. tells Conflict e .0), (λ n. go (takeInto part limit s slot lent .outcome) n (tells (takeInto part limit s slot lent .outcome) refl)))
+  pub conflict-exactly : (takeInto part limit s slot lent .outcome ≡ Conflict)
+      ↔ (¬ (Fits limit (headersWith part s hs) (bodiesWith part s bs)))
+  conflict-exactly = (
+    (λ e. tells Conflict e .0),
+    (λ n. go (takeInto part limit s slot lent .outcome) n (tells (takeInto part limit s slot lent .outcome) refl)),
+  )
     where
-      go : (o : Outcome) → ¬ (Fits limit (headersWith part s hs) (bodiesWith part s bs)) → Tells o part limit s slot lent hs bs (takeInto part limit s slot lent) → o ≡ Conflict
+      go : (o : Outcome) → ¬ (Fits limit (headersWith part s hs) (bodiesWith part s bs))
+          → Tells o part limit s slot lent hs bs (takeInto part limit s slot lent) → o ≡ Conflict
       go Stored n w = absurd (n (w .0 .holds .gathers .object))
       go Complete n w = absurd (n (w .0 .holds .gathers .object))
       go Repeat n w = absurd (n (repeat-fits part limit s hs bs (g .object) (w .0)))
@@ -160,46 +207,65 @@ module _ (part : Part) (limit : ℕ) (s : Segment) (slot : Slot) (lent : Lent) (
 
   -- REPEAT: the same segment is held
   pub repeat-exactly : (takeInto part limit s slot lent .outcome ≡ Repeat) ↔ Among s (those part hs bs)
-  repeat-exactly = ((λ e. tells Repeat e .0), (λ i. go (takeInto part limit s slot lent .outcome) i (tells (takeInto part limit s slot lent .outcome) refl)))
+  repeat-exactly = (
+    (λ e. tells Repeat e .0),
+    (λ i. go (takeInto part limit s slot lent .outcome) i (tells (takeInto part limit s slot lent .outcome) refl)),
+  )
     where
-      go : (o : Outcome) → Among s (those part hs bs) → Tells o part limit s slot lent hs bs (takeInto part limit s slot lent) → o ≡ Repeat
+      go : (o : Outcome) → Among s (those part hs bs)
+          → Tells o part limit s slot lent hs bs (takeInto part limit s slot lent) → o ≡ Repeat
       go Stored i w = absurd (w .0 .new (among-numbered s (those part hs bs) i))
       go Complete i w = absurd (w .0 .new (among-numbered s (those part hs bs) i))
       go Repeat i w = refl
       go Conflict i w = absurd (w .0 (repeat-fits part limit s hs bs (g .object) i))
 
   -- COMPLETE: with it every segment is in, and before it not
-  pub complete-exactly : (takeInto part limit s slot lent .outcome ≡ Complete) ↔ (((f : Fits limit (headersWith part s hs) (bodiesWith part s bs)) × Finished f) × ((f : Fits limit hs bs) → ¬ (Finished f)))
+  pub complete-exactly : (takeInto part limit s slot lent .outcome ≡ Complete)
+      ↔ (((f : Fits limit (headersWith part s hs) (bodiesWith part s bs)) × Finished f)
+      × ((f : Fits limit hs bs) → ¬ (Finished f)))
   complete-exactly = (
     (λ e.
         let w = tells Complete e in
-        let f = w .0 .holds .gathers .object in
-        ((f, w .1 f), (λ old d. w .0 .new (among-numbered s (those part hs bs) (finished-new part limit s hs bs f old d))))),
-    (λ r. go (takeInto part limit s slot lent .outcome) (r .0 .0) (r .0 .1) (r .1) (tells (takeInto part limit s slot lent .outcome) refl)),
+        let f = w .0 .holds .gathers .object in (
+          (f, w .1 f),
+          (λ old d. w .0 .new (among-numbered s (those part hs bs) (finished-new part limit s hs bs f old d))),
+        )),
+    (λ r. go (takeInto part limit s slot lent .outcome) (r .0 .0) (r .0 .1) (r .1)
+        (tells (takeInto part limit s slot lent .outcome) refl)),
   )
     where
-      go : (o : Outcome) (f : Fits limit (headersWith part s hs) (bodiesWith part s bs)) → Finished f → ((f : Fits limit hs bs) → ¬ (Finished f)) → Tells o part limit s slot lent hs bs (takeInto part limit s slot lent) → o ≡ Complete
+      go : (o : Outcome) (f : Fits limit (headersWith part s hs) (bodiesWith part s bs)) → Finished f
+          → ((f : Fits limit hs bs) → ¬ (Finished f))
+          → Tells o part limit s slot lent hs bs (takeInto part limit s slot lent) → o ≡ Complete
       go Stored f d n w = absurd (w .1 f d)
       go Complete f d n w = refl
       go Repeat f d n w = let r = finished-less part limit s hs bs f (w .0) d in absurd (n (r .0) (r .1))
       go Conflict f d n w = absurd (w .0 f)
 
   -- STORED: it is new and fits, and with it some segment is still missing
-  pub stored-exactly : (takeInto part limit s slot lent .outcome ≡ Stored) ↔ (((f : Fits limit (headersWith part s hs) (bodiesWith part s bs)) × (¬ (Finished f))) × (¬ (Among s (those part hs bs))))
+  pub stored-exactly : (takeInto part limit s slot lent .outcome ≡ Stored)
+      ↔ (((f : Fits limit (headersWith part s hs) (bodiesWith part s bs)) × (¬ (Finished f)))
+      × (¬ (Among s (those part hs bs))))
   stored-exactly = (
-    (λ e. let w = tells Stored e in let f = w .0 .holds .gathers .object in ((f, w .1 f), (λ i. w .0 .new (among-numbered s (those part hs bs) i)))),
-    (λ r. go (takeInto part limit s slot lent .outcome) (r .0 .0) (r .0 .1) (r .1) (tells (takeInto part limit s slot lent .outcome) refl)),
+    (λ e. let w = tells Stored e in let f = w .0 .holds .gathers .object in
+        ((f, w .1 f), (λ i. w .0 .new (among-numbered s (those part hs bs) i)))),
+    (λ r. go (takeInto part limit s slot lent .outcome) (r .0 .0) (r .0 .1) (r .1)
+        (tells (takeInto part limit s slot lent .outcome) refl)),
   )
     where
-      go : (o : Outcome) (f : Fits limit (headersWith part s hs) (bodiesWith part s bs)) → ¬ (Finished f) → ¬ (Among s (those part hs bs)) → Tells o part limit s slot lent hs bs (takeInto part limit s slot lent) → o ≡ Stored
+      go : (o : Outcome) (f : Fits limit (headersWith part s hs) (bodiesWith part s bs)) → ¬ (Finished f)
+          → ¬ (Among s (those part hs bs)) → Tells o part limit s slot lent hs bs (takeInto part limit s slot lent) → o
+          ≡ Stored
       go Stored f d n w = refl
       go Complete f d n w = absurd (d (w .1 f))
       go Repeat f d n w = absurd (n (w .0))
       go Conflict f d n w = absurd (w .0 f)
 
   -- a refusal and a repeat leave the slot and its shares as they were
-  pub conflict-leaves : takeInto part limit s slot lent .outcome ≡ Conflict → takeInto part limit s slot lent ≡ unchanged Conflict slot lent
+  pub conflict-leaves : takeInto part limit s slot lent .outcome ≡ Conflict → takeInto part limit s slot lent
+      ≡ unchanged Conflict slot lent
   conflict-leaves e = tells Conflict e .1
 
-  pub repeat-leaves : takeInto part limit s slot lent .outcome ≡ Repeat → takeInto part limit s slot lent ≡ unchanged Repeat slot lent
+  pub repeat-leaves : takeInto part limit s slot lent .outcome ≡ Repeat → takeInto part limit s slot lent
+      ≡ unchanged Repeat slot lent
   repeat-leaves e = tells Repeat e .1

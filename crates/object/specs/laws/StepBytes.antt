@@ -35,7 +35,8 @@ module _ (l : List ℕ) (at : ℕ) (run : List ℕ) (fits : at + length run ≤ 
   first r = rw (getD-take 1 (drop i r) 0 0 (omega arith), getD-drop i r 0 0, add-zero)
 
   over-early : i < at → getD (over l at run) i 0 ≡ getD l i 0
-  over-early h = sym (first (over l at run)) ∙ ap (λ (r : List ℕ). getD r 0 0) (over-before l at run fits i 1 (omega arith)) ∙ first l
+  over-early h = sym (first (over l at run))
+      ∙ ap (λ (r : List ℕ). getD r 0 0) (over-before l at run fits i 1 (omega arith)) ∙ first l
 
   over-other : ¬ ((at ≤ i) × (i < at + length run)) → getD (over l at run) i 0 ≡ getD l i 0
   over-other h = go (decLe at i) (decLe (at + length run) i)
@@ -51,10 +52,14 @@ module _ (l : List ℕ) (at : ℕ) (run : List ℕ) (fits : at + length run ≤ 
 abbrev MovesIn : ℕ → Record → Record → Type 0
 MovesIn width old new = old .size ≡ 0 → 0 < new .size → 2 ≤ old .end → Moves width old new
 
-moved-other : (old new : Record) (share : List ℕ) (i : ℕ) → MovesIn (length share) old new → ¬ (Copied old new i) → (length (movedAs (old .size) (new .size) (old .end) (old .tail) share) ≡ length share) × (getD (movedAs (old .size) (new .size) (old .end) (old .tail) share) i 0 ≡ getD share i 0)
+moved-other : (old new : Record) (share : List ℕ) (i : ℕ) → MovesIn (length share) old new → ¬ (Copied old new i)
+    → (length (movedAs (old .size) (new .size) (old .end) (old .tail) share) ≡ length share)
+    × (getD (movedAs (old .size) (new .size) (old .end) (old .tail) share) i 0 ≡ getD share i 0)
 moved-other old new share i m c = go (old .size) (new .size) (old .end) refl refl refl
   where
-    go : (x y e : ℕ) → old .size ≡ x → new .size ≡ y → old .end ≡ e → (length (movedAs x y e (old .tail) share) ≡ length share) × (getD (movedAs x y e (old .tail) share) i 0 ≡ getD share i 0)
+    go : (x y e : ℕ) → old .size ≡ x → new .size ≡ y → old .end ≡ e
+        → (length (movedAs x y e (old .tail) share) ≡ length share)
+        × (getD (movedAs x y e (old .tail) share) i 0 ≡ getD share i 0)
     go (suc x) y e p q r = (refl, refl)
     go zero zero e p q r = (refl, refl)
     go zero (suc y) zero p q r = (refl, refl)
@@ -63,41 +68,68 @@ moved-other old new share i m c = go (old .size) (new .size) (old .end) refl ref
         let u = m p (omega arith) (omega arith) in
         let d : old .end - 1 ≡ suc n = omega arith in
         let w : suc n * suc y + old .tail ≤ length share = rw (d, q) at (u .place) in
-        let t : length (take (old .tail) (drop (length share - old .tail) share)) ≡ old .tail = tail-length (old .tail) share (u .tail) in (
+        let t : length (take (old .tail) (drop (length share - old .tail) share)) ≡ old .tail =
+        tail-length (old .tail) share (u .tail) in (
           over-length share (suc n * suc y) (take (old .tail) (drop (length share - old .tail) share)) (omega arith),
-          over-other share (suc n * suc y) (take (old .tail) (drop (length share - old .tail) share)) (omega arith) i (λ h. c (record { unknown = p; known = omega arith; later = omega arith; from = rw (d, q) (h .0); before = rw (d, q) (omega (arith, h .1)) })),
+          over-other share (suc n * suc y) (take (old .tail) (drop (length share - old .tail) share)) (omega arith) i
+              (λ h. c (record {
+                unknown = p;
+                known = omega arith;
+                later = omega arith;
+                from = rw (d, q) (h .0);
+                before =
+                    rw (d, q) (omega (arith, h .1));
+              })),
         )
 
-settled-other : (new : Record) (m : Memory) (i : ℕ) → MovesIn (length (m .share)) (m .kept) new → ¬ (Copied (m .kept) new i) → (length (settled new m .share) ≡ length (m .share)) × (getD (settled new m .share) i 0 ≡ getD (m .share) i 0)
+settled-other : (new : Record) (m : Memory) (i : ℕ) → MovesIn (length (m .share)) (m .kept) new
+    → ¬ (Copied (m .kept) new i) → (length (settled new m .share) ≡ length (m .share))
+    × (getD (settled new m .share) i 0 ≡ getD (m .share) i 0)
 unfolding settled
 settled-other new m i h c = moved-other (m .kept) new (m .share) i h c
 
-put-other : (s : Segment) (new : Record) (m : Memory) (i numbers : ℕ) → MovesIn (length (m .share)) (m .kept) new → Placed (length (m .share)) numbers (s .last) (new .size) (s .number) (length (s .bytes)) → ¬ (Copied (m .kept) new i) → ¬ (Written s (new .size) (length (m .share)) i) → getD (put s (settled new m) .share) i 0 ≡ getD (m .share) i 0
+put-other : (s : Segment) (new : Record) (m : Memory) (i numbers : ℕ) → MovesIn (length (m .share)) (m .kept) new
+    → Placed (length (m .share)) numbers (s .last) (new .size) (s .number) (length (s .bytes))
+    → ¬ (Copied (m .kept) new i) → ¬ (Written s (new .size) (length (m .share)) i)
+    → getD (put s (settled new m) .share) i 0 ≡ getD (m .share) i 0
 unfolding put settled
 put-other s new m i numbers h p c w =
     let r = moved-other (m .kept) new (m .share) i h c in
     let sh : List ℕ = movedAs (m .kept .size) (new .size) (m .kept .end) (m .kept .tail) (m .share) in
     let e : length sh ≡ length (m .share) = r .0 in
-    let f : placeOf (s .last) (new .size) (length sh) (s .number) (length (s .bytes)) ≡ placeOf (s .last) (new .size) (length (m .share)) (s .number) (length (s .bytes)) = ap (λ (x : ℕ). placeOf (s .last) (new .size) x (s .number) (length (s .bytes))) e in
-    over-other sh (placeOf (s .last) (new .size) (length sh) (s .number) (length (s .bytes))) (s .bytes) (omega (arith, p .place)) i (λ x. w (record { from = omega (arith, x .0); before = omega (arith, x .1) })) ∙ r .1
+    let f : placeOf (s .last) (new .size) (length sh) (s .number) (length (s .bytes))
+    ≡ placeOf (s .last) (new .size) (length (m .share)) (s .number) (length (s .bytes)) =
+    ap (λ (x : ℕ). placeOf (s .last) (new .size) x (s .number) (length (s .bytes))) e in
+    over-other sh (placeOf (s .last) (new .size) (length sh) (s .number) (length (s .bytes))) (s .bytes)
+    (omega (arith, p .place)) i (λ x. w (record { from = omega (arith, x .0); before = omega (arith, x .1) }))
+    ∙ r .1
 
 -- ---- both parts
 
-parts-other : (part : Part) (limit : ℕ) (s : Segment) (ps : Parts) → Shaped limit ps → takesIn part limit s ps ≡ true → (p : Part) (i : ℕ) → ¬ (Copied (memoryOf p ps .kept) (memoryOf p (partsWith part limit s ps) .kept) i) → (p ≡ part → ¬ (Written s (memoryOf p (partsWith part limit s ps) .kept .size) (length (memoryOf p ps .share)) i)) → getD (memoryOf p (partsWith part limit s ps) .share) i 0 ≡ getD (memoryOf p ps .share) i 0
+parts-other : (part : Part) (limit : ℕ) (s : Segment) (ps : Parts) → Shaped limit ps → takesIn part limit s ps ≡ true
+    → (p : Part) (i : ℕ) → ¬ (Copied (memoryOf p ps .kept) (memoryOf p (partsWith part limit s ps) .kept) i)
+    → (p ≡ part → ¬ (Written s (memoryOf p (partsWith part limit s ps) .kept .size) (length (memoryOf p ps .share)) i))
+    → getD (memoryOf p (partsWith part limit s ps) .share) i 0 ≡ getD (memoryOf p ps .share) i 0
 unfolding partsWith put settled
-parts-other Header limit s ps h e Header i c w = put-other s (recordAfter Header limit s ps) (ps .header) i headerNumbers (λ x y g. settled-inside Header limit s ps h e g) (takes-inside Header limit s ps h e) c (w refl)
-parts-other Header limit s ps h e Body i c w = settled-other (recordWithin (boundsOf Body limit (coreAfter s (coreIn (ps .header)))) (ps .body)) (ps .body) i (λ x y g. body-inside limit s ps h e x y g) c .1
+parts-other Header limit s ps h e Header i c w = put-other s (recordAfter Header limit s ps) (ps .header) i
+    headerNumbers (λ x y g. settled-inside Header limit s ps h e g) (takes-inside Header limit s ps h e) c (w refl)
+parts-other Header limit s ps h e Body i c w =
+    settled-other (recordWithin (boundsOf Body limit (coreAfter s (coreIn (ps .header)))) (ps .body)) (ps .body) i
+    (λ x y g. body-inside limit s ps h e x y g) c .1
 parts-other Body limit s ps h e Header i c w = refl
-parts-other Body limit s ps h e Body i c w = put-other s (recordAfter Body limit s ps) (ps .body) i bodyNumbers (λ x y g. settled-inside Body limit s ps h e g) (takes-inside Body limit s ps h e) c (w refl)
+parts-other Body limit s ps h e Body i c w = put-other s (recordAfter Body limit s ps) (ps .body) i bodyNumbers
+    (λ x y g. settled-inside Body limit s ps h e g) (takes-inside Body limit s ps h e) c (w refl)
 
-parts-marks : (part : Part) (limit : ℕ) (s : Segment) (ps : Parts) (p : Part) (n : ℕ) → ¬ ((p ≡ part) × (n ≡ s .number)) → getD (memoryOf p (partsWith part limit s ps) .marks) n 0 ≡ getD (memoryOf p ps .marks) n 0
+parts-marks : (part : Part) (limit : ℕ) (s : Segment) (ps : Parts) (p : Part) (n : ℕ) → ¬ ((p ≡ part) × (n ≡ s .number))
+    → getD (memoryOf p (partsWith part limit s ps) .marks) n 0 ≡ getD (memoryOf p ps .marks) n 0
 unfolding partsWith put settled
 parts-marks Header limit s ps Header n d = getD-set-other (ps .header .marks) (s .number) n 1 0 (λ e. d (refl, e))
 parts-marks Header limit s ps Body n d = refl
 parts-marks Body limit s ps Header n d = refl
 parts-marks Body limit s ps Body n d = getD-set-other (ps .body .marks) (s .number) n 1 0 (λ e. d (refl, e))
 
-parts-length : (part : Part) (limit : ℕ) (s : Segment) (ps : Parts) → length (partsWith part limit s ps .header .marks) ≡ length (ps .header .marks)
+parts-length : (part : Part) (limit : ℕ) (s : Segment) (ps : Parts) → length (partsWith part limit s ps .header .marks)
+    ≡ length (ps .header .marks)
 unfolding partsWith put settled
 parts-length Header limit s ps = length-set (ps .header .marks) (s .number) 1
 parts-length Body limit s ps = refl
@@ -124,11 +156,17 @@ unfolding partsOf
 parts-share Header slot lent = refl
 parts-share Body slot lent = refl
 
-new-leaves : (b : Bool) (part : Part) (limit : ℕ) (s : Segment) (slot : Slot) (lent : Lent) → Shaped limit (partsOf slot lent) → takesIn part limit s (partsOf slot lent) ≡ b → Leaves part s slot lent (ifNew b part limit s slot lent)
+new-leaves : (b : Bool) (part : Part) (limit : ℕ) (s : Segment) (slot : Slot) (lent : Lent)
+    → Shaped limit (partsOf slot lent) → takesIn part limit s (partsOf slot lent) ≡ b
+    → Leaves part s slot lent (ifNew b part limit s slot lent)
 new-leaves false part limit s slot lent h e = record { bytes = λ p i c w. refl; marks = λ p n d. refl }
 new-leaves true part limit s slot lent h e = record {
-  bytes = λ p i c w. ap (λ (l : List ℕ). getD l i 0) (lent-share p qs) ∙ parts-other part limit s ps h e p i (rw (parts-kept, ← (slot-kept p (slot .number) qs)) c) (λ x. rw (← (slot-kept p (slot .number) qs), parts-share) (w x)) ∙ ap (λ (l : List ℕ). getD l i 0) (parts-share p slot lent);
-  marks = λ p n d. rw (parts-back (slot .number) qs (parts-length part limit s ps ∙ h .headerMarks)) (parts-marks part limit s ps p n d);
+  bytes = λ p i c w. ap (λ (l : List ℕ). getD l i 0) (lent-share p qs)
+      ∙ parts-other part limit s ps h e p i (rw (parts-kept, ← (slot-kept p (slot .number) qs)) c)
+      (λ x. rw (← (slot-kept p (slot .number) qs), parts-share) (w x))
+      ∙ ap (λ (l : List ℕ). getD l i 0) (parts-share p slot lent);
+  marks = λ p n d. rw (parts-back (slot .number) qs (parts-length part limit s ps ∙ h .headerMarks))
+      (parts-marks part limit s ps p n d);
 }
   where
     ps : Parts
@@ -137,13 +175,17 @@ new-leaves true part limit s slot lent h e = record {
     qs : Parts
     qs = partsWith part limit s ps
 
-held-leaves : (b : Bool) (part : Part) (limit : ℕ) (s : Segment) (slot : Slot) (lent : Lent) → Leaves part s slot lent (ifHeld b part limit s slot lent)
+held-leaves : (b : Bool) (part : Part) (limit : ℕ) (s : Segment) (slot : Slot) (lent : Lent)
+    → Leaves part s slot lent (ifHeld b part limit s slot lent)
 held-leaves true part limit s slot lent = record { bytes = λ p i c w. refl; marks = λ p n d. refl }
 held-leaves false part limit s slot lent = record { bytes = λ p i c w. refl; marks = λ p n d. refl }
 
-pub taken-leaves : (part : Part) (limit : ℕ) (s : Segment) (slot : Slot) (lent : Lent) → Shaped limit (partsOf slot lent) → Leaves part s slot lent (takeInto part limit s slot lent)
-taken-leaves part limit s slot lent h = rw (take-by-mark part limit s slot lent) (go (getD (memoryOf part (partsOf slot lent) .marks) (s .number) 0))
+pub taken-leaves : (part : Part) (limit : ℕ) (s : Segment) (slot : Slot) (lent : Lent)
+    → Shaped limit (partsOf slot lent) → Leaves part s slot lent (takeInto part limit s slot lent)
+taken-leaves part limit s slot lent h = rw (take-by-mark part limit s slot lent)
+    (go (getD (memoryOf part (partsOf slot lent) .marks) (s .number) 0))
   where
     go : (mark : ℕ) → Leaves part s slot lent (byMark mark part limit s slot lent)
     go zero = new-leaves (takesIn part limit s (partsOf slot lent)) part limit s slot lent h refl
-    go (suc mark) = held-leaves (sameSegment s (segmentAt (memoryOf part (partsOf slot lent)) (s .number))) part limit s slot lent
+    go (suc mark) = held-leaves (sameSegment s (segmentAt (memoryOf part (partsOf slot lent)) (s .number))) part limit s
+        slot lent

@@ -12,7 +12,8 @@ use Rattle.octets.proofs.clear.Statement.{statement}
 use Rattle.octets.proofs.clear.Tie as tie
 
 abbrev Inv-loop : tie.InvT-loop
-Inv-loop marks₀ i₀ marks i = (i ≤ length marks₀) × (length marks ≡ length marks₀) × (marks ≡ replicate i 0 ++ drop i marks₀)
+Inv-loop marks₀ i₀ marks i = (i ≤ length marks₀) × (length marks ≡ length marks₀)
+    × (marks ≡ replicate i 0 ++ drop i marks₀)
 
 abbrev μ-loop : tie.MeasureT-loop
 μ-loop marks₀ i₀ marks i = length marks₀ - i
@@ -32,8 +33,11 @@ loop-less c = omega arith
 loop-again : tie.Need-loop-again Inv-loop μ-loop
 loop-again c =
     let l = c .before .before .args .marks .now in
-    let i = c .before .loop .i in
-    (omega arith, simp length-set (c .before .loop .inv .1), rw (c .before .loop .inv .2) (fill-more i 0 l (omega arith)))
+    let i = c .before .loop .i in (
+      omega arith,
+      simp length-set (c .before .loop .inv .1),
+      rw (c .before .loop .inv .2) (fill-more i 0 l (omega arith)),
+    )
 
 same-length : tie.Need-same-length Inv-loop μ-loop
 same-length c = search needs
@@ -47,14 +51,4 @@ returns c =
 
 pub clear-spec : {M : Type 1} → statement M
 clear-spec =
-    tie.close
-    (tie.spec
-    Inv-loop
-    μ-loop
-    loop-holds
-    slice-write-marks
-    add-i
-    loop-less
-    loop-again
-    same-length
-    returns)
+    tie.close (tie.spec Inv-loop μ-loop loop-holds slice-write-marks add-i loop-less loop-again same-length returns)

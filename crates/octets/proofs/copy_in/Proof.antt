@@ -36,8 +36,11 @@ loop-again : tie.Need-loop-again Inv-loop μ-loop
 loop-again c =
     let d = c .before .before .before .args .dst .now in
     let s = c .before .before .before .args .src .now in
-    let i = c .before .before .loop .i in
-    (omega arith, simp length-set (c .before .before .loop .inv .1), rw (c .before .before .loop .inv .2) (rw zero-add at (over-more d 0 s i (omega arith) (omega arith))))
+    let i = c .before .before .loop .i in (
+      omega arith,
+      simp length-set (c .before .before .loop .inv .1),
+      rw (c .before .before .loop .inv .2) (rw zero-add at (over-more d 0 s i (omega arith) (omega arith))),
+    )
 
 same-length : tie.Need-same-length Inv-loop μ-loop
 same-length c = search needs
@@ -50,15 +53,5 @@ returns c =
 
 pub copy-in-spec : {M : Type 1} → statement M
 copy-in-spec =
-    tie.close
-    (tie.spec
-    Inv-loop
-    μ-loop
-    loop-holds
-    shared-slice-read-dst
-    slice-write-dst
-    add-i
-    loop-less
-    loop-again
-    same-length
-    returns)
+    tie.close (tie.spec Inv-loop μ-loop loop-holds shared-slice-read-dst slice-write-dst add-i loop-less loop-again
+    same-length returns)

@@ -1,4 +1,5 @@
--- The loop's invariant: the bytes passed so far stand at `to`. What is read next was not written yet, since `to` is no higher than `from`.
+-- The loop's invariant: the bytes passed so far stand at `to`. What is read next was not written yet, since `to` is no
+-- higher than `from`.
 use Prim.Native.Nat.{_≤_, _+_, _-_}
 use mathlib.Core.Path.{_≡_, refl, sym, _∙_}
 use lib.ListN.{length, getD, take, drop, length-set, length-drop}
@@ -11,13 +12,15 @@ use Rattle.octets.proofs.move_down.Statement.{statement}
 use Rattle.octets.proofs.move_down.Tie as tie
 
 abbrev Inv-loop : tie.InvT-loop
-Inv-loop bytes₀ from to count i₀ bytes i = (i ≤ count) × (length bytes ≡ length bytes₀) × (bytes ≡ over bytes₀ to (take i (drop from bytes₀)))
+Inv-loop bytes₀ from to count i₀ bytes i = (i ≤ count) × (length bytes ≡ length bytes₀)
+    × (bytes ≡ over bytes₀ to (take i (drop from bytes₀)))
 
 abbrev μ-loop : tie.MeasureT-loop
 μ-loop bytes₀ from to count i₀ bytes i = count - i
 
 loop-holds : tie.Need-loop-holds Inv-loop μ-loop
-loop-holds c = let a = c .args in (omega arith, refl, over-none (a .bytes .now) (a .to) (drop (a .from) (a .bytes .now)))
+loop-holds c = let a = c .args in
+    (omega arith, refl, over-none (a .bytes .now) (a .to) (drop (a .from) (a .bytes .now)))
 
 add-bytes : tie.Need-add-bytes Inv-loop μ-loop
 add-bytes c = omega arith
@@ -46,8 +49,11 @@ loop-again c =
     let n : length run ≡ length l - p .from = length-drop (p .from) l in
     let k : length (take i run) ≡ i = length-take-le i run (omega arith) in
     let g : getD (over l (p .to) (take i run)) (p .from + i) 0 ≡ getD run i 0 =
-    over-past l (p .to) (take i run) (omega arith) (p .from + i) (omega arith) ∙ sym (getD-drop (p .from) l i 0) in
-    (omega arith, simp length-set (c .before .before .loop .inv .1), rw (c .before .before .loop .inv .2, g) (over-more l (p .to) run i (omega arith) (omega arith)))
+    over-past l (p .to) (take i run) (omega arith) (p .from + i) (omega arith) ∙ sym (getD-drop (p .from) l i 0) in (
+      omega arith,
+      simp length-set (c .before .before .loop .inv .1),
+      rw (c .before .before .loop .inv .2, g) (over-more l (p .to) run i (omega arith) (omega arith)),
+    )
 
 same-length : tie.Need-same-length Inv-loop μ-loop
 same-length c = search needs
@@ -59,17 +65,5 @@ returns c =
 
 pub move-down-spec : {M : Type 1} → statement M
 move-down-spec =
-    tie.close
-    (tie.spec
-    Inv-loop
-    μ-loop
-    loop-holds
-    add-bytes
-    slice-read-bytes
-    add-bytes-2
-    slice-write-bytes
-    add-i
-    loop-less
-    loop-again
-    same-length
-    returns)
+    tie.close (tie.spec Inv-loop μ-loop loop-holds add-bytes slice-read-bytes add-bytes-2 slice-write-bytes add-i
+    loop-less loop-again same-length returns)

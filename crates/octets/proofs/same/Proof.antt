@@ -58,20 +58,11 @@ returns-2 c =
     let b = c .before .before .before .args .b .now in
     let e : c .before .loop .i ≡ length a = omega arith in
     let f : c .before .loop .i ≡ length b = omega arith in
-    let z : equal (drop (c .before .loop .i) a) (drop (c .before .loop .i) b) ≡ true = cc (drop-length a, drop-length b) in
+    let z : equal (drop (c .before .loop .i) a) (drop (c .before .loop .i) b) ≡ true =
+    cc (drop-length a, drop-length b) in
     sym (both-true (c .before .loop .alike) z) ∙ c .before .loop .inv .1
 
 pub same-spec : {M : Type 1} → statement M
 same-spec =
-    tie.close
-    (tie.spec
-    Inv-loop
-    μ-loop
-    returns
-    loop-holds
-    shared-slice-read-if2
-    shared-slice-read-if2-2
-    add-i
-    loop-less
-    loop-again
-    returns-2)
+    tie.close (tie.spec Inv-loop μ-loop returns loop-holds shared-slice-read-if2 shared-slice-read-if2-2 add-i loop-less
+    loop-again returns-2)

@@ -19,11 +19,23 @@ abbrev μ-loop : tie.MeasureT-loop
 μ-loop marks total₀ at₀ total at = length marks - at
 
 -- a block adds at most 1 for each of its marks
-small : (c : tie.After-sum-block Inv-loop μ-loop) → c .sum-block .result ≤ c .before .before .block-end .result - c .before .before .before .before .loop .at
+small : (c : tie.After-sum-block Inv-loop μ-loop) → c .sum-block .result ≤ c .before .before .block-end .result -
+    c .before .before .before .before .loop .at
 small c =
     let k = c .before .before .before .before in
     let l = k .before .before .args .marks .now in
-    omega (arith, sum-bound (part l (k .loop .at) (c .before .before .block-end .result - k .loop .at)) (omega (arith, largest-part l (k .loop .at) (c .before .before .block-end .result - k .loop .at), k .before .before .pre .0)), part-length l (k .loop .at) (c .before .before .block-end .result - k .loop .at) (omega arith), c .sum-block .ensures)
+    omega (
+      arith,
+      sum-bound (part l (k .loop .at) (c .before .before .block-end .result - k .loop .at))
+          (omega (
+            arith,
+            largest-part l (k .loop .at) (c .before .before .block-end .result - k .loop .at),
+            k .before .before .pre .0,
+          )),
+      part-length l (k .loop .at) (c .before .before .block-end .result - k .loop .at)
+          (omega arith),
+      c .sum-block .ensures,
+    )
 
 loop-holds : tie.Need-loop-holds Inv-loop μ-loop
 loop-holds c = omega arith
@@ -44,8 +56,10 @@ sum-block-requires : tie.Need-sum-block-requires Inv-loop μ-loop
 sum-block-requires c κs =
     let k = c .before .before .before in
     let l = k .before .before .args .marks .now in
-    let n = c .before .block-end .result - k .loop .at in
-    (omega (arith, largest-part l (k .loop .at) n, k .before .before .pre .0), omega (arith, part-length l (k .loop .at) n (omega arith)))
+    let n = c .before .block-end .result - k .loop .at in (
+      omega (arith, largest-part l (k .loop .at) n, k .before .before .pre .0),
+      omega (arith, part-length l (k .loop .at) n (omega arith)),
+    )
 
 cast-total : tie.Need-cast-total Inv-loop μ-loop
 cast-total c = search needs
@@ -62,8 +76,10 @@ loop-again c =
     let l = k .before .before .args .marks .now in
     let e = c .before .before .block-end .result in
     let there : k .loop .at + (e - k .loop .at) ≡ e = omega arith in
-    let rest : drop (e - k .loop .at) (drop (k .loop .at) l) ≡ drop e l = rw (drop-drop (e - k .loop .at) (k .loop .at) l, there) refl in
-    let more : sumOf (drop (k .loop .at) l) ≡ sumOf (take (e - k .loop .at) (drop (k .loop .at) l)) + sumOf (drop e l) = rw (← rest) (sum-split (drop (k .loop .at) l) (e - k .loop .at)) in
+    let rest : drop (e - k .loop .at) (drop (k .loop .at) l) ≡ drop e l =
+    rw (drop-drop (e - k .loop .at) (k .loop .at) l, there) refl in
+    let more : sumOf (drop (k .loop .at) l) ≡ sumOf (take (e - k .loop .at) (drop (k .loop .at) l)) + sumOf (drop e l) =
+    rw (← rest) (sum-split (drop (k .loop .at) l) (e - k .loop .at)) in
     omega (arith, more, c .sum-block .ensures, small c)
 
 returns : tie.Need-returns Inv-loop μ-loop
@@ -75,18 +91,5 @@ returns c =
 
 pub sum-spec : {M : Type 1} → statement M
 sum-spec =
-    tie.close
-    (tie.spec
-    Inv-loop
-    μ-loop
-    loop-holds
-    block-end-requires
-    sub-sum-block
-    part-sum-block-start
-    part-sum-block-end
-    sum-block-requires
-    cast-total
-    add-total
-    loop-less
-    loop-again
-    returns)
+    tie.close (tie.spec Inv-loop μ-loop loop-holds block-end-requires sub-sum-block part-sum-block-start
+    part-sum-block-end sum-block-requires cast-total add-total loop-less loop-again returns)

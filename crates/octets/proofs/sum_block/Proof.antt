@@ -49,14 +49,4 @@ returns c =
 
 pub sum-block-spec : {M : Type 1} → statement M
 sum-block-spec =
-    tie.close
-    (tie.spec
-    Inv-loop
-    μ-loop
-    loop-holds
-    shared-slice-read-total
-    add-total
-    add-i
-    loop-less
-    loop-again
-    returns)
+    tie.close (tie.spec Inv-loop μ-loop loop-holds shared-slice-read-total add-total add-i loop-less loop-again returns)

@@ -1,4 +1,5 @@
--- Laws of bytes compared, and of what marks add up to. "Each mark is at most 1" is `largestOf l ≤ 1`, as the code asks it.
+-- Laws of bytes compared, and of what marks add up to. "Each mark is at most 1" is `largestOf l ≤ 1`, as the code asks
+-- it.
 use Prim.Native.Nat.{ℕ, zero, suc, _+_, _≤_, _<_, max}
 use mathlib.Core.Path.{_≡_, refl, sym, ap, _∙_}
 use mathlib.Core.Bool.{true, false}
@@ -27,7 +28,8 @@ equal-is (a ∷ l) (b ∷ m) e = go (ℕ-discrete a b) (equal-is l m)
   where
     go : Dec (a ≡ b) → (equal l m ≡ true → l ≡ m) → a ∷ l ≡ b ∷ m
     go (yes p) rest = let r : l ≡ m = rest (rw (eq-eqb a b p) at e) in cc
-    go (no p) rest = let f : false ≡ true = rw (ne-eqb a b p) at e in let z : _≡_ {A = ℕ} 0 1 = cc in absurd (omega arith)
+    go (no p) rest = let f : false ≡ true = rw (ne-eqb a b p) at e in let z : _≡_ {A = ℕ} 0 1 = cc in
+        absurd (omega arith)
 
 -- `same` answers true exactly for equal lists
 pub equal-exactly : (l m : List ℕ) → (equal l m ≡ true) ↔ (l ≡ m)
@@ -102,7 +104,8 @@ sum-one l j h e = (there, back)
       where
         go : Dec (i ≡ j) → i ≡ j
         go (yes p) = p
-        go (no p) = absurd (omega (arith, g, getD-set-other l j i 0 0 p, sum-none (set l j 0) .0 (omega (arith, rest)) i))
+        go (no p) = absurd
+            (omega (arith, g, getD-set-other l j i 0 0 p, sum-none (set l j 0) .0 (omega (arith, rest)) i))
 
     back : ((i : ℕ) → 0 < getD l i 0 → i ≡ j) → sumOf l ≡ 1
     back f = omega (arith, rest, sum-none (set l j 0) .1 (λ i. none i (ℕ-discrete i j)))
@@ -137,7 +140,8 @@ largest-append (b ∷ l) m = omega (arith, largest-append l m)
 
 pub largest-part : (l : List ℕ) (a k : ℕ) → largestOf (part l a k) ≤ largestOf l
 largest-part l a k =
-    let d : largestOf (drop a l) ≤ largestOf l = omega (arith, largest-append (take a l) (drop a l), ap largestOf (take-append-drop a l)) in
+    let d : largestOf (drop a l) ≤ largestOf l =
+    omega (arith, largest-append (take a l) (drop a l), ap largestOf (take-append-drop a l)) in
     omega (arith, largest-append (part l a k) (drop k (drop a l)), ap largestOf (take-append-drop k (drop a l)))
 
 pub largest-set : (l : List ℕ) (i v b : ℕ) → largestOf l ≤ b → v ≤ b → largestOf (set l i v) ≤ b

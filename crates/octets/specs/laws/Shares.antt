@@ -40,7 +40,8 @@ module _ (w i j v : ℕ) (l : List ℕ) (h : j < w) (inside : i * w + w ≤ leng
 
   pub share-set : share w i (set l (i * w + j) v) ≡ set (share w i l) j v
   share-set =
-      rw one (share-over w i j l (v ∷ []) (omega arith) inside ∙ sym (over-one (share w i l) j v (rw (part-length l (i * w) w inside) h)))
+      rw one (share-over w i j l (v ∷ []) (omega arith) inside
+      ∙ sym (over-one (share w i l) j v (rw (part-length l (i * w) w inside) h)))
 
   pub share-set-other : (k : ℕ) → i ≢ k → share w k (set l (i * w + j) v) ≡ share w k l
   share-set-other k d = rw one (share-other w i j l (v ∷ []) (omega arith) inside k d)

@@ -25,7 +25,8 @@ add-copy-in c =
     let a = c .before .before .before .before .before .before .before .before .args in
     let moved : List ℕ = c .before .before .before .settle .last .1 .1 .0 in
     let kept : length moved ≡ length (a .share .now) = c .before .before .before .settle .kept .1 .1 .0 in
-    let lies = place-lies (a .last) (length moved) (a .new .size) (a .number) (length (a .bytes .now)) (omega (arith, c .before .before .before .before .before .before .before .before .pre .1 .inside, kept)) in
+    let lies = place-lies (a .last) (length moved) (a .new .size) (a .number) (length (a .bytes .now))
+    (omega (arith, c .before .before .before .before .before .before .before .before .pre .1 .inside, kept)) in
     omega (arith, c .place-of .ensures, lies, kept)
 
 sub-copy-in : tie.Need-sub-copy-in
@@ -39,7 +40,8 @@ part-copy-in-end c =
     let a = c .before .before .before .before .before .before .before .before .args in
     let moved : List ℕ = c .before .before .before .settle .last .1 .1 .0 in
     let kept : length moved ≡ length (a .share .now) = c .before .before .before .settle .kept .1 .1 .0 in
-    let lies = place-lies (a .last) (length moved) (a .new .size) (a .number) (length (a .bytes .now)) (omega (arith, c .before .before .before .before .before .before .before .before .pre .1 .inside, kept)) in
+    let lies = place-lies (a .last) (length moved) (a .new .size) (a .number) (length (a .bytes .now))
+    (omega (arith, c .before .before .before .before .before .before .before .before .pre .1 .inside, kept)) in
     omega (arith, c .place-of .ensures, lies, kept)
 
 copy-in-requires : tie.Need-copy-in-requires
@@ -59,27 +61,21 @@ unfolding put settled
 returns c =
     let a = c .before .before .before .before .before .before .before .before .before .before .before .before .args in
     let moved : List ℕ = c .before .before .before .before .before .before .before .settle .last .1 .1 .0 in
-    let kept : length moved ≡ length (a .share .now) = c .before .before .before .before .before .before .before .settle .kept .1 .1 .0 in
+    let kept : length moved ≡ length (a .share .now) =
+    c .before .before .before .before .before .before .before .settle .kept .1 .1 .0 in
     let lies = place-lies (a .last) (length moved) (a .new .size) (a .number) (length (a .bytes .now)) (omega (arith, c .before .before .before .before .before .before .before .before .before .before .before .before .pre .1 .inside, kept)) in
     let at = c .before .before .before .before .place-of .result in
     let count = length (a .bytes .now) in
-    let fits : at + (at + count - at) ≤ length moved = omega (arith, c .before .before .before .before .place-of .ensures, lies) in
-    let share = ap (putMid at (at + count - at) moved) (c .before .before .copy-in .ensures) ∙ over-start moved at (at + count - at) (a .bytes .now) (omega arith) fits ∙ ap (λ (p : ℕ). over moved p (a .bytes .now)) (c .before .before .before .before .place-of .ensures) in
-    let laid = ap (λ (l : List ℕ). over l (placeOf (a .last) (a .new .size) (length l) (a .number) count) (a .bytes .now)) (c .before .before .before .before .before .before .before .settle .ensures) in
+    let fits : at + (at + count - at) ≤ length moved =
+    omega (arith, c .before .before .before .before .place-of .ensures, lies) in
+    let share = ap (putMid at (at + count - at) moved) (c .before .before .copy-in .ensures)
+    ∙ over-start moved at (at + count - at) (a .bytes .now) (omega arith) fits
+    ∙ ap (λ (p : ℕ). over moved p (a .bytes .now)) (c .before .before .before .before .place-of .ensures) in
+    let laid = ap (λ (l : List ℕ). over l (placeOf (a .last) (a .new .size) (length l) (a .number) count)
+    (a .bytes .now)) (c .before .before .before .before .before .before .before .settle .ensures) in
     ap (λ (l : List ℕ). record { kept = a .new; marks = set (a .marks .now) (a .number) 1; share = l }) (share ∙ laid)
 
 pub put-spec : {M : Type 1} → statement M
 put-spec =
-    tie.close
-    (tie.spec
-    settle-requires
-    place-of-requires
-    add-copy-in
-    sub-copy-in
-    part-copy-in-start
-    part-copy-in-end
-    copy-in-requires
-    slice-write-marks
-    same-length
-    same-length-2
-    returns)
+    tie.close (tie.spec settle-requires place-of-requires add-copy-in sub-copy-in part-copy-in-start part-copy-in-end
+    copy-in-requires slice-write-marks same-length same-length-2 returns)

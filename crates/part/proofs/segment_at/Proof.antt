@@ -29,8 +29,10 @@ add-result c =
     let a = c .before .before .before .before .args in
     let last = eqb (suc (a .number)) (a .kept .end) in
     let count : c .before .length-of .result ≡ lengthOf last (a .kept) = cc in
-    let place : c .place-of .result ≡ placeOf last (a .kept .size) (length (a .share .now)) (a .number) (lengthOf last (a .kept)) = cc in
-    let lies = place-lies last (length (a .share .now)) (a .kept .size) (a .number) (lengthOf last (a .kept)) (c .before .before .before .before .pre) in
+    let place : c .place-of .result ≡ placeOf last (a .kept .size) (length (a .share .now)) (a .number)
+    (lengthOf last (a .kept)) = cc in
+    let lies = place-lies last (length (a .share .now)) (a .kept .size) (a .number) (lengthOf last (a .kept))
+    (c .before .before .before .before .pre) in
     omega (arith, count, place, lies)
 
 sub-result : tie.Need-sub-result
@@ -44,8 +46,10 @@ part-result-end c =
     let a = c .before .before .before .before .args in
     let last = eqb (suc (a .number)) (a .kept .end) in
     let count : c .before .length-of .result ≡ lengthOf last (a .kept) = cc in
-    let place : c .place-of .result ≡ placeOf last (a .kept .size) (length (a .share .now)) (a .number) (lengthOf last (a .kept)) = cc in
-    let lies = place-lies last (length (a .share .now)) (a .kept .size) (a .number) (lengthOf last (a .kept)) (c .before .before .before .before .pre) in
+    let place : c .place-of .result ≡ placeOf last (a .kept .size) (length (a .share .now)) (a .number)
+    (lengthOf last (a .kept)) = cc in
+    let lies = place-lies last (length (a .share .now)) (a .kept .size) (a .number) (lengthOf last (a .kept))
+    (c .before .before .before .before .pre) in
     omega (arith, count, place, lies)
 
 returns : tie.Need-returns
@@ -54,20 +58,13 @@ returns c =
     let a = c .before .before .before .before .before .args in
     let last = eqb (suc (a .number)) (a .kept .end) in
     let count : c .before .before .length-of .result ≡ lengthOf last (a .kept) = cc in
-    let place : c .before .place-of .result ≡ placeOf last (a .kept .size) (length (a .share .now)) (a .number) (lengthOf last (a .kept)) = cc in
+    let place : c .before .place-of .result ≡ placeOf last (a .kept .size) (length (a .share .now)) (a .number)
+    (lengthOf last (a .kept)) = cc in
     let at = c .before .place-of .result in
     let long : at + c .before .before .length-of .result - at ≡ lengthOf last (a .kept) = omega (arith, count) in
     ap₂ (λ (n p : ℕ). take n (drop p (a .share .now))) long place
 
 pub segment-at-spec : {M : Type 1} → statement M
 segment-at-spec =
-    tie.close
-    (tie.spec
-    is-last-requires
-    length-of-requires
-    place-of-requires
-    add-result
-    sub-result
-    part-result-start
-    part-result-end
-    returns)
+    tie.close (tie.spec is-last-requires length-of-requires place-of-requires add-result sub-result part-result-start
+    part-result-end returns)

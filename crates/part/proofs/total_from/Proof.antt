@@ -24,15 +24,27 @@ sum-requires c κs =
     (omega (arith, largest-part l 0 (s .args .from), s .pre .3), simp length-take (omega (arith, s .pre .2)))
 
 -- what is before the number
-head : (c : tie.After-sum) → let a = c .before .before .before .before .args in c .sum .result ≡ sumOf (take (a .from) (a .marks .now))
+head : (c : tie.After-sum) → let a = c .before .before .before .before .args in c .sum .result
+    ≡ sumOf (take (a .from) (a .marks .now))
 head c =
     c .sum .ensures
 
 sub-result : tie.Need-sub-result
-sub-result c = omega (arith, c .before .before .before .before .pre .0, head c, sum-split (c .before .before .before .before .args .marks .now) (c .before .before .before .before .args .from))
+sub-result c =
+    omega (
+      arith,
+      c .before .before .before .before .pre .0,
+      head c,
+      sum-split (c .before .before .before .before .args .marks .now) (c .before .before .before .before .args .from),
+    )
 
 returns : tie.Need-returns
-returns c = omega (arith, c .before .before .before .before .pre .0, head c, sum-split (c .before .before .before .before .args .marks .now) (c .before .before .before .before .args .from))
+returns c = omega (
+  arith,
+  c .before .before .before .before .pre .0,
+  head c,
+  sum-split (c .before .before .before .before .args .marks .now) (c .before .before .before .before .args .from),
+)
 
 sub-sum : tie.Need-sub-sum
 sub-sum c = search needs
@@ -47,8 +59,10 @@ sum-requires-2 : tie.Need-sum-requires-2
 sum-requires-2 c κs =
     let s = c .before .before .before in
     let l = s .args .marks .now in
-    let k = length l - s .args .from in
-    (omega (arith, largest-part l (s .args .from) k, s .pre .3), simp (length-take, length-drop) (omega (arith, s .pre .2)))
+    let k = length l - s .args .from in (
+      omega (arith, largest-part l (s .args .from) k, s .pre .3),
+      simp (length-take, length-drop) (omega (arith, s .pre .2)),
+    )
 
 returns-2 : tie.Need-returns-2
 returns-2 c =
@@ -59,15 +73,5 @@ returns-2 c =
 
 pub total-from-spec : {M : Type 1} → statement M
 total-from-spec =
-    tie.close
-    (tie.spec
-    sub-if1
-    slice-aggregate-sum
-    sum-requires
-    sub-result
-    returns
-    sub-sum
-    part-sum-start
-    part-sum-end
-    sum-requires-2
-    returns-2)
+    tie.close (tie.spec sub-if1 slice-aggregate-sum sum-requires sub-result returns sub-sum part-sum-start part-sum-end
+    sum-requires-2 returns-2)

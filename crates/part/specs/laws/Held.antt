@@ -69,19 +69,24 @@ held-reads m = from-reads m 0 (m .marks)
 
 pub held-numbered : (m : Memory) (n : ℕ) → (0 < getD (m .marks) n 0) ↔ Numbered n (heldIn m)
 unfolding heldIn
-held-numbered m n = ((λ h. rw from-zero at (marked-numbered m 0 n (m .marks) h)), (λ h. numbered-marked m 0 n (m .marks) (rw from-zero h)))
+held-numbered m n = (
+  (λ h. rw from-zero at (marked-numbered m 0 n (m .marks) h)),
+  (λ h. numbered-marked m 0 n (m .marks) (rw from-zero h)),
+)
 
 pub held-marked : (m : Memory) → Each (λ x. x ≤ 1) (m .marks) → Marked (m .marks) (heldIn m)
 held-marked m b = record { bits = b; marked = held-numbered m }
 
 -- ---- any two lists that read so, of the same numbers
 
-reads-into : (m : Memory) (ss ts : List Segment) → Reads m ss → Reads m ts → Marked (m .marks) ss → Marked (m .marks) ts → (s : Segment) → Among s ss → Among s ts
+reads-into : (m : Memory) (ss ts : List Segment) → Reads m ss → Reads m ts → Marked (m .marks) ss → Marked (m .marks) ts
+    → (s : Segment) → Among s ss → Among s ts
 reads-into m ss ts a b h k s i =
     let e : segmentAt m (s .number) ≡ s = each-among (λ x. segmentAt m (x .number) ≡ x) s ss a i in
     rw e at (at-among m (s .number) ts b (k .marked (s .number) .0 (h .marked (s .number) .1 (among-numbered s ss i))))
 
-pub reads-same : (m : Memory) (ss ts : List Segment) → Reads m ss → Reads m ts → Marked (m .marks) ss → Marked (m .marks) ts → SameSet ss ts
+pub reads-same : (m : Memory) (ss ts : List Segment) → Reads m ss → Reads m ts → Marked (m .marks) ss
+    → Marked (m .marks) ts → SameSet ss ts
 reads-same m ss ts a b h k = record { there = reads-into m ss ts a b h k; back = reads-into m ts ss b a k h }
 
 read-same : (m : Memory) (s t : Segment) → segmentAt m (s .number) ≡ s → segmentAt m (t .number) ≡ t → Same s t

@@ -13,7 +13,8 @@ use Rattle.part.specs.Memory.{Memory, placeOf}
 
 -- a segment's bytes are laid in their place in the share, under a size
 abbrev pub LaidAs : Bool → ℕ → List ℕ → ℕ → List ℕ → Type 0
-LaidAs last size share n bytes = take (length bytes) (drop (placeOf last size (length share) n (length bytes)) share) ≡ bytes
+LaidAs last size share n bytes = take (length bytes) (drop (placeOf last size (length share) n (length bytes)) share)
+    ≡ bytes
 
 unfoldable pub Laid : ℕ → List ℕ → Segment → Type 0
 Laid size share s = LaidAs (s .last) size share (s .number) (s .bytes)

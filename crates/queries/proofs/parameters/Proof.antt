@@ -41,13 +41,5 @@ returns-2 c =
 
 pub parameters-spec : {M : Type 1} → statement M
 parameters-spec =
-    tie.close
-    (tie.spec
-    locate-requires
-    enum-known-why
-    enum-known-i
-    shown-at-requires
-    read-requires
-    asked-as-requires
-    returns
-    returns-2)
+    tie.close (tie.spec locate-requires enum-known-why enum-known-i shown-at-requires read-requires asked-as-requires
+    returns returns-2)

@@ -24,9 +24,13 @@ slice-aggregate-decide c = search needs
 
 decide-requires : tie.Need-decide-requires
 decide-requires c κs =
-    let s : Segment = segment (c .before .before .before .before .args .number) (c .before .before .before .before .args .last) (c .before .before .before .before .args .bytes .now) in
-    let lent : Lent = shares (c .before .before .before .before .args .bytes .now) (c .before .before .before .before .args .bytes .now) (zeros slotMarks) in
-    rw (c .before .fresh-slot .ensures, c .before .before .no-marks .ensures) (fresh-readable (c .before .before .before .before .args .part) (c .before .before .before .before .args .limit) 0 s lent (zeros-sum slotMarks) (zeros-long slotMarks))
+    let s : Segment = segment (c .before .before .before .before .args .number)
+    (c .before .before .before .before .args .last) (c .before .before .before .before .args .bytes .now) in
+    let lent : Lent = shares (c .before .before .before .before .args .bytes .now)
+    (c .before .before .before .before .args .bytes .now) (zeros slotMarks) in
+    rw (c .before .fresh-slot .ensures, c .before .before .no-marks .ensures)
+    (fresh-readable (c .before .before .before .before .args .part) (c .before .before .before .before .args .limit)
+    0 s lent (zeros-sum slotMarks) (zeros-long slotMarks))
 
 enum-told : tie.Need-enum-told
 enum-told c = search needs
@@ -39,36 +43,53 @@ enum-told-3 c = search needs
 
 returns : tie.Need-returns
 returns c =
-    let s : Segment = segment (c .before .before .before .before .before .before .before .args .number) (c .before .before .before .before .before .before .before .args .last) (c .before .before .before .before .before .before .before .args .bytes .now) in
-    let lent : Lent = shares (c .before .before .before .before .before .before .before .args .bytes .now) (c .before .before .before .before .before .before .before .args .bytes .now) (zeros slotMarks) in
-    let decided = rw (c .before .before .before .before .fresh-slot .ensures, c .before .before .before .before .before .no-marks .ensures) at (c .before .before .decide .ensures) in
-    ap isFits (sym (c .enum-told .given .1) ∙ decided) ∙ fresh-decided (c .before .before .before .before .before .before .before .args .part) (c .before .before .before .before .before .before .before .args .limit) 0 s lent (zeros-sum slotMarks)
+    let s : Segment = segment (c .before .before .before .before .before .before .before .args .number)
+    (c .before .before .before .before .before .before .before .args .last)
+    (c .before .before .before .before .before .before .before .args .bytes .now) in
+    let lent : Lent = shares (c .before .before .before .before .before .before .before .args .bytes .now)
+    (c .before .before .before .before .before .before .before .args .bytes .now) (zeros slotMarks) in
+    let decided =
+    rw (
+      c .before .before .before .before .fresh-slot .ensures,
+      c .before .before .before .before .before .no-marks .ensures,
+    ) at (c .before .before .decide .ensures) in
+    ap isFits (sym (c .enum-told .given .1) ∙ decided)
+    ∙ fresh-decided (c .before .before .before .before .before .before .before .args .part)
+    (c .before .before .before .before .before .before .before .args .limit) 0 s lent (zeros-sum slotMarks)
 
 returns-2 : tie.Need-returns-2
 returns-2 c =
-    let s : Segment = segment (c .before .before .before .before .before .before .before .args .number) (c .before .before .before .before .before .before .before .args .last) (c .before .before .before .before .before .before .before .args .bytes .now) in
-    let lent : Lent = shares (c .before .before .before .before .before .before .before .args .bytes .now) (c .before .before .before .before .before .before .before .args .bytes .now) (zeros slotMarks) in
-    let decided = rw (c .before .before .before .before .fresh-slot .ensures, c .before .before .before .before .before .no-marks .ensures) at (c .before .before .decide .ensures) in
-    ap isFits (sym (c .enum-told2 .given .1) ∙ decided) ∙ fresh-decided (c .before .before .before .before .before .before .before .args .part) (c .before .before .before .before .before .before .before .args .limit) 0 s lent (zeros-sum slotMarks)
+    let s : Segment = segment (c .before .before .before .before .before .before .before .args .number)
+    (c .before .before .before .before .before .before .before .args .last)
+    (c .before .before .before .before .before .before .before .args .bytes .now) in
+    let lent : Lent = shares (c .before .before .before .before .before .before .before .args .bytes .now)
+    (c .before .before .before .before .before .before .before .args .bytes .now) (zeros slotMarks) in
+    let decided =
+    rw (
+      c .before .before .before .before .fresh-slot .ensures,
+      c .before .before .before .before .before .no-marks .ensures,
+    ) at (c .before .before .decide .ensures) in
+    ap isFits (sym (c .enum-told2 .given .1) ∙ decided)
+    ∙ fresh-decided (c .before .before .before .before .before .before .before .args .part)
+    (c .before .before .before .before .before .before .before .args .limit) 0 s lent (zeros-sum slotMarks)
 
 returns-3 : tie.Need-returns-3
 returns-3 c =
-    let s : Segment = segment (c .before .before .before .before .before .before .before .args .number) (c .before .before .before .before .before .before .before .args .last) (c .before .before .before .before .before .before .before .args .bytes .now) in
-    let lent : Lent = shares (c .before .before .before .before .before .before .before .args .bytes .now) (c .before .before .before .before .before .before .before .args .bytes .now) (zeros slotMarks) in
-    let decided = rw (c .before .before .before .before .fresh-slot .ensures, c .before .before .before .before .before .no-marks .ensures) at (c .before .before .decide .ensures) in
-    ap isFits (sym (c .enum-told3 .given .1) ∙ decided) ∙ fresh-decided (c .before .before .before .before .before .before .before .args .part) (c .before .before .before .before .before .before .before .args .limit) 0 s lent (zeros-sum slotMarks)
+    let s : Segment = segment (c .before .before .before .before .before .before .before .args .number)
+    (c .before .before .before .before .before .before .before .args .last)
+    (c .before .before .before .before .before .before .before .args .bytes .now) in
+    let lent : Lent = shares (c .before .before .before .before .before .before .before .args .bytes .now)
+    (c .before .before .before .before .before .before .before .args .bytes .now) (zeros slotMarks) in
+    let decided =
+    rw (
+      c .before .before .before .before .fresh-slot .ensures,
+      c .before .before .before .before .before .no-marks .ensures,
+    ) at (c .before .before .decide .ensures) in
+    ap isFits (sym (c .enum-told3 .given .1) ∙ decided)
+    ∙ fresh-decided (c .before .before .before .before .before .before .before .args .part)
+    (c .before .before .before .before .before .before .before .args .limit) 0 s lent (zeros-sum slotMarks)
 
 pub fits-alone-spec : {M : Type 1} → statement M
 fits-alone-spec =
-    tie.close
-    (tie.spec
-    no-marks-requires
-    fresh-slot-requires
-    slice-aggregate-decide
-    decide-requires
-    enum-told
-    enum-told-2
-    enum-told-3
-    returns
-    returns-2
-    returns-3)
+    tie.close (tie.spec no-marks-requires fresh-slot-requires slice-aggregate-decide decide-requires enum-told
+    enum-told-2 enum-told-3 returns returns-2 returns-3)

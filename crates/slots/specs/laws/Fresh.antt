@@ -65,7 +65,8 @@ module _ (limit number : ℕ) (lent : Lent) (none : sumOf (lent .marks) ≡ 0) w
   unfolding soundParts soundPart recordRight possibleIn Decision.alone coreFits boundsOf stageOf partsOf freshSlot
   fresh-sound = rw (fresh-core, header-none, body-none, le-leb 0 limit (omega arith)) refl
 
-pub fresh-offered : (limit i number : ℕ) (stores : Stores) → OpenAt limit i stores → Offered limit (freshSlot number) (lentAt limit i stores)
+pub fresh-offered : (limit i number : ℕ) (stores : Stores) → OpenAt limit i stores
+    → Offered limit (freshSlot number) (lentAt limit i stores)
 unfolding freshSlot
 fresh-offered limit i number stores opened =
     let wide = lent-wide limit i stores (opened .inside) in
@@ -88,11 +89,14 @@ module _ (b : Bounds) (p : Record) (marks : List ℕ) (none : sumOf marks ≡ 0)
   fits-none : (last : Bool) (n k : ℕ) → fitsIn b p marks last n k ≡ fitsIn b p [] last n k
   unfolding fitsIn
   fits-none true n k = rw none refl
-  fits-none false n k = rw (none, rest-none (room b (addPart false n k p)) marks none, rest-none (room b (addPart false n k p)) [] refl) refl
+  fits-none false n k =
+      rw (none, rest-none (room b (addPart false n k p)) marks none, rest-none (room b (addPart false n k p)) [] refl)
+      refl
 
 -- the decision where nothing is in yet
 abbrev alone : Part → ℕ → Segment → Bool
-alone part limit s = takes part limit (coreWith part s Unseen) noRecord [] noRecord [] (s .last) (s .number) (length (s .bytes))
+alone part limit s = takes part limit (coreWith part s Unseen) noRecord [] noRecord [] (s .last) (s .number)
+    (length (s .bytes))
 
 module _ (part : Part) (limit number : ℕ) (s : Segment) (lent : Lent) (none : sumOf (lent .marks) ≡ 0) where
   marks-none : (p : Part) → sumOf (marksOf p (lent .marks)) ≡ 0
@@ -113,24 +117,35 @@ module _ (part : Part) (limit number : ℕ) (s : Segment) (lent : Lent) (none : 
         memory-is (otherPart part) (freshSlot number) lent,
         kept-none part,
         kept-none (otherPart part),
-        fits-none (boundsOf part limit (coreWith part s Unseen)) noRecord (marksOf part (lent .marks)) (marks-none part) (s .last) (s .number) (length (s .bytes)),
-        possible-none (boundsOf (otherPart part) limit (coreWith part s Unseen)) noRecord (marksOf (otherPart part) (lent .marks)) (marks-none (otherPart part)),
+        fits-none (boundsOf part limit (coreWith part s Unseen)) noRecord (marksOf part (lent .marks)) (marks-none part)
+            (s .last) (s .number) (length (s .bytes)),
+        possible-none (boundsOf (otherPart part) limit (coreWith part s Unseen)) noRecord
+            (marksOf (otherPart part) (lent .marks)) (marks-none (otherPart part)),
       )
 
   unmarked : getD (memoryOf part (partsOf (freshSlot number) lent) .marks) (s .number) 0 ≡ 0
-  unmarked = rw (memory-is part (freshSlot number) lent) (sum-none (marksOf part (lent .marks)) .0 (marks-none part) (s .number))
+  unmarked = rw (memory-is part (freshSlot number) lent)
+      (sum-none (marksOf part (lent .marks)) .0 (marks-none part) (s .number))
 
   fresh-alone : isFits (decided part limit s (partsOf (freshSlot number) lent)) ≡ alone part limit s
   unfolding decided
-  fresh-alone = rw unmarked (new-fits (takesIn part limit s (partsOf (freshSlot number) lent)) (coreWith part s (coreIn (partsOf (freshSlot number) lent .header))) ∙ fresh-fits)
+  fresh-alone =
+      rw unmarked (new-fits (takesIn part limit s (partsOf (freshSlot number) lent))
+      (coreWith part s (coreIn (partsOf (freshSlot number) lent .header))) ∙ fresh-fits)
     where
       new-fits : (fits : Bool) (core : Core) → isFits (decidedNew fits core) ≡ fits
       new-fits true core = refl
       new-fits false core = refl
 
   -- nothing is in yet, so the tally is this, and there is no segment to read
-  pub fresh-readable : length (lent .marks) ≡ headerNumbers + bodyNumbers → Readable (record { core = Unseen; headers = 0; bodies = 0 }) part (s .number) (freshSlot number) lent
-  fresh-readable h = record { marks = h; bits = omega (arith, largest-sum (lent .marks), none); tallied = tallied; held = λ m. absurd (omega (arith, sum-none (marksOf part (lent .marks)) .0 (marks-none part) (s .number), m)) }
+  pub fresh-readable : length (lent .marks) ≡ headerNumbers + bodyNumbers
+      → Readable (record { core = Unseen; headers = 0; bodies = 0 }) part (s .number) (freshSlot number) lent
+  fresh-readable h = record {
+    marks = h;
+    bits = omega (arith, largest-sum (lent .marks), none);
+    tallied = tallied;
+    held = λ m. absurd (omega (arith, sum-none (marksOf part (lent .marks)) .0 (marks-none part) (s .number), m));
+  }
     where
       core : coreFrom (marksOf Header (lent .marks)) (lent .header) ≡ Unseen
       core = rw (sum-none (marksOf Header (lent .marks)) .0 (marks-none Header) 0) refl
@@ -144,8 +159,10 @@ module _ (part : Part) (limit number : ℕ) (s : Segment) (lent : Lent) (none : 
   unfolding fitsAlone
   fresh-decided = fresh-alone part limit number s lent none ∙ sym (fresh-alone part limit 0 s (shares [] [] []) refl)
 
-  pub fresh-taken : takeInto part limit s (freshSlot number) lent ≡ ifNew (fitsAlone part limit s) part limit s (freshSlot number) lent
+  pub fresh-taken : takeInto part limit s (freshSlot number) lent ≡ ifNew (fitsAlone part limit s) part limit s
+      (freshSlot number) lent
   fresh-taken =
       take-by-mark part limit s (freshSlot number) lent
       ∙ ap (λ (m : ℕ). byMark m part limit s (freshSlot number) lent) (unmarked part limit number s lent none)
-      ∙ ap (λ (f : Bool). ifNew f part limit s (freshSlot number) lent) (fresh-fits part limit number s lent none ∙ sym (fresh-alone part limit number s lent none) ∙ fresh-decided)
+      ∙ ap (λ (f : Bool). ifNew f part limit s (freshSlot number) lent) (fresh-fits part limit number s lent none
+      ∙ sym (fresh-alone part limit number s lent none) ∙ fresh-decided)

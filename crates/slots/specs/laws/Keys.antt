@@ -28,17 +28,20 @@ one-number m n = go (ℕ-discrete m n)
     go (yes p) = eq-eqb (m + 1) (n + 1) (omega arith) ∙ sym (eq-eqb m n p)
     go (no p) = ne-eqb (m + 1) (n + 1) (λ e. p (omega arith)) ∙ sym (ne-eqb m n p)
 
-absent-held : (number : ℕ) (slots : List Slot) → absentKey (number + 1) (keysOf slots) ≡ pick (heldAmong number slots) false true
+absent-held : (number : ℕ) (slots : List Slot) → absentKey (number + 1) (keysOf slots)
+    ≡ pick (heldAmong number slots) false true
 unfolding absentKey keysOf keyOf heldAmong holds isFree
 absent-held number [] = refl
 absent-held number (slot ∷ slots) = go (freeStage (slot .stage)) (absent-held number slots)
   where
-    picked : (t : Bool) → absentKey (number + 1) (keysOf slots) ≡ pick (heldAmong number slots) false true → pick t false (absentKey (number + 1) (keysOf slots)) ≡ pick (pick t true (heldAmong number slots)) false true
+    picked : (t : Bool) → absentKey (number + 1) (keysOf slots) ≡ pick (heldAmong number slots) false true
+        → pick t false (absentKey (number + 1) (keysOf slots)) ≡ pick (pick t true (heldAmong number slots)) false true
     picked true e = refl
     picked false e = e
 
     go : (free : Bool) → absentKey (number + 1) (keysOf slots) ≡ pick (heldAmong number slots) false true
-        → pick (eqb (pick free 0 (slot .number + 1)) (number + 1)) false (absentKey (number + 1) (keysOf slots)) ≡ pick (pick (pick free false (eqb (slot .number) number)) true (heldAmong number slots)) false true
+        → pick (eqb (pick free 0 (slot .number + 1)) (number + 1)) false (absentKey (number + 1) (keysOf slots))
+        ≡ pick (pick (pick free false (eqb (slot .number) number)) true (heldAmong number slots)) false true
     go true e = rw (ne-eqb 0 (number + 1) (λ z. absurd (omega arith))) e
     go false e = rw (one-number (slot .number) number) (picked (eqb (slot .number) number) e)
 
@@ -46,7 +49,9 @@ unlike-keys : (slot : Slot) (slots : List Slot) → unlikeKey (keyOf slot) (keys
 unfolding unlikeKey keyOf unlike isFree
 unlike-keys slot slots = go (freeStage (slot .stage))
   where
-    go : (free : Bool) → pick (eqb (pick free 0 (slot .number + 1)) 0) true (absentKey (pick free 0 (slot .number + 1)) (keysOf slots)) ≡ pick free true (pick (heldAmong (slot .number) slots) false true)
+    go : (free : Bool) → pick (eqb (pick free 0 (slot .number + 1)) 0) true
+        (absentKey (pick free 0 (slot .number + 1)) (keysOf slots))
+        ≡ pick free true (pick (heldAmong (slot .number) slots) false true)
     go true = refl
     go false = rw (ne-eqb (slot .number + 1) 0 (λ z. absurd (omega arith))) (absent-held (slot .number) slots)
 
@@ -61,20 +66,24 @@ keys-taken zero slots = refl
 keys-taken (suc count) [] = refl
 keys-taken (suc count) (slot ∷ slots) = rw (keys-taken count slots) refl
 
-pub distinct-keys : (count : ℕ) (slots : List Slot) → distinctKeys (take count (keysOf slots)) ≡ distinct (take count slots)
+pub distinct-keys : (count : ℕ) (slots : List Slot) → distinctKeys (take count (keysOf slots))
+    ≡ distinct (take count slots)
 distinct-keys count slots = rw (keys-taken count slots) (distinct-all (take count slots))
 
 -- ---- key by key
 
 -- a key is written
-pub keys-turn : (slots : List Slot) (keys : List ℕ) (i : ℕ) → i < length slots → i < length keys → take i keys ++ keysOf (drop i slots) ≡ take (i + 1) (set keys i (keyOf (getD slots i freeSlot))) ++ keysOf (drop (i + 1) slots)
+pub keys-turn : (slots : List Slot) (keys : List ℕ) (i : ℕ) → i < length slots → i < length keys → take i keys
+    ++ keysOf (drop i slots) ≡ take (i + 1) (set keys i (keyOf (getD slots i freeSlot))) ++ keysOf (drop (i + 1) slots)
 unfolding keysOf
 keys-turn slots keys i h g =
     let key = keyOf (getD slots i freeSlot) in
-    rw (drop-cons slots i freeSlot h, add-one, take-suc-set keys i key g) (sym (append-snoc (take i keys) key (keysOf (drop (suc i) slots))))
+    rw (drop-cons slots i freeSlot h, add-one, take-suc-set keys i key g)
+    (sym (append-snoc (take i keys) key (keysOf (drop (suc i) slots))))
 
 -- all are
-pub keys-end : (slots : List Slot) (keys : List ℕ) (i : ℕ) → length slots ≤ i → length keys ≡ i → take i keys ++ keysOf (drop i slots) ≡ keys
+pub keys-end : (slots : List Slot) (keys : List ℕ) (i : ℕ) → length slots ≤ i → length keys ≡ i → take i keys
+    ++ keysOf (drop i slots) ≡ keys
 unfolding keysOf
 keys-end slots keys i h g = rw (spent slots i h, ← g, take-length, append-nil)
 
@@ -88,10 +97,13 @@ module _ (keys : List ℕ) (count i : ℕ) where
   distinct-none h = rw (spent (take count keys) i h) refl
 
   module _ (h : i < count) (g : i < length keys) where
-    pub absent-on : (key : ℕ) → absentKey key (drop i (take count keys)) ≡ pick (eqb (getD keys i 0) key) false (absentKey key (drop (i + 1) (take count keys)))
+    pub absent-on : (key : ℕ) → absentKey key (drop i (take count keys))
+        ≡ pick (eqb (getD keys i 0) key) false (absentKey key (drop (i + 1) (take count keys)))
     unfolding absentKey
     absent-on key = rw (one-more 0 keys count i h g) refl
 
-    pub distinct-on : distinctKeys (drop i (take count keys)) ≡ both (unlikeKey (getD keys i 0) (drop (i + 1) (take count keys))) (distinctKeys (drop (i + 1) (take count keys)))
+    pub distinct-on : distinctKeys (drop i (take count keys))
+        ≡ both (unlikeKey (getD keys i 0) (drop (i + 1) (take count keys)))
+        (distinctKeys (drop (i + 1) (take count keys)))
     unfolding distinctKeys
     distinct-on = rw (one-more 0 keys count i h g) refl

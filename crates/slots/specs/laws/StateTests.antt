@@ -33,14 +33,17 @@ turned true true true false = refl
 
 module _ (limit count header body marks : ℕ) where
   pub limits-tests : withinLimits limit count header body marks
-      ≡ both (all (leb limitLeast limit ∷ leb limit limitMost ∷ leb 1 count ∷ leb count slotsMost ∷ [])) (both (eqb header (count * headerMost)) (both (eqb body (count * limit)) (eqb marks (count * slotMarks))))
+      ≡ both (all (leb limitLeast limit ∷ leb limit limitMost ∷ leb 1 count ∷ leb count slotsMost ∷ []))
+      (both (eqb header (count * headerMost)) (both (eqb body (count * limit)) (eqb marks (count * slotMarks))))
   unfolding withinLimits
-  limits-tests = turned (eqb header (count * headerMost)) (eqb body (count * limit)) (eqb marks (count * slotMarks)) (all (leb limitLeast limit ∷ leb limit limitMost ∷ leb 1 count ∷ leb count slotsMost ∷ []))
+  limits-tests = turned (eqb header (count * headerMost)) (eqb body (count * limit)) (eqb marks (count * slotMarks))
+      (all (leb limitLeast limit ∷ leb limit limitMost ∷ leb 1 count ∷ leb count slotsMost ∷ []))
 
   pub limits-hold : withinLimits limit count header body marks ≡ true → Limits limit count header body marks
   unfolding withinLimits
   limits-hold e =
-      let t = all-true (eqb header (count * headerMost) ∷ eqb body (count * limit) ∷ eqb marks (count * slotMarks) ∷ leb limitLeast limit ∷ leb limit limitMost ∷ leb 1 count ∷ leb count slotsMost ∷ []) e in
+      let t = all-true (eqb header (count * headerMost) ∷ eqb body (count * limit) ∷ eqb marks (count * slotMarks)
+      ∷ leb limitLeast limit ∷ leb limit limitMost ∷ leb 1 count ∷ leb count slotsMost ∷ []) e in
       record {
         header = eqb-true header (count * headerMost) (t .0);
         body = eqb-true body (count * limit) (t .1 .0);
@@ -62,19 +65,29 @@ spent l i h = empty (drop i l) (rw length-drop (omega arith))
     empty (x ∷ l) e = absurd (omega arith)
 
 -- one more is left
-pub one-more : {A : Type 0} (d : A) (l : List A) (count i : ℕ) → i < count → i < length l → drop i (take count l) ≡ getD l i d ∷ drop (i + 1) (take count l)
-one-more d l count i h g = drop-cons (take count l) i d (rw length-take (omega arith)) ∙ rw (getD-take count l i d h, add-one) refl
+pub one-more : {A : Type 0} (d : A) (l : List A) (count i : ℕ) → i < count → i < length l → drop i (take count l)
+    ≡ getD l i d ∷ drop (i + 1) (take count l)
+one-more d l count i h g = drop-cons (take count l) i d (rw length-take (omega arith))
+    ∙ rw (getD-take count l i d h, add-one) refl
 
-pub right-meets : (limit i : ℕ) (slot : Slot) (stores : Stores) → rightSlot limit slot (lentAt limit i stores) ≡ rightBy limit i slot (stores .header) (stores .marks)
+pub right-meets : (limit i : ℕ) (slot : Slot) (stores : Stores) → rightSlot limit slot (lentAt limit i stores)
+    ≡ rightBy limit i slot (stores .header) (stores .marks)
 unfolding rightSlot rightBy lentAt soundSlot soundParts partsOf coreIn stageOf
 right-meets limit i slot stores = refl
 
 module _ (slots : List Slot) (count i : ℕ) where
-  pub right-none : (limit : ℕ) (stores : Stores) → length (take count slots) ≤ i → rightFrom limit i (drop i (take count slots)) stores ≡ true
+  pub right-none : (limit : ℕ) (stores : Stores) → length (take count slots) ≤ i
+      → rightFrom limit i (drop i (take count slots)) stores ≡ true
   unfolding rightFrom
   right-none limit stores h = rw (spent (take count slots) i h) refl
 
   module _ (h : i < count) (g : i < length slots) where
-    pub right-on : (limit : ℕ) (stores : Stores) → rightFrom limit i (drop i (take count slots)) stores ≡ both (rightBy limit i (getD slots i freeSlot) (stores .header) (stores .marks)) (rightFrom limit (i + 1) (drop (i + 1) (take count slots)) stores)
+    pub right-on : (limit : ℕ) (stores : Stores) → rightFrom limit i (drop i (take count slots)) stores
+        ≡ both (rightBy limit i (getD slots i freeSlot) (stores .header) (stores .marks))
+        (rightFrom limit (i + 1) (drop (i + 1) (take count slots)) stores)
     unfolding rightFrom
-    right-on limit stores = rw (one-more freeSlot slots count i h g, right-meets limit i (getD slots i freeSlot) stores, add-one) refl
+    right-on limit stores = rw (
+      one-more freeSlot slots count i h g,
+      right-meets limit i (getD slots i freeSlot) stores,
+      add-one,
+    ) refl

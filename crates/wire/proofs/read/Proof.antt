@@ -101,18 +101,5 @@ returns-7 c =
 
 pub read-spec : {M : Type 1} → statement M
 read-spec =
-    tie.close
-    (tie.spec
-    returns
-    returns-2
-    shared-slice-read-flags
-    returns-3
-    returns-4
-    check-holds-requires
-    returns-5
-    kind-of-requires
-    enum-known-part
-    enum-told
-    returns-6
-    session-requires
-    returns-7)
+    tie.close (tie.spec returns returns-2 shared-slice-read-flags returns-3 returns-4 check-holds-requires returns-5
+    kind-of-requires enum-known-part enum-told returns-6 session-requires returns-7)

@@ -135,35 +135,7 @@ returns-8 c =
 
 pub session-spec : {M : Type 1} → statement M
 session-spec =
-    tie.close
-    (tie.spec
-    shared-slice-read-flags
-    returns
-    returns-2
-    sub-end
-    cast-field
-    mul-field
-    add-field
-    add-access
-    add-if3
-    returns-3
-    shared-slice-read-indicator
-    cast-indicator
-    shared-slice-read-if4
-    returns-4
-    returns-5
-    add-start
-    add-start-2
-    add-start-3
-    returns-6
-    add-word-at
-    add-word-at-2
-    word-at-requires
-    cast-size
-    word-at-requires-2
-    size-wrong-requires
-    returns-7
-    add-word-at-3
-    word-at-requires-3
-    word-at-requires-4
-    returns-8)
+    tie.close (tie.spec shared-slice-read-flags returns returns-2 sub-end cast-field mul-field add-field add-access
+    add-if3 returns-3 shared-slice-read-indicator cast-indicator shared-slice-read-if4 returns-4 returns-5 add-start
+    add-start-2 add-start-3 returns-6 add-word-at add-word-at-2 word-at-requires cast-size word-at-requires-2
+    size-wrong-requires returns-7 add-word-at-3 word-at-requires-3 word-at-requires-4 returns-8)

@@ -37,13 +37,5 @@ returns c = search needs
 
 pub word-at-spec : {M : Type 1} → statement M
 word-at-spec =
-    tie.close
-    (tie.spec
-    shared-slice-read-result
-    cast-result
-    mul-result
-    add-result
-    shared-slice-read-result-2
-    cast-result-2
-    add-result-2
-    returns)
+    tie.close (tie.spec shared-slice-read-result cast-result mul-result add-result shared-slice-read-result-2
+    cast-result-2 add-result-2 returns)

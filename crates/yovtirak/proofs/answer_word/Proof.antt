@@ -27,11 +27,4 @@ returns c = rw (c .before .number-of .ensures, c .returned-word .ensures .0, c .
 
 pub answer-word-spec : {M : Type 1} → statement M
 answer-word-spec =
-    tie.close
-    (tie.spec
-    returned-with-requires
-    number-of-requires
-    cast-number
-    returned-word-requires
-    add-result
-    returns)
+    tie.close (tie.spec returned-with-requires number-of-requires cast-number returned-word-requires add-result returns)

@@ -54,14 +54,5 @@ returns c = (
 
 pub heard-word-spec : {M : Type 1} → statement M
 heard-word-spec =
-    tie.close
-    (tie.spec
-    cast-number
-    cast-segment
-    part-word-requires
-    mul-result
-    mul-result-2
-    add-result
-    mul-result-3
-    add-result-2
-    returns)
+    tie.close (tie.spec cast-number cast-segment part-word-requires mul-result mul-result-2 add-result mul-result-3
+    add-result-2 returns)

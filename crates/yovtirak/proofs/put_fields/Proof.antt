@@ -68,21 +68,6 @@ returns c =
 
 pub put-fields-spec : {M : Type 1} → statement M
 put-fields-spec =
-    tie.close
-    (tie.spec
-    cast-told
-    slice-write-told
-    cast-told-2
-    slice-write-told-2
-    cast-told-3
-    slice-write-told-3
-    cast-told-4
-    slice-write-told-4
-    priority-word-requires
-    slice-write-told-5
-    name-start-requires
-    slice-write-told-6
-    name-length-requires
-    slice-write-told-7
-    same-length
-    returns)
+    tie.close (tie.spec cast-told slice-write-told cast-told-2 slice-write-told-2 cast-told-3 slice-write-told-3
+    cast-told-4 slice-write-told-4 priority-word-requires slice-write-told-5 name-start-requires slice-write-told-6
+    name-length-requires slice-write-told-7 same-length returns)

@@ -32,12 +32,5 @@ returns c =
 
 pub put-place-spec : {M : Type 1} → statement M
 put-place-spec =
-    tie.close
-    (tie.spec
-    slice-write-place
-    header-word-requires
-    slice-write-place-2
-    body-word-requires
-    slice-write-place-3
-    same-length
-    returns)
+    tie.close (tie.spec slice-write-place header-word-requires slice-write-place-2 body-word-requires
+    slice-write-place-3 same-length returns)

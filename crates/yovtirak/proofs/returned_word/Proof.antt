@@ -35,14 +35,5 @@ returns-3 c = search needs
 
 pub returned-word-spec : {M : Type 1} → statement M
 returned-word-spec =
-    tie.close
-    (tie.spec
-    enum-known-returned
-    heard-word-requires
-    enum-known-returned-2
-    cast-result
-    mul-result
-    enum-told
-    returns
-    returns-2
-    returns-3)
+    tie.close (tie.spec enum-known-returned heard-word-requires enum-known-returned-2 cast-result mul-result enum-told
+    returns returns-2 returns-3)

@@ -31,13 +31,5 @@ returns-2 c = search needs
 
 pub sought-word-spec : {M : Type 1} → statement M
 sought-word-spec =
-    tie.close
-    (tie.spec
-    enum-known-sought
-    cast-result
-    mul-result
-    enum-known-sought-2
-    number-of-requires
-    cast-result-2
-    returns
-    returns-2)
+    tie.close (tie.spec enum-known-sought cast-result mul-result enum-known-sought-2 number-of-requires cast-result-2
+    returns returns-2)

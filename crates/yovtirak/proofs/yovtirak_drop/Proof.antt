@@ -79,17 +79,5 @@ returns-3 c =
 
 pub yovtirak-drop-spec : {M : Type 1} → statement M
 yovtirak-drop-spec =
-    tie.close
-    (tie.spec
-    returns
-    readable-requires
-    same-length
-    returns-2
-    collector-from-requires
-    counts-from-requires
-    dropped-requires
-    leave-requires
-    same-length-2
-    same-length-3
-    same-length-4
-    returns-3)
+    tie.close (tie.spec returns readable-requires same-length returns-2 collector-from-requires counts-from-requires
+    dropped-requires leave-requires same-length-2 same-length-3 same-length-4 returns-3)

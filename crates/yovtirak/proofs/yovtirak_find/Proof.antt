@@ -57,13 +57,5 @@ returns-3 c =
 
 pub yovtirak-find-spec : {M : Type 1} → statement M
 yovtirak-find-spec =
-    tie.close
-    (tie.spec
-    returns
-    readable-requires
-    returns-2
-    collector-from-requires
-    counts-from-requires
-    find-requires
-    sought-word-requires
-    returns-3)
+    tie.close (tie.spec returns readable-requires returns-2 collector-from-requires counts-from-requires find-requires
+    sought-word-requires returns-3)

@@ -99,20 +99,6 @@ returns-5 c =
 
 pub yovtirak-finished-spec : {M : Type 1} → statement M
 yovtirak-finished-spec =
-    tie.close
-    (tie.spec
-    returns
-    returns-2
-    readable-requires
-    returns-3
-    collector-from-requires
-    counts-from-requires
-    locate-requires
-    enum-known-located
-    enum-told
-    refused-word-requires
-    returns-4
-    stage-at-requires
-    put-place-requires
-    same-length
-    returns-5)
+    tie.close (tie.spec returns returns-2 readable-requires returns-3 collector-from-requires counts-from-requires
+    locate-requires enum-known-located enum-told refused-word-requires returns-4 stage-at-requires put-place-requires
+    same-length returns-5)

@@ -59,16 +59,5 @@ returns-3 c =
 
 pub yovtirak-open-spec : {M : Type 1} → statement M
 yovtirak-open-spec =
-    tie.close
-    (tie.spec
-    returns
-    returns-2
-    counts-from-requires
-    opened-requires
-    put-counts-requires
-    keep-opened-requires
-    opening-word-requires
-    same-length
-    same-length-2
-    same-length-3
-    returns-3)
+    tie.close (tie.spec returns returns-2 counts-from-requires opened-requires put-counts-requires keep-opened-requires
+    opening-word-requires same-length same-length-2 same-length-3 returns-3)

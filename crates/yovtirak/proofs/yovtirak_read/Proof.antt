@@ -95,19 +95,6 @@ returns-5 c =
 
 pub yovtirak-read-spec : {M : Type 1} → statement M
 yovtirak-read-spec =
-    tie.close
-    (tie.spec
-    returns
-    returns-2
-    readable-requires
-    returns-3
-    collector-from-requires
-    counts-from-requires
-    parameters-requires
-    enum-known-asked
-    enum-told
-    unread-word-requires
-    returns-4
-    put-fields-requires
-    same-length
+    tie.close (tie.spec returns returns-2 readable-requires returns-3 collector-from-requires counts-from-requires
+    parameters-requires enum-known-asked enum-told unread-word-requires returns-4 put-fields-requires same-length
     returns-5)

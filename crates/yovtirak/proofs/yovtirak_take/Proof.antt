@@ -86,19 +86,5 @@ returns-3 c =
 
 pub yovtirak-take-spec : {M : Type 1} → statement M
 yovtirak-take-spec =
-    tie.close
-    (tie.spec
-    returns
-    readable-requires
-    same-length
-    returns-2
-    collector-from-requires
-    counts-from-requires
-    taken-requires
-    leave-requires
-    same-length-2
-    same-length-3
-    same-length-4
-    same-length-5
-    same-length-6
-    returns-3)
+    tie.close (tie.spec returns readable-requires same-length returns-2 collector-from-requires counts-from-requires
+    taken-requires leave-requires same-length-2 same-length-3 same-length-4 same-length-5 same-length-6 returns-3)

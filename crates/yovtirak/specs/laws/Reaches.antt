@@ -222,7 +222,8 @@ module _ (number : ℕ) (state counts : List ℕ) (stores : Stores) (place : Lis
   start-there width i count store h g = rw (le-leb (i * width + count) (length store) (omega arith)) refl
 
   -- A `yovtirak_finished` THAT RETURNS 0 tells where the header and the body stand
-  pub finished-there : finishedCall number state counts stores place .result ≡ 0 → Place number state counts stores place
+  pub finished-there : finishedCall number state counts stores place .result ≡ 0
+      → Place number state counts stores place
   unfolding finishedCall locate show shownOf
   finished-there e = go lent refl (sound here) refl
       (findIn number (collectorFrom state .count) (collectorFrom state .slots)) refl

@@ -30,13 +30,5 @@ returns-2 c = rw (c .before .before .change2 .given .1) (c .answered2 .ensures)
 
 pub changed-spec : {M : Type 1} → statement M
 changed-spec =
-    tie.close
-    (tie.spec
-    enum-known-change
-    answered-requires
-    enum-known-change-2
-    mul-slot
-    element-set-from-slot
-    answered-requires-2
-    returns
-    returns-2)
+    tie.close (tie.spec enum-known-change answered-requires enum-known-change-2 mul-slot element-set-from-slot
+    answered-requires-2 returns returns-2)

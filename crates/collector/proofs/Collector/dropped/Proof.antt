@@ -91,19 +91,5 @@ returns-3 c =
 
 pub dropped-spec : {M : Type 1} → statement M
 dropped-spec =
-    tie.close
-    (tie.spec
-    is-sound-requires
-    answered-requires
-    same-length
-    returns
-    find-requires
-    enum-known-i
-    enum-told
-    answered-requires-2
-    same-length-2
-    returns-2
-    drop-at-requires
-    answered-requires-3
-    same-length-3
-    returns-3)
+    tie.close (tie.spec is-sound-requires answered-requires same-length returns find-requires enum-known-i enum-told
+    answered-requires-2 same-length-2 returns-2 drop-at-requires answered-requires-3 same-length-3 returns-3)

@@ -68,16 +68,5 @@ returns-4 c =
 
 pub locate-spec : {M : Type 1} → statement M
 locate-spec =
-    tie.close
-    (tie.spec
-    is-sound-requires
-    returns
-    find-requires
-    enum-known-i
-    enum-told
-    returns-2
-    returns-3
-    mul-slot
-    element-copy-out-slot
-    located-as-requires
-    returns-4)
+    tie.close (tie.spec is-sound-requires returns find-requires enum-known-i enum-told returns-2 returns-3 mul-slot
+    element-copy-out-slot located-as-requires returns-4)

@@ -44,12 +44,5 @@ returns-2 c =
 
 pub opened-spec : {M : Type 1} → statement M
 opened-spec =
-    tie.close
-    (tie.spec
-    free-slot-requires
-    within-limits-requires
-    returns
-    clear-requires
-    none-yet-requires
-    same-length
+    tie.close (tie.spec free-slot-requires within-limits-requires returns clear-requires none-yet-requires same-length
     returns-2)

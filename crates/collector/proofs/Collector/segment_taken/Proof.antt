@@ -65,17 +65,5 @@ returns-2 c =
 
 pub segment-taken-spec : {M : Type 1} → statement M
 segment-taken-spec =
-    tie.close
-    (tie.spec
-    is-sound-requires
-    answered-requires
-    same-length
-    same-length-2
-    same-length-3
-    returns
-    take-segment-requires
-    changed-requires
-    same-length-4
-    same-length-5
-    same-length-6
-    returns-2)
+    tie.close (tie.spec is-sound-requires answered-requires same-length same-length-2 same-length-3 returns
+    take-segment-requires changed-requires same-length-4 same-length-5 same-length-6 returns-2)

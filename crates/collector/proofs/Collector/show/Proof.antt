@@ -32,12 +32,5 @@ returns-2 c = rw (sym (c .before .before .before .before .locate .ensures) ∙ c
 
 pub show-spec : {M : Type 1} → statement M
 show-spec =
-    tie.close
-    (tie.spec
-    locate-requires
-    enum-known-i
-    enum-told
-    slice-aggregate-result
-    returns
-    shown-at-requires
+    tie.close (tie.spec locate-requires enum-known-i enum-told slice-aggregate-result returns shown-at-requires
     returns-2)

@@ -86,18 +86,5 @@ returns-3 c =
 
 pub take-first-spec : {M : Type 1} → statement M
 take-first-spec =
-    tie.close
-    (tie.spec
-    cast-number
-    fits-alone-requires
-    returns
-    free-requires
-    enum-known-i
-    enum-told
-    returns-2
-    fresh-slot-requires
-    take-at-requires
-    same-length
-    same-length-2
-    same-length-3
-    returns-3)
+    tie.close (tie.spec cast-number fits-alone-requires returns free-requires enum-known-i enum-told returns-2
+    fresh-slot-requires take-at-requires same-length same-length-2 same-length-3 returns-3)

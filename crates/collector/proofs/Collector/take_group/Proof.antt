@@ -124,28 +124,7 @@ returns-3 c =
 
 pub take-group-spec : {M : Type 1} → statement M
 take-group-spec =
-    tie.close
-    (tie.spec
-    is-sound-requires
-    same-length
-    same-length-2
-    same-length-3
-    returns
-    read-requires
-    enum-known-reading
-    enum-told
-    refusal-of-requires
-    same-length-4
-    same-length-5
-    same-length-6
-    returns-2
-    add-end
-    heard-as-requires
-    sub-take-segment
-    part-take-segment-start
-    part-take-segment-end
-    take-segment-requires
-    same-length-7
-    same-length-8
-    same-length-9
-    returns-3)
+    tie.close (tie.spec is-sound-requires same-length same-length-2 same-length-3 returns read-requires
+    enum-known-reading enum-told refusal-of-requires same-length-4 same-length-5 same-length-6 returns-2 add-end
+    heard-as-requires sub-take-segment part-take-segment-start part-take-segment-end take-segment-requires same-length-7
+    same-length-8 same-length-9 returns-3)

@@ -97,20 +97,5 @@ returns-2 c =
 
 pub take-segment-spec : {M : Type 1} → statement M
 take-segment-spec =
-    tie.close
-    (tie.spec
-    find-requires
-    enum-known-i
-    enum-told
-    take-first-requires
-    same-length
-    same-length-2
-    same-length-3
-    returns
-    mul-old
-    element-copy-out-old
-    take-at-requires
-    same-length-4
-    same-length-5
-    same-length-6
-    returns-2)
+    tie.close (tie.spec find-requires enum-known-i enum-told take-first-requires same-length same-length-2 same-length-3
+    returns mul-old element-copy-out-old take-at-requires same-length-4 same-length-5 same-length-6 returns-2)

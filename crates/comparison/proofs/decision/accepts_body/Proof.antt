@@ -18,7 +18,8 @@ suits-requires : tie.Need-suits-requires
 suits-requires c κs = search needs
 
 returns-2 : tie.Need-returns-2
-returns-2 c = rw (sym (c .before .before .before .joins .ensures) ∙ not-false _ (c .before .before .if1 .left)) (rw (c .before .kept-with .ensures) at (c .suits .ensures))
+returns-2 c = rw (sym (c .before .before .before .joins .ensures) ∙ not-false _ (c .before .before .if1 .left))
+    (rw (c .before .kept-with .ensures) at (c .suits .ensures))
 
 pub accepts-body-spec : {M : Type 1} → statement M
 accepts-body-spec = tie.close (tie.spec joins-requires returns kept-with-requires suits-requires returns-2)

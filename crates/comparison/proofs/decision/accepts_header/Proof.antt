@@ -21,7 +21,10 @@ suits-requires : tie.Need-suits-requires
 suits-requires c κs = search needs
 
 returns-2 : tie.Need-returns-2
-returns-2 c = rw (sym (c .before .before .before .before .joins .ensures) ∙ not-false _ (c .before .before .before .if1 .left)) (rw (c .before .before .kept-with .ensures, c .before .core-with .ensures) at (c .suits .ensures))
+returns-2 c =
+    rw (sym (c .before .before .before .before .joins .ensures) ∙ not-false _ (c .before .before .before .if1 .left))
+    (rw (c .before .before .kept-with .ensures, c .before .core-with .ensures) at (c .suits .ensures))
 
 pub accepts-header-spec : {M : Type 1} → statement M
-accepts-header-spec = tie.close (tie.spec joins-requires returns kept-with-requires core-with-requires suits-requires returns-2)
+accepts-header-spec =
+    tie.close (tie.spec joins-requires returns kept-with-requires core-with-requires suits-requires returns-2)

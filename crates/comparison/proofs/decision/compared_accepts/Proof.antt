@@ -37,15 +37,33 @@ returns-2 : tie.Need-returns-2
 returns-2 c =
     let parted = c .before .before .before in
     let start = parted .before .before .before .before .before .before in
-    rw (lt-ltb (start .args .number) 32768 (omega arith), sym (parted .part-of .ensures) ∙ c .before .enum-told .given .1)
-    (rw (parted .before .before .before .core-said .ensures, parted .before .before .kept-of .ensures, parted .before .kept-of2 .ensures) at (c .accepts-header .ensures))
+    rw (
+      lt-ltb (start .args .number) 32768 (omega arith),
+      sym (parted .part-of .ensures)
+          ∙ c .before .enum-told .given .1,
+    )
+    (rw (
+      parted .before .before .before .core-said .ensures,
+      parted .before .before .kept-of .ensures,
+      parted .before .kept-of2 .ensures,
+    ) at (c .accepts-header .ensures))
 
 returns-3 : tie.Need-returns-3
 returns-3 c =
     let parted = c .before .before .before in
     let start = parted .before .before .before .before .before .before in
-    rw (lt-ltb (start .args .number) 32768 (omega arith), sym (parted .part-of .ensures) ∙ c .before .enum-told2 .given .1)
-    (rw (parted .before .before .before .core-said .ensures, parted .before .before .kept-of .ensures, parted .before .kept-of2 .ensures) at (c .accepts-body .ensures))
+    rw (
+      lt-ltb (start .args .number) 32768 (omega arith),
+      sym (parted .part-of .ensures)
+          ∙ c .before .enum-told2 .given .1,
+    )
+    (rw (
+      parted .before .before .before .core-said .ensures,
+      parted .before .before .kept-of .ensures,
+      parted .before .kept-of2 .ensures,
+    ) at (c .accepts-body .ensures))
 
 pub compared-accepts-spec : {M : Type 1} → statement M
-compared-accepts-spec = tie.close (tie.spec returns core-said-requires kept-of-requires kept-of-requires-2 part-of-requires enum-told accepts-header-requires enum-told-2 accepts-body-requires returns-2 returns-3)
+compared-accepts-spec =
+    tie.close (tie.spec returns core-said-requires kept-of-requires kept-of-requires-2 part-of-requires enum-told
+    accepts-header-requires enum-told-2 accepts-body-requires returns-2 returns-3)

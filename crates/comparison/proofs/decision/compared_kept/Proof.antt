@@ -12,7 +12,8 @@ kept-field-requires : tie.Need-kept-field-requires
 kept-field-requires c κs = search needs
 
 returns : tie.Need-returns
-returns c = rw (le-ltb (c .before .before .before .args .number) 32768 (omega arith)) (rw (c .before .before .kept-of .ensures) at (c .kept-field .ensures))
+returns c = rw (le-ltb (c .before .before .before .args .number) 32768 (omega arith))
+    (rw (c .before .before .kept-of .ensures) at (c .kept-field .ensures))
 
 kept-with-requires : tie.Need-kept-with-requires
 kept-with-requires c κs = search needs
@@ -21,7 +22,9 @@ kept-field-requires-2 : tie.Need-kept-field-requires-2
 kept-field-requires-2 c κs = search needs
 
 returns-2 : tie.Need-returns-2
-returns-2 c = rw (lt-ltb (c .before .before .before .before .args .number) 32768 (omega arith)) (rw (c .before .kept-with .ensures, c .before .before .before .kept-of .ensures) at (c .kept-field2 .ensures))
+returns-2 c = rw (lt-ltb (c .before .before .before .before .args .number) 32768 (omega arith))
+    (rw (c .before .kept-with .ensures, c .before .before .before .kept-of .ensures) at (c .kept-field2 .ensures))
 
 pub compared-kept-spec : {M : Type 1} → statement M
-compared-kept-spec = tie.close (tie.spec kept-of-requires kept-field-requires returns kept-with-requires kept-field-requires-2 returns-2)
+compared-kept-spec =
+    tie.close (tie.spec kept-of-requires kept-field-requires returns kept-with-requires kept-field-requires-2 returns-2)

@@ -22,7 +22,12 @@ returns-4 c = rw (c .match .keys4)
 
 returns-5 : tie.Need-returns-5
 unfolding keptField
-returns-5 c = simp (ne-eqb _ 0 (c .match .rest .0 .0 .0 .1), ne-eqb _ 1 (c .match .rest .0 .0 .1), ne-eqb _ 2 (c .match .rest .0 .1), ne-eqb _ 3 (c .match .rest .1))
+returns-5 c = simp (
+  ne-eqb _ 0 (c .match .rest .0 .0 .0 .1),
+  ne-eqb _ 1 (c .match .rest .0 .0 .1),
+  ne-eqb _ 2 (c .match .rest .0 .1),
+  ne-eqb _ 3 (c .match .rest .1),
+)
 
 pub kept-field-spec : {M : Type 1} → statement M
 kept-field-spec = tie.close (tie.spec returns returns-2 returns-3 returns-4 returns-5)

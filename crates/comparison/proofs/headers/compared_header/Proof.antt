@@ -35,19 +35,13 @@ returns c =
 
 returns-2 : tie.Need-returns-2
 returns-2 c =
-    let read = sym (c .before .before .before .before .before .read .ensures) ∙ c .before .before .before .refusal .given .1 in
+    let read = sym (c .before .before .before .before .before .read .ensures)
+    ∙ c .before .before .before .refusal .given .1 in
     let field = c .before .before .before .before .before .before .before .args .field in
-    c .refusal-field .ensures ∙ ap (λ (n : ℕ). refusalField n field) (c .before .refusal-number .ensures) ∙ sym (ap (λ (r : Reading). headerField r field) read)
+    c .refusal-field .ensures ∙ ap (λ (n : ℕ). refusalField n field) (c .before .refusal-number .ensures)
+    ∙ sym (ap (λ (r : Reading). headerField r field) read)
 
 pub compared-header-spec : {M : Type 1} → statement M
 compared-header-spec =
-    tie.close
-    (tie.spec
-    read-requires
-    enum-known-fields
-    said-field-requires
-    enum-known-refusal
-    refusal-number-requires
-    refusal-field-requires
-    returns
-    returns-2)
+    tie.close (tie.spec read-requires enum-known-fields said-field-requires enum-known-refusal refusal-number-requires
+    refusal-field-requires returns returns-2)

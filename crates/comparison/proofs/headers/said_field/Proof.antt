@@ -57,24 +57,18 @@ returns-7 c = rw (c .before .match .keys7) (c .name-size .ensures)
 
 returns-8 : tie.Need-returns-8
 unfolding saidField
-returns-8 c = simp (ne-eqb _ 1 (c .match .rest .0 .0 .0 .0 .0 .0 .1), ne-eqb _ 2 (c .match .rest .0 .0 .0 .0 .0 .1), ne-eqb _ 3 (c .match .rest .0 .0 .0 .0 .1), ne-eqb _ 4 (c .match .rest .0 .0 .0 .1), ne-eqb _ 5 (c .match .rest .0 .0 .1), ne-eqb _ 6 (c .match .rest .0 .1), ne-eqb _ 7 (c .match .rest .1))
+returns-8 c = simp (
+  ne-eqb _ 1 (c .match .rest .0 .0 .0 .0 .0 .0 .1),
+  ne-eqb _ 2 (c .match .rest .0 .0 .0 .0 .0 .1),
+  ne-eqb _ 3 (c .match .rest .0 .0 .0 .0 .1),
+  ne-eqb _ 4 (c .match .rest .0 .0 .0 .1),
+  ne-eqb _ 5 (c .match .rest .0 .0 .1),
+  ne-eqb _ 6 (c .match .rest .0 .1),
+  ne-eqb _ 7 (c .match .rest .1),
+)
 
 pub said-field-spec : {M : Type 1} → statement M
 said-field-spec =
-    tie.close
-    (tie.spec
-    cast-result
-    cast-result-2
-    cast-result-3
-    cast-result-4
-    priority-number-requires
-    name-start-requires
-    name-size-requires
-    returns
-    returns-2
-    returns-3
-    returns-4
-    returns-5
-    returns-6
-    returns-7
+    tie.close (tie.spec cast-result cast-result-2 cast-result-3 cast-result-4 priority-number-requires
+    name-start-requires name-size-requires returns returns-2 returns-3 returns-4 returns-5 returns-6 returns-7
     returns-8)

@@ -41,15 +41,5 @@ returns-4 c = rw (c .before .before .before .enum-told3 .given .1, c .before .co
 
 pub bounds-of-spec : {M : Type 1} → statement M
 bounds-of-spec =
-    tie.close
-    (tie.spec
-    enum-told
-    enum-told-2
-    enum-known-core
-    enum-told-3
-    enum-told-4
-    enum-known-core-2
-    returns
-    returns-2
-    returns-3
-    returns-4)
+    tie.close (tie.spec enum-told enum-told-2 enum-known-core enum-told-3 enum-told-4 enum-known-core-2 returns
+    returns-2 returns-3 returns-4)

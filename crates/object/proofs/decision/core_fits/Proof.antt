@@ -21,19 +21,31 @@ returns c = rw (c .enum-told .given .1) refl
 
 returns-2 : tie.Need-returns-2
 unfolding coreFits
-returns-2 c = let g = c .before .before .core .given in rw (g .1) (sym (some-fails (coreTests (c .before .before .before .before .args .limit) (Seen (g .0 .0) (g .0 .1 .0))) (λ r. omega (arith, leb-true))))
+returns-2 c = let g = c .before .before .core .given in
+    rw (g .1) (sym
+    (some-fails (coreTests (c .before .before .before .before .args .limit) (Seen (g .0 .0) (g .0 .1 .0)))
+    (λ r. omega (arith, leb-true))))
 
 returns-3 : tie.Need-returns-3
 unfolding coreFits
-returns-3 c = let g = c .before .before .before .core .given in rw (g .1) (sym (some-fails (coreTests (c .before .before .before .before .before .args .limit) (Seen (g .0 .0) (g .0 .1 .0))) (λ r. omega (arith, leb-true))))
+returns-3 c = let g = c .before .before .before .core .given in
+    rw (g .1) (sym
+    (some-fails (coreTests (c .before .before .before .before .before .args .limit) (Seen (g .0 .0) (g .0 .1 .0)))
+    (λ r. omega (arith, leb-true))))
 
 returns-4 : tie.Need-returns-4
 unfolding coreFits
-returns-4 c = let g = c .before .before .before .before .core .given in rw (g .1) (sym (some-fails (coreTests (c .before .before .before .before .before .before .args .limit) (Seen (g .0 .0) (g .0 .1 .0))) (λ r. omega (arith, leb-true))))
+returns-4 c = let g = c .before .before .before .before .core .given in
+    rw (g .1) (sym
+    (some-fails (coreTests (c .before .before .before .before .before .before .args .limit)
+    (Seen (g .0 .0) (g .0 .1 .0))) (λ r. omega (arith, leb-true))))
 
 returns-5 : tie.Need-returns-5
 unfolding coreFits
-returns-5 c = let g = c .before .before .before .before .core .given in rw (g .1) (sym (true-all (coreTests (c .before .before .before .before .before .before .args .limit) (Seen (g .0 .0) (g .0 .1 .0))) (omega (arith, le-leb))))
+returns-5 c = let g = c .before .before .before .before .core .given in
+    rw (g .1) (sym
+    (true-all (coreTests (c .before .before .before .before .before .before .args .limit) (Seen (g .0 .0) (g .0 .1 .0)))
+    (omega (arith, le-leb))))
 
 pub core-fits-spec : {M : Type 1} → statement M
 core-fits-spec =

@@ -32,7 +32,11 @@ returns-2 : tie.Need-returns-2
 unfolding suits
 returns-2 c =
     let a = c .before .before .before .before .before .args in
-    rw (passed (c .before .before .before .before .core-fits .ensures) (c .before .before .before .if1 .left), failed (c .before .possible .ensures ∙ ap (λ (b : Bounds). possible b (a .h) (a .p)) (c .before .before .bounds-of .ensures)) (c .if2 .taken)) refl
+    rw (
+      passed (c .before .before .before .before .core-fits .ensures) (c .before .before .before .if1 .left),
+      failed (c .before .possible .ensures ∙ ap (λ (b : Bounds). possible b (a .h) (a .p))
+          (c .before .before .bounds-of .ensures)) (c .if2 .taken),
+    ) refl
 
 bounds-of-requires-2 : tie.Need-bounds-of-requires-2
 bounds-of-requires-2 c κs = search needs
@@ -44,24 +48,29 @@ returns-3 : tie.Need-returns-3
 unfolding suits
 returns-3 c =
     let a = c .before .before .before .before .before .before .before .before .args in
-    rw (passed (c .before .before .before .before .before .before .before .core-fits .ensures) (c .before .before .before .before .before .before .if1 .left), passed (c .before .before .before .before .possible .ensures ∙ ap (λ (b : Bounds). possible b (a .h) (a .p)) (c .before .before .before .before .before .bounds-of .ensures)) (c .before .before .before .if2 .left), failed (c .before .possible2 .ensures ∙ ap (λ (b : Bounds). possible b (a .b) (a .q)) (c .before .before .bounds-of2 .ensures)) (c .if3 .taken)) refl
+    rw (
+      passed (c .before .before .before .before .before .before .before .core-fits .ensures)
+          (c .before .before .before .before .before .before .if1 .left),
+      passed (c .before .before .before .before .possible .ensures ∙ ap (λ (b : Bounds). possible b (a .h) (a .p))
+          (c .before .before .before .before .before .bounds-of .ensures)) (c .before .before .before .if2 .left),
+      failed (c .before .possible2 .ensures ∙ ap (λ (b : Bounds). possible b (a .b) (a .q))
+          (c .before .before .bounds-of2 .ensures)) (c .if3 .taken),
+    ) refl
 
 returns-4 : tie.Need-returns-4
 unfolding suits
 returns-4 c =
     let a = c .before .before .before .before .before .before .before .before .args in
-    rw (passed (c .before .before .before .before .before .before .before .core-fits .ensures) (c .before .before .before .before .before .before .if1 .left), passed (c .before .before .before .before .possible .ensures ∙ ap (λ (b : Bounds). possible b (a .h) (a .p)) (c .before .before .before .before .before .bounds-of .ensures)) (c .before .before .before .if2 .left), passed (c .before .possible2 .ensures ∙ ap (λ (b : Bounds). possible b (a .b) (a .q)) (c .before .before .bounds-of2 .ensures)) (c .if3 .left)) refl
+    rw (
+      passed (c .before .before .before .before .before .before .before .core-fits .ensures)
+          (c .before .before .before .before .before .before .if1 .left),
+      passed (c .before .before .before .before .possible .ensures ∙ ap (λ (b : Bounds). possible b (a .h) (a .p))
+          (c .before .before .before .before .before .bounds-of .ensures)) (c .before .before .before .if2 .left),
+      passed (c .before .possible2 .ensures ∙ ap (λ (b : Bounds). possible b (a .b) (a .q))
+          (c .before .before .bounds-of2 .ensures)) (c .if3 .left),
+    ) refl
 
 pub suits-spec : {M : Type 1} → statement M
 suits-spec =
-    tie.close
-    (tie.spec
-    core-fits-requires
-    returns
-    bounds-of-requires
-    possible-requires
-    returns-2
-    bounds-of-requires-2
-    possible-requires-2
-    returns-3
-    returns-4)
+    tie.close (tie.spec core-fits-requires returns bounds-of-requires possible-requires returns-2 bounds-of-requires-2
+    possible-requires-2 returns-3 returns-4)

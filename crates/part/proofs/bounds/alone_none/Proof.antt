@@ -16,10 +16,12 @@ reaches-requires : tie.Need-reaches-requires
 reaches-requires c κs = search needs
 
 returns-2 : tie.Need-returns-2
-returns-2 c = let a = c .before .before .before .before .args in granted (nothingTests (a .b)) (omega (arith, le-leb), (sym (c .before .reaches .ensures) ∙ c .if2 .taken, tt))
+returns-2 c = let a = c .before .before .before .before .args in
+    granted (nothingTests (a .b)) (omega (arith, le-leb), (sym (c .before .reaches .ensures) ∙ c .if2 .taken, tt))
 
 returns-3 : tie.Need-returns-3
-returns-3 c = let a = c .before .before .before .before .args in refused (nothingTests (a .b)) (λ r. false-true (c .if2 .left) (c .before .reaches .ensures ∙ r .1 .0))
+returns-3 c = let a = c .before .before .before .before .args in
+    refused (nothingTests (a .b)) (λ r. false-true (c .if2 .left) (c .before .reaches .ensures ∙ r .1 .0))
 
 pub alone-none-spec : {M : Type 1} → statement M
 alone-none-spec = tie.close (tie.spec returns reaches-requires returns-2 returns-3)

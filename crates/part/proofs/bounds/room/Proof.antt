@@ -17,7 +17,8 @@ room-open-requires : tie.Need-room-open-requires
 room-open-requires c κs = search needs
 
 returns-3 : tie.Need-returns-3
-returns-3 c = let a = c .before .before .before .before .before .before .before .args in c .room-open .ensures ∙ room-not-in (a .b) (a .p) (c .before .if3 .taken)
+returns-3 c = let a = c .before .before .before .before .before .before .before .args in c .room-open .ensures
+    ∙ room-not-in (a .b) (a .p) (c .before .if3 .taken)
 
 sub-room-ended : tie.Need-sub-room-ended
 sub-room-ended c = search needs
@@ -27,16 +28,9 @@ room-ended-requires c κs = search needs
 
 returns-4 : tie.Need-returns-4
 unfolding room
-returns-4 c = let a = c .before .before .before .before .before .before .before .before .args in c .room-ended .ensures ∙ room-in (a .b) (a .p .size) (a .p .end) (a .p .tail) (omega arith)
+returns-4 c = let a = c .before .before .before .before .before .before .before .before .args in c .room-ended .ensures
+    ∙ room-in (a .b) (a .p .size) (a .p .end) (a .p .tail) (omega arith)
 
 pub room-spec : {M : Type 1} → statement M
-room-spec =
-    tie.close
-    (tie.spec
-    returns
-    returns-2
-    room-open-requires
-    returns-3
-    sub-room-ended
-    room-ended-requires
+room-spec = tie.close (tie.spec returns returns-2 room-open-requires returns-3 sub-room-ended room-ended-requires
     returns-4)

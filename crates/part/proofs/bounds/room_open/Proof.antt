@@ -10,7 +10,9 @@ use Rattle.part.proofs.bounds.room_open.Statement.{statement}
 use Rattle.part.proofs.bounds.room_open.Tie as tie
 
 returns : tie.Need-returns
-returns c = let a = c .before .before .args in pick-fails (openTests (a .b) (a .size)) (min (a .b .numbers - 1) ((a .b .most - 1) / a .size)) (λ r. omega (arith, leb-true))
+returns c = let a = c .before .before .args in
+    pick-fails (openTests (a .b) (a .size)) (min (a .b .numbers - 1) ((a .b .most - 1) / a .size))
+    (λ r. omega (arith, leb-true))
 
 reaches-requires : tie.Need-reaches-requires
 reaches-requires c κs = search needs
@@ -28,20 +30,26 @@ lesser-requires : tie.Need-lesser-requires
 lesser-requires c κs = search needs
 
 returns-2 : tie.Need-returns-2
-returns-2 c = let a = c .before .before .before .before .before .before .before .args in let e : c .lesser .result ≡ min (a .b .numbers - 1) ((a .b .most - 1) / a .size) = c .lesser .ensures ∙ rw (c .before .before .less-one .ensures, c .before .less-one2 .ensures) refl in e ∙ pick-passes (openTests (a .b) (a .size)) (min (a .b .numbers - 1) ((a .b .most - 1) / a .size)) (omega (arith, le-leb), (omega (arith, le-leb), (omega (arith, le-leb), (sym (c .before .before .before .before .reaches .ensures) ∙ c .before .before .before .if2 .taken, tt))))
+returns-2 c = let a = c .before .before .before .before .before .before .before .args in let e : c .lesser .result
+    ≡ min (a .b .numbers - 1) ((a .b .most - 1) / a .size) = c .lesser .ensures
+    ∙ rw (c .before .before .less-one .ensures, c .before .less-one2 .ensures) refl in e
+    ∙ pick-passes (openTests (a .b) (a .size)) (min (a .b .numbers - 1) ((a .b .most - 1) / a .size)) (
+      omega (arith, le-leb),
+      (
+        omega (arith, le-leb),
+        (
+          omega (arith, le-leb),
+          (sym (c .before .before .before .before .reaches .ensures) ∙ c .before .before .before .if2 .taken, tt),
+        ),
+      ),
+    )
 
 returns-3 : tie.Need-returns-3
-returns-3 c = let a = c .before .before .before .before .args in pick-fails (openTests (a .b) (a .size)) (min (a .b .numbers - 1) ((a .b .most - 1) / a .size)) (λ r. false-true (c .if2 .left) (c .before .reaches .ensures ∙ r .1 .1 .1 .0))
+returns-3 c = let a = c .before .before .before .before .args in pick-fails (openTests (a .b) (a .size))
+    (min (a .b .numbers - 1) ((a .b .most - 1) / a .size))
+    (λ r. false-true (c .if2 .left) (c .before .reaches .ensures ∙ r .1 .1 .1 .0))
 
 pub room-open-spec : {M : Type 1} → statement M
 room-open-spec =
-    tie.close
-    (tie.spec
-    returns
-    reaches-requires
-    less-one-requires
-    less-one-requires-2
-    div-lesser
-    lesser-requires
-    returns-2
-    returns-3)
+    tie.close (tie.spec returns reaches-requires less-one-requires less-one-requires-2 div-lesser lesser-requires
+    returns-2 returns-3)

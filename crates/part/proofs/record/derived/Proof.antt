@@ -19,13 +19,16 @@ div-result : tie.Need-div-result
 div-result c = search needs
 
 returns-2 : tie.Need-returns-2
-returns-2 c = let a = c .before .before .before .before .before .before .args in divided-known (a .b) _ (a .tail) (omega arith) ∙ derived-in (a .b) (a .end) (a .tail) (omega arith)
+returns-2 c = let a = c .before .before .before .before .before .before .args in
+    divided-known (a .b) _ (a .tail) (omega arith) ∙ derived-in (a .b) (a .end) (a .tail) (omega arith)
 
 returns-3 : tie.Need-returns-3
-returns-3 c = let a = c .before .before .before .before .before .args in divided-nothing (a .b) _ (a .tail) (omega arith) ∙ derived-in (a .b) (a .end) (a .tail) (omega arith)
+returns-3 c = let a = c .before .before .before .before .before .args in
+    divided-nothing (a .b) _ (a .tail) (omega arith) ∙ derived-in (a .b) (a .end) (a .tail) (omega arith)
 
 returns-4 : tie.Need-returns-4
-returns-4 c = let a = c .before .before .before .args in divided-unknown (a .b) _ (a .tail) (omega arith) ∙ derived-in (a .b) (a .end) (a .tail) (omega arith)
+returns-4 c = let a = c .before .before .before .args in divided-unknown (a .b) _ (a .tail) (omega arith)
+    ∙ derived-in (a .b) (a .end) (a .tail) (omega arith)
 
 pub derived-spec : {M : Type 1} → statement M
 derived-spec =
