@@ -11,20 +11,17 @@ use Rattle.answer.specs.declared.Answer.{Answer}
 use Rattle.answer.specs.declared.Part.{Part}
 use Rattle.answer.specs.declared.Part.the-variants.{Header, Body}
 use Rattle.answer.specs.Table.{numberOf}
-use Rattle.wire.specs.declared.Carried.{Carried}
-use Rattle.wire.specs.declared.Reading.{Reading}
-use Rattle.wire.specs.declared.Reading.the-variants.{Read, Refused}
-use Rattle.wire.specs.Reading.{readingOf}
+use Rattle.cut.specs.Lists.{pick}
 use Rattle.cut.specs.Requirement.{Segment}
 use Rattle.cut.specs.Parts.{headersWith, bodiesWith}
-use Rattle.cut.specs.Lists.{pick, Bytes}
 use Rattle.collector.specs.declared.Located.{Located}
 use Rattle.collector.specs.State.{Start, Opened, Reply, State}
-use Rattle.collector.specs.Arrival.{segmentIn}
+use Rattle.collector.specs.Arrival.{Arrival}
 use Rattle.queries.specs.declared.Asked.{Asked}
 use Rattle.queries.specs.declared.Sought.{Sought}
 use Rattle.history.specs.State.{OfBytes}
 use Rattle.slots.specs.Stores.{Limits}
+use Rattle.history.specs.Handed.{Handed, HandedBytes, Brought, arrives, refused, broughtBy}
 
 -- a part of a finished object is asked for, what its header says, its name, or whose a name is
 pub data Question : Type 0 where
@@ -33,21 +30,21 @@ pub data Question : Type 0 where
   name : (number : ℕ) → Question
   find : (sought : List ℕ) → Question
 
--- a group is handed in, a number is dropped, a question is asked
+-- a group or a segment is handed in, a number is dropped, a question is asked
 pub data Call : Type 0 where
-  hand : (bytes : List ℕ) → Call
+  hand : (given : Handed) → Call
   drop : (number : ℕ) → Call
   ask : (question : Question) → Call
 
--- a group that is handed in is bytes, as all memory is
+-- what is handed in is bytes, as all memory is
 abbrev pub CallBytes : Call → Type 0
-CallBytes (hand bytes) = Bytes bytes
+CallBytes (hand given) = HandedBytes given
 CallBytes (drop number) = Unit {0}
 CallBytes (ask question) = Unit {0}
 
 -- the call is not under the number
 abbrev pub Elsewhere : ℕ → Call → Type 0
-Elsewhere number (hand bytes) = (carried : Carried) → readingOf bytes ≡ Read carried → number ≢ carried .number
+Elsewhere number (hand given) = (arrived : Arrival) → broughtBy given ≡ arrives arrived → number ≢ arrived .number
 Elsewhere number (drop other) = number ≢ other
 Elsewhere number (ask question) = Unit {0}
 
@@ -61,7 +58,7 @@ pub data Said : Type 0 where
 
 -- a call with what came back
 pub data Event : Type 0 where
-  handed : (bytes : List ℕ) (answer : Answer) → Event
+  handed : (given : Handed) (answer : Answer) → Event
   dropped : (number : ℕ) (answer : Answer) → Event
   asked : (question : Question) (said : Said) → Event
 
@@ -81,7 +78,7 @@ pub record Allowed (start : Start) : Type 0 where
 -- question is answered, and what a question leaves
 pub record Collecting : Type 0 where
   pub opens : Start → Opened
-  pub takes : List ℕ → State → Reply
+  pub takes : Handed → State → Reply
   pub drops : ℕ → State → Reply
   pub locates : ℕ → State → Located
   pub shows : ℕ → Part → State → List ℕ
@@ -98,12 +95,12 @@ says k (name number) s = named (k .tells number s) (k .names number s)
 says k (find sought) s = found (k .finds sought s)
 
 abbrev pub leaves : Collecting → Call → State → State
-leaves k (hand bytes) s = k .takes bytes s .left
+leaves k (hand given) s = k .takes given s .left
 leaves k (drop number) s = k .drops number s .left
 leaves k (ask question) s = k .asks question s
 
 abbrev pub event : Collecting → Call → State → Event
-event k (hand bytes) s = handed bytes (k .takes bytes s .answer)
+event k (hand given) s = handed given (k .takes given s .answer)
 event k (drop number) s = dropped number (k .drops number s .answer)
 event k (ask question) s = asked question (says k question s)
 
@@ -134,12 +131,12 @@ abbrev pub with : Part → Part → Segment → List Segment → List Segment
 with Header part s segments = headersWith part s segments
 with Body part s segments = bodiesWith part s segments
 
--- the segment of a group under the number, if its answer passes the test
-abbrev pub afterGroup : (Answer → Bool) → Part → ℕ → Reading → List ℕ → Answer → List Segment → List Segment
-afterGroup test part number (Refused why) bytes answer segments = segments
-afterGroup test part number (Read carried) bytes answer segments =
-    pick (eqb (carried .number) number)
-    (pick (test answer) (with part (carried .part) (segmentIn bytes carried) segments) segments) segments
+-- the segment that was brought under the number, if its answer passes the test
+abbrev pub afterHanded : (Answer → Bool) → Part → ℕ → Brought → Answer → List Segment → List Segment
+afterHanded test part number (refused why) answer segments = segments
+afterHanded test part number (arrives arrived) answer segments =
+    pick (eqb (arrived .number) number)
+    (pick (test answer) (with part (arrived .part) (arrived .segment) segments) segments) segments
 
 -- a drop of the number leaves none
 abbrev pub afterDrop : ℕ → ℕ → Answer → List Segment → List Segment
@@ -148,8 +145,8 @@ afterDrop number other answer segments = pick (eqb other number) (pick (isDroppe
 -- the segments of a part that came under a number since it was last dropped, with an answer that passes the test
 unfoldable pub under : (Answer → Bool) → Part → ℕ → List Event → List Segment
 under test part number [] = []
-under test part number (handed bytes answer ∷ events) =
-    afterGroup test part number (readingOf bytes) bytes answer (under test part number events)
+under test part number (handed given answer ∷ events) =
+    afterHanded test part number (broughtBy given) answer (under test part number events)
 under test part number (dropped other answer ∷ events) = afterDrop number other answer (under test part number events)
 under test part number (asked question said ∷ events) = under test part number events
 

@@ -1,3 +1,5 @@
+pub mod Handed
+pub mod Taking
 pub mod Held
 pub mod State
 pub mod History

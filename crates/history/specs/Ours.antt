@@ -1,14 +1,15 @@
 -- OUR COLLECTOR, of which the promises are proved: each piece is the collector's own definition. It stands apart from
 -- the same pieces that the laws speak of, so that a wrong piece here, a wrong collector, is refused at the promises
 -- themselves.
-use Rattle.collector.specs.Calls.{openWith, takeGroup, dropNumber, locate, show}
+use Rattle.collector.specs.Calls.{openWith, dropNumber, locate, show}
 use Rattle.queries.specs.Questions.{parameters, name, find}
 use Rattle.history.specs.History.{Collecting, asking}
+use Rattle.history.specs.Taking.{take}
 
 abbrev pub ours : Collecting
 ours = record {
   opens = openWith;
-  takes = takeGroup;
+  takes = take;
   drops = dropNumber;
   locates = locate;
   shows = show;

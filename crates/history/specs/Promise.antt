@@ -18,13 +18,12 @@ use Rattle.answer.specs.declared.Refusal.{Refusal}
 use Rattle.answer.specs.Table.{numberOf}
 use Rattle.counts.specs.declared.Counts.{Counts}
 use Rattle.counts.specs.Counted.{ceiling, noneYet, oneRepeated, oneRefused}
-use Rattle.wire.specs.declared.Carried.{Carried}
-use Rattle.wire.specs.declared.Reading.the-variants.{Read, Refused}
+use Rattle.wire.specs.declared.Reading.the-variants.{Refused}
 use Rattle.wire.specs.Reading.{readingOf}
+use Rattle.cut.specs.Lists.{pick, Each, Among}
 use Rattle.cut.specs.Requirement.{headerNumbers, bodyNumbers, Segment, Fits, Finished, joined}
 use Rattle.cut.specs.Decision.{both}
 use Rattle.cut.specs.Parts.{headersWith, bodiesWith}
-use Rattle.cut.specs.Lists.{pick, Each, Among, Bytes}
 use Rattle.header.specs.declared.Reading.{Reading}
 use Rattle.header.specs.Parameters.{readHeader}
 use Rattle.header.specs.Names.{nameData}
@@ -36,13 +35,14 @@ use Rattle.name_search.specs.Requirement.{Named}
 use Rattle.collector.specs.declared.Located.the-variants as Located
 use Rattle.collector.specs.declared.Opening.the-variants as Opening
 use Rattle.collector.specs.State.{Start, State, find, free, allFree}
-use Rattle.collector.specs.Arrival.{Arrival, segmentIn, arrivalIn, heardIn}
+use Rattle.collector.specs.Arrival.{Arrival, heardAs}
 use Rattle.queries.specs.declared.Asked.the-variants as Asked
 use Rattle.queries.specs.declared.Sought.the-variants as Sought
 use Rattle.queries.specs.Said.{askedAs}
 use Rattle.history.specs.Held.{Same, SlotFor, limitOf, slotOf, stageFor, markedUnder}
 use Rattle.history.specs.History.{Question, Call, CallBytes, Elsewhere, shown, read, named, found, Event, handed, dropped, asked, Within, Allowed, Collecting, after, reached, told, under, storedUnder}
 use Rattle.history.specs.State.{OfBytes, InOrder}
+use Rattle.history.specs.Handed.{Handed, group, HandedBytes, arrives, broughtBy}
 
 -- ---- the words
 
@@ -64,21 +64,18 @@ toldBy k r = told k (r .start) (r .calls)
 abbrev pub stored : Collecting → Run → Part → ℕ → List Segment
 stored k r part number = storedUnder part number (toldBy k r)
 
--- a group that passes the reading checks
+-- a group that passes the reading checks, or a segment by itself, with the segment that it brings
 pub record Passing : Type 0 where
-  pub bytes : List ℕ
-  pub areBytes : Bytes bytes
-  pub carried : Carried
-  pub read : readingOf bytes ≡ Read carried
-
-abbrev pub arrivalOf : Passing → Arrival
-arrivalOf g = arrivalIn (g .bytes) (g .carried)
+  pub given : Handed
+  pub areBytes : HandedBytes given
+  pub arrived : Arrival
+  pub brought : broughtBy given ≡ arrives arrived
 
 abbrev pub segmentOf : Passing → Segment
-segmentOf g = segmentIn (g .bytes) (g .carried)
+segmentOf g = g .arrived .segment
 
 abbrev pub heardOf : Passing → Heard
-heardOf g = heardIn (g .carried)
+heardOf g = heardAs (g .arrived)
 
 -- ---- what an answer is told by
 
@@ -96,19 +93,19 @@ since k r = record { state = reachedBy k r; limit = r .start .limit; kept = stor
 abbrev pub byMarks : State → View
 byMarks s = record { state = s; limit = limitOf s; kept = λ part number. markedUnder part number s }
 
--- what a group is answered
+-- what is answered to it
 abbrev pub answerTo : Collecting → View → Passing → Answer
-answerTo k v g = k .takes (g .bytes) (v .state) .answer
+answerTo k v g = k .takes (g .given) (v .state) .answer
 
 -- some object and cut send all that is stored under a number
 abbrev pub FitsStored : View → ℕ → Type 0
 FitsStored v number = Fits (v .limit) (v .kept Header number) (v .kept Body number)
 
--- ... and this group's segment, stored under its number
+-- ... and this segment, stored under its number
 abbrev pub FitsWith : View → Passing → Type 0
 FitsWith v g =
-    Fits (v .limit) (headersWith (g .carried .part) (segmentOf g) (v .kept Header (g .carried .number)))
-    (bodiesWith (g .carried .part) (segmentOf g) (v .kept Body (g .carried .number)))
+    Fits (v .limit) (headersWith (g .arrived .part) (segmentOf g) (v .kept Header (g .arrived .number)))
+    (bodiesWith (g .arrived .part) (segmentOf g) (v .kept Body (g .arrived .number)))
 
 -- some segment is missing, of every object and cut that fits
 abbrev pub Missing : View → ℕ → Type 0
@@ -116,7 +113,7 @@ Missing v number = (f : FitsStored v number) → ¬ (Finished f)
 
 -- the answer that came back is not STATE
 abbrev pub NotState : Event → Type 0
-NotState (handed bytes answer) = answer ≢ Answer.Denied Reason.State
+NotState (handed given answer) = answer ≢ Answer.Denied Reason.State
 NotState (dropped number answer) = answer ≢ Answer.Denied Reason.State
 NotState (asked question (shown located bytes)) = located ≢ Located.Denied Reason.State
 NotState (asked question (read fields)) = fields ≢ Asked.Denied Reason.State
@@ -129,10 +126,10 @@ NotState (asked question (found whose)) = whose ≢ Sought.Denied Reason.State
 abbrev pub between : ℕ → ℕ → Answer → Bool
 between low high answer = both (leb low (numberOf answer)) (leb (numberOf answer) high)
 
--- how many groups and drops were answered so
+-- how many groups, segments and drops were answered so
 unfoldable pub answersFrom : ℕ → ℕ → List Event → ℕ
 answersFrom low high [] = 0
-answersFrom low high (handed bytes answer ∷ events) =
+answersFrom low high (handed given answer ∷ events) =
     pick (between low high answer) (suc (answersFrom low high events)) (answersFrom low high events)
 answersFrom low high (dropped number answer ∷ events) =
     pick (between low high answer) (suc (answersFrom low high events)) (answersFrom low high events)
@@ -171,43 +168,43 @@ pub record Lowest (v : View) (sought : List ℕ) (number : ℕ) : Type 0 where
   pub lowest : (other : ℕ) (f : FitsStored v other) → Finished f → Named sought (f .header) → number ≤ other
 
 module _ (k : Collecting) (v : View) where
-  -- CONFLICT exactly when no object and cut send the group's segment and all that is stored under its number.
+  -- CONFLICT exactly when no object and cut send the segment and all that is stored under its number.
   abbrev pub ConflictBy : Type 0
   ConflictBy = (g : Passing) → (answerTo k v g ≡ Answer.Conflict (heardOf g)) ↔ (¬ (FitsWith v g))
 
   -- FULL exactly when it is no conflict, its number holds no slot and none is free.
   abbrev pub FullBy : Type 0
   FullBy = (g : Passing) → (answerTo k v g ≡ Answer.Full (heardOf g))
-      ↔ (FitsWith v g × (find (g .carried .number) (v .state) ≡ Nothing) × (free (v .state) ≡ Nothing))
+      ↔ (FitsWith v g × (find (g .arrived .number) (v .state) ≡ Nothing) × (free (v .state) ≡ Nothing))
 
   -- REPEAT exactly when the same segment is stored.
   abbrev pub RepeatBy : Type 0
   RepeatBy = (g : Passing) → (answerTo k v g ≡ Answer.Repeat (heardOf g))
-      ↔ Among (segmentOf g) (v .kept (g .carried .part) (g .carried .number))
+      ↔ Among (segmentOf g) (v .kept (g .arrived .part) (g .arrived .number))
 
   -- COMPLETE exactly when with it every segment is in, before it not, and a slot is there.
   abbrev pub CompleteBy : Type 0
   CompleteBy = (g : Passing) → (answerTo k v g ≡ Answer.Complete (heardOf g))
-      ↔ (((f : FitsWith v g) × Finished f) × Missing v (g .carried .number) × SlotFor (g .carried .number) (v .state))
+      ↔ (((f : FitsWith v g) × Finished f) × Missing v (g .arrived .number) × SlotFor (g .arrived .number) (v .state))
 
   -- STORED exactly when it is new and fits, with it some segment is still missing, and a slot is there.
   abbrev pub StoredBy : Type 0
   StoredBy = (g : Passing) → (answerTo k v g ≡ Answer.Stored (heardOf g))
       ↔ (((f : FitsWith v g) × (¬ (Finished f)))
-      × (¬ (Among (segmentOf g) (v .kept (g .carried .part) (g .carried .number))))
-      × SlotFor (g .carried .number) (v .state))
+      × (¬ (Among (segmentOf g) (v .kept (g .arrived .part) (g .arrived .number))))
+      × SlotFor (g .arrived .number) (v .state))
 
   -- A number that holds no slot takes the lowest free one: with STORED or COMPLETE it holds slot i, which was free,
   -- and no slot below i was.
   abbrev pub LowestFreeBy : Type 0
-  LowestFreeBy = (g : Passing) → find (g .carried .number) (v .state) ≡ Nothing → numberOf (answerTo k v g) ≤ 1
-      → (i : ℕ) × (find (g .carried .number) (k .takes (g .bytes) (v .state) .left) ≡ At i)
+  LowestFreeBy = (g : Passing) → find (g .arrived .number) (v .state) ≡ Nothing → numberOf (answerTo k v g) ≤ 1
+      → (i : ℕ) × (find (g .arrived .number) (k .takes (g .given) (v .state) .left) ≡ At i)
       × (isFree (slotOf i (v .state)) ≡ true) × ((j : ℕ) → j < i → isFree (slotOf j (v .state)) ≡ false)
 
   -- A group that does not pass the reading checks is answered with the first that it fails.
   abbrev pub UnreadBy : Type 0
   UnreadBy = (bytes : List ℕ) (why : Refusal) → readingOf bytes ≡ Refused why
-      → k .takes bytes (v .state) .answer ≡ Answer.Refused why
+      → k .takes (group bytes) (v .state) .answer ≡ Answer.Refused why
 
   -- A drop: DROPPED exactly when the number holds a slot, NOTHELD exactly when not.
   abbrev pub DropBy : Type 0
@@ -296,29 +293,30 @@ pub record AnsweredBy (k : Collecting) (v : View) : Type 0 where
 -- ---- the promises, of any collector
 
 module _ (k : Collecting) where
-  -- Demand 1. A refused group, 10 to 18, in any state: one more is refused, and every other count, every store byte,
+  -- Demand 1. A refused group or segment, 10 to 18, in any state: one more is refused, and every other count, every
+  -- store byte,
   -- every mark and every slot's record stay.
   abbrev pub RefusedLeaves : Type 0
-  RefusedLeaves = (bytes : List ℕ) (s : State) → 10 ≤ numberOf (k .takes bytes s .answer)
-      → numberOf (k .takes bytes s .answer) ≤ 18
-      → k .takes bytes s .left ≡ record
+  RefusedLeaves = (given : Handed) (s : State) → 10 ≤ numberOf (k .takes given s .answer)
+      → numberOf (k .takes given s .answer) ≤ 18
+      → k .takes given s .left ≡ record
       { collector = s .collector; counts = oneRefused (s .counts); stores = s .stores }
 
-  -- A group that is answered 19 to 26 changes nothing, the counts neither.
+  -- A group or a segment that is answered 19 to 26 changes nothing, the counts neither.
   abbrev pub UnansweredLeaves : Type 0
-  UnansweredLeaves = (bytes : List ℕ) (s : State) → 19 ≤ numberOf (k .takes bytes s .answer)
-      → k .takes bytes s .left ≡ s
+  UnansweredLeaves = (given : Handed) (s : State) → 19 ≤ numberOf (k .takes given s .answer)
+      → k .takes given s .left ≡ s
 
   -- A repeat: one more is repeated, and nothing else changes.
   abbrev pub RepeatLeaves : Type 0
-  RepeatLeaves = (bytes : List ℕ) (s : State) (heard : Heard) → k .takes bytes s .answer ≡ Answer.Repeat heard
-      → k .takes bytes s .left ≡ record
+  RepeatLeaves = (given : Handed) (s : State) (heard : Heard) → k .takes given s .answer ≡ Answer.Repeat heard
+      → k .takes given s .left ≡ record
       { collector = s .collector; counts = oneRepeated (s .counts); stores = s .stores }
 
   -- STATE exactly when the state is damaged: document 01's list.
   abbrev pub StateExactly : Type 0
-  StateExactly = (bytes : List ℕ) (s : State) → OfBytes (s .stores)
-      → (k .takes bytes s .answer ≡ Answer.Denied Reason.State)
+  StateExactly = (given : Handed) (s : State) → OfBytes (s .stores)
+      → (k .takes given s .answer ≡ Answer.Denied Reason.State)
       ↔ (¬ (InOrder s))
 
   -- Any other state is answered as if its marked segments had been stored.
@@ -468,7 +466,7 @@ module _ (k : Collecting) where
   -- that cut conflicts, in any order, repeated, mixed with any other calls.
   abbrev pub OneCutAgrees : Type 0
   OneCutAgrees = (r : Run) (object : Source (r .start .limit)) (number : ℕ) → StoredFrom object number (since k r)
-      → (g : Passing) → g .carried .number ≡ number → SentBy object (g .carried .part) (segmentOf g)
+      → (g : Passing) → g .arrived .number ≡ number → SentBy object (g .arrived .part) (segmentOf g)
       → answerTo k (since k r) g ≢ Answer.Conflict (heardOf g)
 
   -- Once all its segments have come, each with a slot there, it is finished and shown with that header and that body.

@@ -7,6 +7,7 @@ use lib.ListN.{length}
 use Rattle.answer.specs.declared.Part.the-variants.{Header, Body}
 use Rattle.slots.specs.Stores.{Stores}
 use Rattle.collector.specs.State.{State, Start}
+use Rattle.history.specs.Handed.{Handed}
 use Rattle.history.specs.History.{Question, Call, hand, ask, reached}
 use Rattle.history.specs.Ours.{ours}
 use Rattle.layout.specs.Layout.{countsFrom, collectorFrom, wordsOf, countWords}
@@ -70,7 +71,7 @@ abbrev pub asStart : ℕ → ℕ → Lent → Start
 asStart limit slots l = record { limit = limit; count = slots; counts = countsFrom (l .counts); stores = l .stores }
 
 abbrev pub asCall : HeadCall → Call
-asCall (take group) = hand group
+asCall (take group) = hand (Handed.group group)
 asCall (drop number) = Call.drop number
 asCall (finished number place) = ask (Question.show number Header)
 asCall (read number told) = ask (Question.parameters number)
@@ -86,7 +87,7 @@ reachedBy limit slots l calls = reached ours (asStart limit slots l) (asCalls ca
 
 -- what our collector answers there, in words
 abbrev pub inWords : HeadCall → State → Told
-inWords (take group) s = record { result = answerWord (ours .takes group s .answer); told = [] }
+inWords (take group) s = record { result = answerWord (ours .takes (Handed.group group) s .answer); told = [] }
 inWords (drop number) s = record { result = answerWord (ours .drops number s .answer); told = [] }
 inWords (finished number place) s = placeTold (ours .locates number s) (s .collector) place
 inWords (read number told) s = fieldsTold (ours .tells number s) told

@@ -1,8 +1,9 @@
 -- What a call can come to, case by case: the words in which all theorems here speak of the collector's own definitions.
-use mathlib.Core.Path.{_≡_, refl}
+use mathlib.Core.Path.{_≡_, refl, subst}
 use mathlib.Core.Bool.{Bool, true, false}
 use mathlib.Core.List.{List, append-assoc}
 use Prim.Native.Nat.{ℕ, _+_, _*_, _≤_}
+use native.Mathlib.Omega.{arith}
 use lib.ListN.{length, drop, set, take-append-drop}
 use lib.Seq.{drop-drop}
 use Rattle.octets.specs.Octets.{over, zeros, share}
@@ -13,6 +14,7 @@ use Rattle.answer.specs.declared.Reason.the-variants as Reason
 use Rattle.answer.specs.declared.Refusal.{Refusal}
 use Rattle.counts.specs.Counted.{noneYet, counted}
 use Rattle.wire.specs.declared.Carried.{Carried}
+use Rattle.wire.specs.declared.Reading.{Reading}
 use Rattle.wire.specs.declared.Reading.the-variants.{Read, Refused}
 use Rattle.wire.specs.Reading.{readingOf}
 use Rattle.cut.specs.Requirement.{headerMost}
@@ -27,16 +29,19 @@ use Rattle.slots.specs.Take.{Inside, takeAt, takeNew, dropAt}
 use Rattle.collector.specs.State.{State, Reply, Start, state, find, free, allFree}
 use Rattle.collector.specs.Calls.{answerAs, intoFree, ifAlone, intoHeld, takeSegment, takeGroup, dropNumber, inLimits, openWith, locate, sound, answering, withSlots}
 use Rattle.collector.specs.Arrival.{Arrival, heardAs, arrivalIn}
+use Rattle.history.specs.Handed.{Handed, group, segment, arrives, refused, broughtIn, broughtBy}
+use Rattle.history.specs.History.{Collecting, asking}
 use Rattle.history.specs.Held.{limitOf, slotOf, lentOf}
+use Rattle.history.specs.Taking.{take}
 use Rattle.collector.specs.Calls as calls
 use Rattle.queries.specs.Questions as queries
 
--- what a group is answered, and what it leaves
-abbrev pub groupAnswer : List ℕ → State → Answer
-groupAnswer group s = takeGroup group s .answer
+-- what is answered to what is handed in, and what it leaves
+abbrev pub handedAnswer : Handed → State → Answer
+handedAnswer given s = take given s .answer
 
-abbrev pub groupLeaves : List ℕ → State → State
-groupLeaves group s = takeGroup group s .left
+abbrev pub handedLeaves : Handed → State → State
+handedLeaves given s = take given s .left
 
 -- and a drop
 abbrev pub dropAnswer : ℕ → State → Answer
@@ -106,21 +111,52 @@ module _ (arrived : Arrival) (s : State) where
   unfolding takeSegment
   segment-came good = rw good (came-held arrived s (find (arrived .number) s) refl)
 
--- and by a group
-module _ (group : List ℕ) (s : State) where
-  pub group-damaged : sound s ≡ false → takeGroup group s ≡ answering (Answer.Denied Reason.State) s
+-- by a group
+module _ (bytes : List ℕ) (s : State) where
+  group-damaged : sound s ≡ false → takeGroup bytes s ≡ answering (Answer.Denied Reason.State) s
   unfolding takeGroup
   group-damaged d = rw d refl
 
   module _ (good : sound s ≡ true) where
-    pub unread : (why : Refusal) → readingOf group ≡ Refused why → takeGroup group s ≡ answering (Answer.Refused why) s
+    group-unread : (why : Refusal) → readingOf bytes ≡ Refused why
+        → takeGroup bytes s ≡ answering (Answer.Refused why) s
     unfolding takeGroup
-    unread why e = rw (good, e) refl
+    group-unread why e = rw (good, e) refl
 
-    pub came : (carried : Carried) → readingOf group ≡ Read carried
-        → Came (arrivalIn group carried) s (takeGroup group s)
+    group-came : (carried : Carried) → readingOf bytes ≡ Read carried
+        → Came (arrivalIn bytes carried) s (takeGroup bytes s)
     unfolding takeGroup
-    came carried e = rw (good, e) (segment-came (arrivalIn group carried) s good)
+    group-came carried e = rw (good, e) (segment-came (arrivalIn bytes carried) s good)
+
+-- whatever is handed in
+pub handed-damaged : (given : Handed) (s : State) → sound s ≡ false
+    → take given s ≡ answering (Answer.Denied Reason.State) s
+handed-damaged (group bytes) s d = group-damaged bytes s d
+handed-damaged (segment arrived) s d = segment-damaged arrived s d
+
+pub unread : (given : Handed) (s : State) → sound s ≡ true → (why : Refusal) → broughtBy given ≡ refused why
+    → take given s ≡ answering (Answer.Refused why) s
+unread (group bytes) s good why e = go (readingOf bytes) refl e
+  where
+    go : (reading : Reading) → readingOf bytes ≡ reading → broughtIn reading bytes ≡ refused why
+        → takeGroup bytes s ≡ answering (Answer.Refused why) s
+    go (Refused other) r f = let same : other ≡ why = cc in rw same at (group-unread bytes s good other r)
+    go (Read carried) r f = let z : _≡_ {A = ℕ} 0 1 = cc in absurd (omega arith)
+unread (segment arrived) s good why e = let z : _≡_ {A = ℕ} 0 1 = cc in absurd (omega arith)
+
+pub came : (given : Handed) (s : State) → sound s ≡ true → (arrived : Arrival) → broughtBy given ≡ arrives arrived
+    → Came arrived s (take given s)
+came (group bytes) s good arrived e = go (readingOf bytes) refl e
+  where
+    go : (reading : Reading) → readingOf bytes ≡ reading → broughtIn reading bytes ≡ arrives arrived
+        → Came arrived s (takeGroup bytes s)
+    go (Refused why) r f = let z : _≡_ {A = ℕ} 0 1 = cc in absurd (omega arith)
+    go (Read carried) r f =
+        let same : arrivalIn bytes carried ≡ arrived = cc in
+        subst (λ (a : Arrival). Came a s (takeGroup bytes s)) same (group-came bytes s good carried r)
+came (segment other) s good arrived e =
+    let same : other ≡ arrived = cc in
+    subst (λ (a : Arrival). Came a s (takeSegment other s)) same (segment-came other s good)
 
 -- ---- a drop
 
@@ -197,7 +233,7 @@ opened-none start e = rw e refl
 abbrev pub defined : Collecting
 defined = record {
   opens = openWith;
-  takes = takeGroup;
+  takes = take;
   drops = dropNumber;
   locates = locate;
   shows = calls.show;

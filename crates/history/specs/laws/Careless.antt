@@ -33,6 +33,7 @@ use Rattle.collector.specs.Arrival.{segmentIn, arrivalIn}
 use Rattle.queries.specs.Questions as queries
 use Rattle.queries.specs.declared.Sought.{Sought}
 use Rattle.queries.specs.declared.Sought.the-variants as Sought
+use Rattle.history.specs.Handed.{group}
 use Rattle.history.specs.Held.{limitOf}
 use Rattle.history.specs.laws.State.{in-order-exactly}
 use Rattle.history.specs.History.{Collecting, Within}
@@ -275,7 +276,7 @@ pub repeat-taken-breaks : ¬ (RepeatLeaves (takingBy repeatTaken))
 unfolding computing small groupFive
 repeat-taken-breaks p =
     let s : State = reachedBy defined one in
-    let e : _≡_ {A = ℕ} 2 1 = ap (λ (t : State). t .counts .taken) (p five s (heardOf groupFive) refl) in
+    let e : _≡_ {A = ℕ} 2 1 = ap (λ (t : State). t .counts .taken) (p (group five) s (heardOf groupFive) refl) in
     absurd (omega arith)
 
 -- its bytes are written once more, at its number times its own length
@@ -302,7 +303,7 @@ unfolding computing small groupLast
 repeat-written-breaks p =
     let s : State = reachedBy defined many in
     let e : _≡_ {A = ℕ} 0x74 0x65 =
-    ap (λ (t : State). getD (t .stores .body) 4 0) (p bodyLast s (heardOf groupLast) refl) in
+    ap (λ (t : State). getD (t .stores .body) 4 0) (p (group bodyLast) s (heardOf groupLast) refl) in
     absurd (omega arith)
 
 -- ---- in a damaged state
@@ -321,7 +322,7 @@ takesUncounted bytes s =
 pub takes-uncounted-breaks : ¬ (StateExactly (takingBy takesUncounted))
 unfolding computing small
 takes-uncounted-breaks p =
-    let e : _≡_ {A = ℕ} 2 26 = ap numberOf (p five damaged (recounted-bytes one) .1 is-damaged) in
+    let e : _≡_ {A = ℕ} 2 26 = ap numberOf (p (group five) damaged (recounted-bytes one) .1 is-damaged) in
     absurd (omega arith)
 
 -- STATE where more objects were completed than segments taken
@@ -331,7 +332,7 @@ takesDoubting bytes s =
 
 pub takes-doubting-breaks : ¬ (StateExactly (takingBy takesDoubting))
 unfolding computing small
-takes-doubting-breaks p = p five doubted (recounted-bytes one) .0 refl (recounted one uneven refl)
+takes-doubting-breaks p = p (group five) doubted (recounted-bytes one) .0 refl (recounted one uneven refl)
 
 -- a drop is carried out in any state
 abbrev pub dropsDamaged : ℕ → State → Reply
@@ -361,7 +362,7 @@ countsState bytes s =
 pub counts-state-breaks : ¬ (UnansweredLeaves (takingBy countsState))
 unfolding computing small
 counts-state-breaks p =
-    let e : _≡_ {A = ℕ} 1 0 = ap (λ (t : State). t .counts .refused) (p five damaged (omega arith)) in
+    let e : _≡_ {A = ℕ} 1 0 = ap (λ (t : State). t .counts .refused) (p (group five) damaged (omega arith)) in
     absurd (omega arith)
 
 -- STATE, and the collector is as after an opening
@@ -378,7 +379,7 @@ startsAnew bytes s = pick (sound s) (takeGroup bytes s) (record { answer = Answe
 pub starts-anew-breaks : ¬ (UnansweredLeaves (takingBy startsAnew))
 unfolding computing small
 starts-anew-breaks p =
-    let e : _≡_ {A = ℕ} 0 (suc ceiling) = ap (λ (t : State). t .counts .taken) (p five damaged (omega arith)) in
+    let e : _≡_ {A = ℕ} 0 (suc ceiling) = ap (λ (t : State). t .counts .taken) (p (group five) damaged (omega arith)) in
     absurd (omega arith)
 
 -- so to a drop

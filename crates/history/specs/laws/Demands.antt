@@ -19,12 +19,15 @@ use Rattle.object.specs.declared.Outcome.the-variants.{Stored, Complete, Repeat
 use Rattle.slots.specs.declared.Found.{Found}
 use Rattle.slots.specs.declared.Found.the-variants.{Nothing, At}
 use Rattle.collector.specs.State.{Start, Reply, State, find}
-use Rattle.collector.specs.Calls.{answerAs, show, takeGroup}
+use Rattle.collector.specs.Calls.{answerAs, show}
 use Rattle.history.specs.Held.{Same, limitOf, stageFor, markedUnder}
 use Rattle.history.specs.laws.Call.{dropAnswer, unread, came, none-dropped, found-dropped, defined}
 use Rattle.history.specs.laws.Ready.{used-inside, found-used}
-use Rattle.history.specs.laws.Sound.{Intact, segment-bytes, group-intact}
-use Rattle.history.specs.laws.State.{in-order-exactly, group-never, drop-never, located-never, told-never, found-never}
+use Rattle.history.specs.laws.Sound.{Intact, brought-bytes, handed-intact}
+use Rattle.history.specs.laws.State.{in-order-exactly, drop-never, located-never, told-never, found-never, handed-never}
+use Rattle.wire.specs.declared.Reading.{Reading}
+use Rattle.history.specs.Handed.{broughtIn, group}
+use Rattle.history.specs.State.{OfBytes, InOrder}
 use Rattle.history.specs.laws.Others.{same-shown}
 use Rattle.history.specs.History.{Question, Call, hand, drop, ask, CallBytes, Elsewhere, event, after, Allowed, reached, told}
 use Rattle.history.specs.laws.Stands.{StandsFor, came-lowest}
@@ -33,8 +36,8 @@ use Rattle.history.specs.laws.Answers.{Meets, Room, came-exactly, came-f
 use Rattle.history.specs.laws.Stage.{all-finished, finished-all, finished-shown, unfinished-shown}
 use Rattle.history.specs.laws.Told.{not-held, unfinished, located-exactly, read-exactly, name-finished, name-missing, found-exactly, nobody-exactly}
 use Rattle.history.specs.laws.Room.{unheld-exactly}
-use Rattle.history.specs.Promise.{Run, reachedBy, stored, Passing, arrivalOf, segmentOf, heardOf, View, since, byMarks, answerTo, FitsStored, NotState, ConflictBy, FullBy, RepeatBy, CompleteBy, StoredBy, LowestFreeBy, UnreadBy, DropBy, UnheldBy, NotHeldBy, UnfinishedBy, LocatedBy, ShownBy, UnshownBy, ReadBy, NamedBy, FoundBy, NotFoundBy, AnsweredBy}
-use Rattle.history.specs.State.{OfBytes, InOrder}
+use Rattle.history.specs.Promise.{Run, reachedBy, stored, Passing, segmentOf, heardOf, View, since, byMarks, answerTo, FitsStored, NotState, ConflictBy, FullBy, RepeatBy, CompleteBy, StoredBy, LowestFreeBy, UnreadBy, DropBy, UnheldBy, NotHeldBy, UnfinishedBy, LocatedBy, ShownBy, UnshownBy, ReadBy, NamedBy, FoundBy, NotFoundBy, AnsweredBy}
+use Rattle.history.specs.Taking.{take}
 
 -- ---- by what is stored
 
@@ -51,19 +54,21 @@ module _ (s : State) (kept : Part → ℕ → List Segment) (whole : Intact s)
   -- ---- a group that passes the reading checks
 
   exactly : (g : Passing) (o : Outcome) → (answerTo defined (holding s kept) g ≡ answerAs o (heardOf g))
-      ↔ (Meets o (g .carried .part) (limitOf s) (segmentOf g) (kept Header (g .carried .number))
-      (kept Body (g .carried .number)) × Room o (g .carried .number) s)
-  exactly g o = came-exactly (arrivalOf g) s (kept Header (g .carried .number)) (kept Body (g .carried .number))
-      (segment-bytes (g .bytes) (g .carried) (g .areBytes)) whole (stands (g .carried .number)) (takeGroup (g .bytes) s)
-      (came (g .bytes) s (whole .undamaged) (g .carried) (g .read)) o
+      ↔ (Meets o (g .arrived .part) (limitOf s) (segmentOf g) (kept Header (g .arrived .number))
+      (kept Body (g .arrived .number)) × Room o (g .arrived .number) s)
+  exactly g o = came-exactly (g .arrived) s (kept Header (g .arrived .number)) (kept Body (g .arrived .number))
+      (brought-bytes (g .given) (g .arrived) (g .areBytes) (g .brought)) whole (stands (g .arrived .number))
+      (take (g .given) s)
+      (came (g .given) s (whole .undamaged) (g .arrived) (g .brought)) o
 
   conflict-by : ConflictBy defined (holding s kept)
   conflict-by g = (λ e. exactly g Conflict .0 e .0, λ n. exactly g Conflict .1 (n, tt))
 
   full-by : FullBy defined (holding s kept)
-  full-by g = came-full (arrivalOf g) s (kept Header (g .carried .number)) (kept Body (g .carried .number))
-      (segment-bytes (g .bytes) (g .carried) (g .areBytes)) whole (stands (g .carried .number)) (takeGroup (g .bytes) s)
-      (came (g .bytes) s (whole .undamaged) (g .carried) (g .read))
+  full-by g = came-full (g .arrived) s (kept Header (g .arrived .number)) (kept Body (g .arrived .number))
+      (brought-bytes (g .given) (g .arrived) (g .areBytes) (g .brought)) whole (stands (g .arrived .number))
+      (take (g .given) s)
+      (came (g .given) s (whole .undamaged) (g .arrived) (g .brought))
 
   repeat-by : RepeatBy defined (holding s kept)
   repeat-by g = (λ e. rw these at (exactly g Repeat .0 e .0), λ i. exactly g Repeat .1 (rw these i, tt))
@@ -82,14 +87,17 @@ module _ (s : State) (kept : Part → ℕ → List Segment) (whole : Intact s)
   )
 
   lowest-by : LowestFreeBy defined (holding s kept)
-  lowest-by g none h = came-lowest (arrivalOf g) s (takeGroup (g .bytes) s)
-      (segment-bytes (g .bytes) (g .carried) (g .areBytes)) whole (group-intact (g .bytes) s (g .areBytes) whole)
-      (came (g .bytes) s (whole .undamaged) (g .carried) (g .read)) none h
+  lowest-by g none h = came-lowest (g .arrived) s (take (g .given) s)
+      (brought-bytes (g .given) (g .arrived) (g .areBytes) (g .brought)) whole
+      (handed-intact (g .given) s (g .areBytes) whole)
+      (came (g .given) s (whole .undamaged) (g .arrived) (g .brought)) none h
 
   -- ---- one that does not, and a drop
 
   unread-by : UnreadBy defined (holding s kept)
-  unread-by bytes why e = ap (λ (t : Reply). t .answer) (unread bytes s (whole .undamaged) why e)
+  unread-by bytes why e =
+      ap (λ (t : Reply). t .answer)
+      (unread (group bytes) s (whole .undamaged) why (ap (λ (r : Reading). broughtIn r bytes) e))
 
   drop-by : DropBy defined (holding s kept)
   drop-by number = go (find number s) refl
@@ -190,7 +198,7 @@ marked-answered s y w =
 -- ---- no state so reached meets STATE
 
 event-not-state : (call : Call) (s : State) → Intact s → NotState (event defined call s)
-event-not-state (hand bytes) s whole = group-never bytes s (whole .undamaged)
+event-not-state (hand given) s whole = handed-never given s (whole .undamaged)
 event-not-state (drop number) s whole = drop-never number s (whole .undamaged)
 event-not-state (ask (Question.show number part)) s whole = located-never number s (whole .undamaged)
 event-not-state (ask (Question.parameters number)) s whole = told-never number s (whole .undamaged)

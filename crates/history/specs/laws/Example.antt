@@ -22,6 +22,7 @@ use Rattle.collector.specs.declared.Located.the-variants as Located
 use Rattle.queries.specs.declared.Asked.the-variants as Asked
 use Rattle.queries.specs.declared.Sought.the-variants as Sought
 use Rattle.collector.specs.Calls.{show}
+use Rattle.history.specs.Handed.{group}
 use Rattle.history.specs.History.{Question, Call, hand, drop, ask, CallBytes, shown, read, named, found, handed, dropped, asked, told}
 use Rattle.history.specs.Ours.{ours}
 use Rattle.history.specs.Held.{stageFor}
@@ -39,13 +40,13 @@ calls =
     ∷ ask (Question.name 5)
     ∷ ask (Question.parameters 5)
     ∷ ask (Question.show 5 Body)
-    ∷ hand (0 ∷ [])
-    ∷ hand bodyLast
-    ∷ hand bodyFirst
-    ∷ hand bodyNotLast
-    ∷ hand otherNumber
-    ∷ hand header
-    ∷ hand bodyLast
+    ∷ hand (group (0 ∷ []))
+    ∷ hand (group bodyLast)
+    ∷ hand (group bodyFirst)
+    ∷ hand (group bodyNotLast)
+    ∷ hand (group otherNumber)
+    ∷ hand (group header)
+    ∷ hand (group bodyLast)
     ∷ []
 
 pub of-bytes : Each CallBytes calls
@@ -102,13 +103,13 @@ pub answers : told ours small calls
     ∷ asked (Question.show 5 Body) (shown (Located.At 0)
     (0x61 ∷ 0x62 ∷ 0x63 ∷ 0x64 ∷ 0x65 ∷ 0x66 ∷ 0x67 ∷ 0x68 ∷ 0x69 ∷ 0x6A ∷ 0x6B ∷ 0x6C ∷ 0x6D ∷ 0x6E ∷ 0x6F ∷ 0x70
     ∷ 0x74 ∷ 0x75 ∷ 0x76 ∷ 0x77 ∷ []))
-    ∷ handed (0 ∷ []) (Answer.Refused Refusal.Length)
-    ∷ handed bodyLast (Answer.Repeat (inBody 1))
-    ∷ handed bodyFirst (Answer.Complete (inBody 0))
-    ∷ handed bodyNotLast (Answer.Conflict (inBody 1))
-    ∷ handed otherNumber (Answer.Full (inHeader 6))
-    ∷ handed header (Answer.Stored (inHeader 5))
-    ∷ handed bodyLast (Answer.Stored (inBody 1))
+    ∷ handed (group (0 ∷ [])) (Answer.Refused Refusal.Length)
+    ∷ handed (group bodyLast) (Answer.Repeat (inBody 1))
+    ∷ handed (group bodyFirst) (Answer.Complete (inBody 0))
+    ∷ handed (group bodyNotLast) (Answer.Conflict (inBody 1))
+    ∷ handed (group otherNumber) (Answer.Full (inHeader 6))
+    ∷ handed (group header) (Answer.Stored (inHeader 5))
+    ∷ handed (group bodyLast) (Answer.Stored (inBody 1))
     ∷ []
 unfolding computing small
 answers = refl

@@ -10,15 +10,15 @@ use Rattle.wire.specs.declared.Reading.the-variants.{Read, Refused}
 use Rattle.wire.specs.Wire.{byteAt, userAccess}
 use Rattle.wire.specs.Reading.{segmentOf, readingOf}
 use Rattle.wire.specs.laws.Theorems.{read-passes}
-use Rattle.cut.specs.Requirement.{Segment}
 use Rattle.cut.specs.Lists.{Each, Bytes}
 use Rattle.object.specs.declared.Slot.{Slot}
 use Rattle.slots.specs.declared.Found.{Found}
 use Rattle.slots.specs.declared.Found.the-variants.{Nothing, At}
 use Rattle.slots.specs.Stores.{slotsMost, freeSlot, freshSlot, slotAt}
 use Rattle.collector.specs.State.{Start, Reply, State, find}
-use Rattle.collector.specs.Calls.{dropNumber, takeGroup}
+use Rattle.collector.specs.Calls.{dropNumber}
 use Rattle.collector.specs.Arrival.{Arrival, arrivalIn}
+use Rattle.history.specs.Handed.{Handed, HandedBytes, Brought, arrives, refused, broughtIn, broughtBy, group, segment}
 use Rattle.history.specs.Held.{lentOf, limitOf, slotOf}
 use Rattle.history.specs.laws.Call.{Came, alone, full, first, more, unread, came, none-dropped, found-dropped, defined}
 use Rattle.history.specs.laws.Ready.{used-inside, found-used}
@@ -26,6 +26,7 @@ use Rattle.history.specs.laws.Taken.{taken-number}
 use Rattle.history.specs.laws.Sound.{Intact}
 use Rattle.history.specs.History.{Call, hand, drop, ask, CallBytes, leaves, Allowed, reached}
 use Rattle.history.specs.laws.Reached.{start-is, reached-intact}
+use Rattle.history.specs.Taking.{take}
 
 -- a number of 16 bits
 abbrev pub Sixteen : ℕ → Type 0
@@ -39,14 +40,28 @@ byte-low (x ∷ l) (suc i) y = byte-low l i (y .1)
 word-low : (a b : ℕ) → a < 256 → b < 256 → a * 256 + b < 65536
 word-low a b h g = omega arith
 
-carried-low : (group : List ℕ) (carried : Carried) → Bytes group → readingOf group ≡ Read carried
+carried-low : (bytes : List ℕ) (carried : Carried) → Bytes bytes → readingOf bytes ≡ Read carried
     → Sixteen (carried .number)
 unfolding segmentOf
-carried-low group carried y e =
-    let r = read-passes group carried e in
+carried-low bytes carried y e =
+    let r = read-passes bytes carried e in
     subst (λ (c : Carried). Sixteen (c .number)) (r .2)
-    (word-low (byteAt group (userAccess group + 1)) (byteAt group (userAccess group + 1 + 1))
-    (byte-low group (userAccess group + 1) y) (byte-low group (userAccess group + 1 + 1) y))
+    (word-low (byteAt bytes (userAccess bytes + 1)) (byteAt bytes (userAccess bytes + 1 + 1))
+    (byte-low bytes (userAccess bytes + 1) y) (byte-low bytes (userAccess bytes + 1 + 1) y))
+
+brought-low : (given : Handed) (arrived : Arrival) → HandedBytes given → broughtBy given ≡ arrives arrived
+    → Sixteen (arrived .number)
+brought-low (group bytes) arrived y e = go (readingOf bytes) refl e
+  where
+    go : (reading : Reading) → readingOf bytes ≡ reading → broughtIn reading bytes ≡ arrives arrived
+        → Sixteen (arrived .number)
+    go (Refused why) r f = let z : _≡_ {A = ℕ} 0 1 = cc in absurd (omega arith)
+    go (Read carried) r f =
+        let same : arrivalIn bytes carried ≡ arrived = cc in
+        subst (λ (a : Arrival). Sixteen (a .number)) same (carried-low bytes carried y r)
+brought-low (segment other) arrived y e =
+    let same : other ≡ arrived = cc in
+    subst (λ (a : Arrival). Sixteen (a .number)) same (y .1)
 
 -- one slot is replaced
 set-low : (slots : List Slot) (i : ℕ) (slot : Slot) → Sixteen (slot .number)
@@ -81,13 +96,13 @@ module _ (s : State) (low : (j : ℕ) → Sixteen (slotOf j s .number)) where
 
   leaves-low : (call : Call) → CallBytes call → Intact s → (j : ℕ) → Sixteen (slotOf j (leaves defined call s) .number)
   unfolding freeSlot
-  leaves-low (hand bytes) y whole = go (readingOf bytes) refl
+  leaves-low (hand given) y whole = go (broughtBy given) refl
     where
-      go : (reading : Reading) → readingOf bytes ≡ reading → (j : ℕ)
-          → Sixteen (slotOf j (takeGroup bytes s .left) .number)
-      go (Refused why) e = rw (unread bytes s (whole .undamaged) why e) low
-      go (Read arrived) e = came-low (arrivalIn bytes arrived) (takeGroup bytes s) (carried-low bytes arrived y e)
-          (came bytes s (whole .undamaged) arrived e)
+      go : (brought : Brought) → broughtBy given ≡ brought → (j : ℕ)
+          → Sixteen (slotOf j (take given s .left) .number)
+      go (refused why) e = rw (unread given s (whole .undamaged) why e) low
+      go (arrives arrived) e = came-low arrived (take given s) (brought-low given arrived y e)
+          (came given s (whole .undamaged) arrived e)
   leaves-low (drop number) y whole = go (find number s) refl
     where
       go : (found : Found) → find number s ≡ found → (j : ℕ) → Sixteen (slotOf j (dropNumber number s .left) .number)

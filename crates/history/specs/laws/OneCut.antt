@@ -14,28 +14,26 @@ use Rattle.answer.specs.declared.Heard.{Heard}
 use Rattle.answer.specs.declared.Answer.the-variants as Answer
 use Rattle.answer.specs.declared.Part.{Part}
 use Rattle.answer.specs.declared.Part.the-variants.{Header, Body}
-use Rattle.wire.specs.declared.Carried.{Carried}
-use Rattle.wire.specs.declared.Reading.{Reading}
-use Rattle.wire.specs.declared.Reading.the-variants.{Read, Refused}
-use Rattle.wire.specs.Reading.{readingOf}
+use Rattle.cut.specs.Lists.{pick, Each, Among}
 use Rattle.cut.specs.Requirement.{Segment, Fits, Finished}
 use Rattle.cut.specs.Parts.{headersWith, bodiesWith}
-use Rattle.cut.specs.Lists.{pick, Each, Among, Bytes}
 use Rattle.object.specs.declared.Stage.the-variants as Stage
 use Rattle.object.specs.declared.Outcome.{Outcome}
 use Rattle.object.specs.declared.Outcome.the-variants.{Stored, Complete, Repeat, Conflict}
 use Rattle.object.specs.Source.{Source, SentBy}
 use Rattle.object.specs.laws.OffersKept.{source-fits}
-use Rattle.collector.specs.Calls.{answerAs, show, takeGroup}
+use Rattle.collector.specs.Calls.{answerAs, show}
 use Rattle.collector.specs.State.{Start}
-use Rattle.collector.specs.Arrival.{arrivalIn, heardAs, heardIn, segmentIn}
+use Rattle.collector.specs.Arrival.{heardAs, Arrival}
 use Rattle.history.specs.Held.{stageFor}
-use Rattle.history.specs.laws.Call.{groupAnswer, dropAnswer, came, defined}
-use Rattle.history.specs.History.{Call, hand, drop, ask, CallBytes, Allowed, reached, told, isStored, isDropped, with, afterGroup, under, storedUnder}
+use Rattle.history.specs.laws.Call.{dropAnswer, came, defined, handedAnswer}
+use Rattle.history.specs.History.{Call, hand, drop, ask, CallBytes, Allowed, reached, told, isStored, isDropped, with, under, storedUnder, afterHanded}
+use Rattle.history.specs.Handed.{Handed, HandedBytes, Brought, arrives, refused, broughtBy}
 use Rattle.history.specs.laws.Reached.{reached-intact}
 use Rattle.history.specs.laws.Answers.{came-named}
 use Rattle.history.specs.Promise.{Run, reachedBy, toldBy, stored, Passing, segmentOf, heardOf, since, answerTo, FitsStored, StoredFrom, hadSlot, cameUnder}
 use Rattle.history.specs.laws.Demands.{run-answered, finished-lengths}
+use Rattle.history.specs.Taking.{take}
 
 -- what is stored fits the object, with one more segment that it sends
 more-fits : (limit : ℕ) (object : Source limit) (part : Part) (segment : Segment) (hs bs : List Segment)
@@ -47,12 +45,12 @@ more-fits limit object Body segment hs bs u h b = source-fits limit object hs (s
 -- where all that is stored under a number comes from one cut of one object, a group of that cut does not conflict
 pub one-cut-agrees : (r : Run) (object : Source (r .start .limit)) (number : ℕ)
     → StoredFrom object number (since defined r)
-    → (g : Passing) → g .carried .number ≡ number → SentBy object (g .carried .part) (segmentOf g)
+    → (g : Passing) → g .arrived .number ≡ number → SentBy object (g .arrived .part) (segmentOf g)
     → answerTo defined (since defined r) g ≢ Answer.Conflict (heardOf g)
 one-cut-agrees r object number f g n u e =
     run-answered r .conflict g .0 e
-    (more-fits (r .start .limit) object (g .carried .part) (segmentOf g) (stored defined r Header (g .carried .number))
-    (stored defined r Body (g .carried .number)) u (rw n (f Header)) (rw n (f Body)))
+    (more-fits (r .start .limit) object (g .arrived .part) (segmentOf g) (stored defined r Header (g .arrived .number))
+    (stored defined r Body (g .arrived .number)) u (rw n (f Header)) (rw n (f Body)))
 
 -- ---- all of it that came is stored
 
@@ -118,14 +116,14 @@ with-rest P Header Body segment segments e = e
 with-rest P Body Header segment segments e = e
 with-rest P Body Body segment segments e = e .1
 
-group-rest : (P : Segment → Type 0) (part : Part) (number : ℕ) (bytes : List ℕ) (answer : Answer) (reading : Reading)
-    (segments : List Segment) → Each P (afterGroup isStored part number reading bytes answer segments) → Each P segments
-group-rest P part number bytes answer (Refused why) segments e = e
-group-rest P part number bytes answer (Read carried) segments e = go (eqb (carried .number) number) (isStored answer) e
+handed-rest : (P : Segment → Type 0) (part : Part) (number : ℕ) (answer : Answer) (brought : Brought)
+    (segments : List Segment) → Each P (afterHanded isStored part number brought answer segments) → Each P segments
+handed-rest P part number answer (refused why) segments e = e
+handed-rest P part number answer (arrives arrived) segments e = go (eqb (arrived .number) number) (isStored answer) e
   where
     go : (b d : Bool) → Each P (pick b
-        (pick d (with part (carried .part) (segmentIn bytes carried) segments) segments) segments) → Each P segments
-    go true true e = with-rest P part (carried .part) (segmentIn bytes carried) segments e
+        (pick d (with part (arrived .part) (arrived .segment) segments) segments) segments) → Each P segments
+    go true true e = with-rest P part (arrived .part) (arrived .segment) segments e
     go true false e = e
     go false d e = e
 
@@ -138,59 +136,59 @@ module _ (start : Start) (allowed : Allowed start) (object : Source (start .limi
   abbrev From : List Call → Type 0
   From calls = (q : Part) → Each (SentBy object q) (kept start calls q number)
 
-  group-into : (bytes : List ℕ) (calls : List Call) → Bytes bytes → Each CallBytes calls → From calls
+  handed-into : (given : Handed) (calls : List Call) → HandedBytes given → Each CallBytes calls → From calls
       → Into object part (cameUnder part number (told defined start calls)) (kept start calls part number)
-      → Into object part (cameUnder part number (told defined start (hand bytes ∷ calls)))
-      (kept start (hand bytes ∷ calls) part number)
+      → Into object part (cameUnder part number (told defined start (hand given ∷ calls)))
+      (kept start (hand given ∷ calls) part number)
   unfolding under
-  group-into bytes calls b y f into = go (readingOf bytes) refl
+  handed-into given calls b y f into = go (broughtBy given) refl
     where
       run : Run
       run = record { start = start; allowed = allowed; calls = calls; bytes = y }
 
-      arrived : List Segment
-      arrived = cameUnder part number (told defined start calls)
+      arrivals : List Segment
+      arrivals = cameUnder part number (told defined start calls)
 
       held : List Segment
       held = kept start calls part number
 
       answer : Answer
-      answer = groupAnswer bytes (reached defined start calls)
+      answer = handedAnswer given (reached defined start calls)
 
-      mine : (carried : Carried) → readingOf bytes ≡ Read carried → carried .number ≡ number
+      mine : (arrived : Arrival) → broughtBy given ≡ arrives arrived → arrived .number ≡ number
           → Into object part (pick (hadSlot answer)
-          (with part (carried .part) (segmentIn bytes carried) arrived) arrived)
-          (pick (isStored answer) (with part (carried .part) (segmentIn bytes carried) held) held)
-      mine carried r n =
-          let g : Passing = record { bytes = bytes; areBytes = b; carried = carried; read = r } in
-          answered-into object part (carried .part) (segmentIn bytes carried) arrived held answer (heardIn carried) into
-          (came-named (arrivalIn bytes carried) (reached defined start calls)
-          (takeGroup bytes (reached defined start calls))
-          (came bytes (reached defined start calls) (reached-intact start allowed calls y .undamaged) carried r))
+          (with part (arrived .part) (arrived .segment) arrivals) arrivals)
+          (pick (isStored answer) (with part (arrived .part) (arrived .segment) held) held)
+      mine arrived r n =
+          let g : Passing = record { given = given; areBytes = b; arrived = arrived; brought = r } in
+          answered-into object part (arrived .part) (arrived .segment) arrivals held answer (heardAs arrived) into
+          (came-named arrived (reached defined start calls)
+          (take given (reached defined start calls))
+          (came given (reached defined start calls) (reached-intact start allowed calls y .undamaged) arrived r))
           (λ q u. one-cut-agrees run object number f g n (rw q at u))
           (λ e q. rw (q, ← n) (run-answered run .repeated g .0 e))
 
-      under-it : (carried : Carried) → readingOf bytes ≡ Read carried → (t : Bool) → eqb (carried .number) number ≡ t
+      under-it : (arrived : Arrival) → broughtBy given ≡ arrives arrived → (t : Bool) → eqb (arrived .number) number ≡ t
           → Into object part (pick t (pick (hadSlot answer)
-          (with part (carried .part) (segmentIn bytes carried) arrived) arrived) arrived)
-          (pick t (pick (isStored answer) (with part (carried .part) (segmentIn bytes carried) held) held) held)
-      under-it carried r true e = mine carried r (eqb-true (carried .number) number e)
-      under-it carried r false e = into
+          (with part (arrived .part) (arrived .segment) arrivals) arrivals) arrivals)
+          (pick t (pick (isStored answer) (with part (arrived .part) (arrived .segment) held) held) held)
+      under-it arrived r true e = mine arrived r (eqb-true (arrived .number) number e)
+      under-it arrived r false e = into
 
-      go : (reading : Reading) → readingOf bytes ≡ reading
-          → Into object part (afterGroup hadSlot part number (readingOf bytes) bytes answer arrived)
-          (afterGroup isStored part number (readingOf bytes) bytes answer held)
-      go (Refused why) r = rw r into
-      go (Read carried) r = rw r (under-it carried r (eqb (carried .number) number) refl)
+      go : (brought : Brought) → broughtBy given ≡ brought
+          → Into object part (afterHanded hadSlot part number (broughtBy given) answer arrivals)
+          (afterHanded isStored part number (broughtBy given) answer held)
+      go (refused why) r = rw r into
+      go (arrives arrived) r = rw r (under-it arrived r (eqb (arrived .number) number) refl)
 
   came-stored : (calls : List Call) → Each CallBytes calls → From calls
       → Into object part (cameUnder part number (told defined start calls)) (kept start calls part number)
   unfolding under
   came-stored [] y f = λ s u i. i
-  came-stored (hand bytes ∷ calls) y f =
-      let before : From calls = λ q. group-rest (SentBy object q) q number bytes
-      (groupAnswer bytes (reached defined start calls)) (readingOf bytes) (kept start calls q number) (f q) in
-      group-into bytes calls (y .0) (y .1) before (came-stored calls (y .1) before)
+  came-stored (hand given ∷ calls) y f =
+      let before : From calls = λ q. handed-rest (SentBy object q) q number
+      (handedAnswer given (reached defined start calls)) (broughtBy given) (kept start calls q number) (f q) in
+      handed-into given calls (y .0) (y .1) before (came-stored calls (y .1) before)
   came-stored (drop other ∷ calls) y f =
       go (eqb other number) (isDropped (dropAnswer other (reached defined start calls))) (came-stored calls (y .1)) f
     where

@@ -3,19 +3,14 @@
 use mathlib.Core.Path.{_≡_, refl, sym, _∙_, subst}
 use mathlib.Core.Logic.{_≢_}
 use mathlib.Core.Bool.{Bool, true, false}
-use mathlib.Core.List.{List}
 use Prim.Native.Nat.{ℕ}
 use Rattle.answer.specs.declared.Answer.{Answer}
 use Rattle.answer.specs.declared.Answer.the-variants as Answer
 use Rattle.answer.specs.declared.Reason.the-variants as Reason
 use Rattle.answer.specs.declared.Part.{Part}
-use Rattle.wire.specs.declared.Carried.{Carried}
-use Rattle.wire.specs.declared.Reading.{Reading}
-use Rattle.wire.specs.declared.Reading.the-variants.{Read, Refused}
-use Rattle.wire.specs.Reading.{readingOf}
-use Rattle.cut.specs.Requirement.{Segment}
-use Rattle.cut.specs.laws.Decision.{false-true}
+use Rattle.wire.specs.declared.Reading.the-variants.{Refused}
 use Rattle.cut.specs.Lists.{Bytes}
+use Rattle.cut.specs.laws.Decision.{false-true}
 use Rattle.object.specs.declared.Slot.{Slot}
 use Rattle.object.specs.Take.{Taken, takeInto}
 use Rattle.object.specs.Parts.{Lent}
@@ -25,16 +20,18 @@ use Rattle.slots.specs.Stores.{freeSlot, freshSlot}
 use Rattle.slots.specs.Find.{isFree, holds, findIn}
 use Rattle.slots.specs.laws.Shares.{Wide, lent-other}
 use Rattle.collector.specs.State.{Reply, State, find}
-use Rattle.collector.specs.Calls.{answerAs, dropNumber, show, takeGroup, answering, sound}
-use Rattle.collector.specs.Arrival.{Arrival, arrivalIn, heardAs}
+use Rattle.collector.specs.Calls.{answerAs, dropNumber, show, answering, sound}
+use Rattle.collector.specs.Arrival.{Arrival, heardAs}
 use Rattle.history.specs.laws.Slots.{held-is, free-holds, slot-there, same-found}
 use Rattle.history.specs.Held.{Same, lentOf, limitOf, slotOf}
-use Rattle.history.specs.laws.Call.{groupLeaves, dropLeaves, replacing, Came, alone, full, first, more, unread, came, none-dropped, found-dropped, cleared}
+use Rattle.history.specs.laws.Call.{dropLeaves, replacing, Came, alone, full, first, more, unread, came, none-dropped, found-dropped, cleared, handedLeaves}
 use Rattle.history.specs.laws.Ready.{used-inside, used-lent, found-used, found-holds, free-used, free-free}
 use Rattle.history.specs.laws.Taken.{taken-number}
 use Rattle.history.specs.laws.Shown.{unheld-shown, held-shown}
-use Rattle.history.specs.laws.Sound.{Intact, lent-is-wide, more-lent, first-lent, cleared-lent, segment-bytes, group-intact, drop-intact}
+use Rattle.history.specs.laws.Sound.{Intact, lent-is-wide, more-lent, first-lent, cleared-lent, drop-intact, brought-bytes, handed-intact}
 use Rattle.history.specs.State.{InUse}
+use Rattle.history.specs.Handed.{Handed, HandedBytes, Brought, arrives, refused, broughtBy}
+use Rattle.history.specs.Taking.{take}
 
 same-all : (number : ℕ) (s : State) (answer : Answer) → Same number s (answering answer s .left)
 same-all number s answer = record { limit = refl; found = refl; slot = λ i e. refl; lent = λ i e. refl }
@@ -103,15 +100,16 @@ came-same number arrived s t d y whole (more i n e) =
     (taken-number (arrived .part) (limitOf s) (arrived .segment) (slotOf i s) (lentOf i s) ∙ old)))
 
 -- A GROUP that is not read, or that is read under another number
-pub group-others : (number : ℕ) (group : List ℕ) (s : State)
-    → ((carried : Carried) → readingOf group ≡ Read carried → number ≢ carried .number) → Bytes group → Intact s
-    → Same number s (groupLeaves group s)
-group-others number group s d y whole = go (readingOf group) refl
+pub handed-others : (number : ℕ) (given : Handed) (s : State)
+    → ((arrived : Arrival) → broughtBy given ≡ arrives arrived → number ≢ arrived .number) → HandedBytes given
+    → Intact s
+    → Same number s (handedLeaves given s)
+handed-others number given s d y whole = go (broughtBy given) refl
   where
-    go : (reading : Reading) → readingOf group ≡ reading → Same number s (takeGroup group s .left)
-    go (Refused why) e = rw (unread group s (whole .undamaged) why e) (same-all number s (Answer.Refused why))
-    go (Read carried) e = came-same number (arrivalIn group carried) s (takeGroup group s) (d carried e)
-        (segment-bytes group carried y) whole (came group s (whole .undamaged) carried e)
+    go : (brought : Brought) → broughtBy given ≡ brought → Same number s (take given s .left)
+    go (refused why) e = rw (unread given s (whole .undamaged) why e) (same-all number s (Answer.Refused why))
+    go (arrives arrived) e = came-same number arrived s (take given s) (d arrived e)
+        (brought-bytes given arrived y e) whole (came given s (whole .undamaged) arrived e)
 
 -- A DROP of another number
 pub drop-others : (number other : ℕ) (s : State) → number ≢ other → Intact s → Same number s (dropLeaves other s)
@@ -140,12 +138,13 @@ same-shown number part s t good good' same = go (find number s) refl
     go (At i) e = held-shown number part t good' i (same .found ∙ e) ∙ rw (same .slot i e, same .lent i e)
         (sym (held-shown number part s good i e))
 
-pub group-others-shown : (number : ℕ) (part : Part) (group : List ℕ) (s : State)
-    → ((carried : Carried) → readingOf group ≡ Read carried → number ≢ carried .number) → Bytes group → Intact s
-    → show number part (groupLeaves group s) ≡ show number part s
-group-others-shown number part group s d y whole =
-    same-shown number part s (takeGroup group s .left) (whole .undamaged) (group-intact group s y whole .undamaged)
-    (group-others number group s d y whole)
+pub handed-others-shown : (number : ℕ) (part : Part) (given : Handed) (s : State)
+    → ((arrived : Arrival) → broughtBy given ≡ arrives arrived → number ≢ arrived .number) → HandedBytes given
+    → Intact s
+    → show number part (handedLeaves given s) ≡ show number part s
+handed-others-shown number part given s d y whole =
+    same-shown number part s (take given s .left) (whole .undamaged) (handed-intact given s y whole .undamaged)
+    (handed-others number given s d y whole)
 
 pub drop-others-shown : (number other : ℕ) (part : Part) (s : State) → number ≢ other → Intact s
     → show number part (dropLeaves other s) ≡ show number part s

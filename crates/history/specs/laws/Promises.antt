@@ -1,7 +1,7 @@
 -- THE PROMISES: our collector keeps them, each a theorem of its own. A wrong collector is refused here, by name.
 use mathlib.Core.Path.{refl}
-use Rattle.history.specs.laws.Refused.{refused-group, unanswered-group, refused-drop, repeated-group, drop-stores, limits-exactly, opened-leaves, unopened-leaves}
-use Rattle.history.specs.laws.State.{group-state, drop-state, ask-state}
+use Rattle.history.specs.laws.Refused.{refused-handed, unanswered-handed, refused-drop, repeated-handed, drop-stores, limits-exactly, opened-leaves, unopened-leaves}
+use Rattle.history.specs.laws.State.{handed-state, drop-state, ask-state}
 use Rattle.history.specs.Ours.{ours}
 use Rattle.history.specs.Promise.{RefusedLeaves, UnansweredLeaves, RepeatLeaves, StateExactly, MarkedExactly, LimitsExactly, OpenedLeaves, UnopenedLeaves, NeverState, UndroppedLeaves, StateDropExactly, DropKeepsStores, StateAskExactly, AskedLeaves, OthersLeave, ShownJoined, UnfinishedUnshown, CountsTold, ConflictExactly, FullExactly, RepeatExactly, CompleteExactly, StoredExactly, LowestFreeTaken, UnreadRefused, DropExactly, UnheldExactly, NoneFreeExactly, FinishedExactly, FinishedLengths, NotHeldExactly, UnfinishedExactly, LocatedExactly, ReadExactly, NamesRead, FoundExactly, NotFoundExactly, OneCutAgrees, OneCutFinishes, Promised}
 use Rattle.history.specs.laws.Demands.{marked-answered, never-state, others-held, run-answered, finished-exactly, finished-lengths}
@@ -12,16 +12,16 @@ use Rattle.history.specs.laws.OneCut.{one-cut-agrees, one-cut-finishes}
 -- ---- demand 1
 
 pub refused-promised : RefusedLeaves ours
-refused-promised = refused-group
+refused-promised = refused-handed
 
 pub unanswered-promised : UnansweredLeaves ours
-unanswered-promised = unanswered-group
+unanswered-promised = unanswered-handed
 
 pub repeating-promised : RepeatLeaves ours
-repeating-promised = repeated-group
+repeating-promised = repeated-handed
 
 pub state-promised : StateExactly ours
-state-promised = group-state
+state-promised = handed-state
 
 pub marked-promised : MarkedExactly ours
 marked-promised = marked-answered

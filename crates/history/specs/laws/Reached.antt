@@ -6,11 +6,6 @@ use Prim.Native.Nat.{ℕ}
 use native.Mathlib.Omega.{arith}
 use lib.ListN.{length, replicate, length-replicate, getD-replicate}
 use Rattle.octets.specs.Octets.{zeros}
-use Rattle.wire.specs.declared.Carried.{Carried}
-use Rattle.wire.specs.declared.Reading.{Reading}
-use Rattle.wire.specs.declared.Reading.the-variants.{Read, Refused}
-use Rattle.wire.specs.Reading.{readingOf}
-use Rattle.cut.specs.Requirement.{Segment}
 use Rattle.cut.specs.Lists.{Each}
 use Rattle.slots.specs.declared.Found.{Found}
 use Rattle.slots.specs.declared.Found.the-variants.{Nothing, At}
@@ -18,16 +13,18 @@ use Rattle.slots.specs.Stores.{slotsMost, freeSlot, slotAt}
 use Rattle.slots.specs.Find.{isFree, holds, findIn}
 use Rattle.counts.specs.Counted.{noneYet}
 use Rattle.collector.specs.State.{Start, Reply, State, allFree, find}
-use Rattle.collector.specs.Calls.{dropNumber, openWith, takeGroup}
-use Rattle.collector.specs.Arrival.{Arrival, arrivalIn}
+use Rattle.collector.specs.Calls.{dropNumber, openWith}
+use Rattle.collector.specs.Arrival.{Arrival}
+use Rattle.history.specs.Handed.{Brought, arrives, refused, broughtBy}
 use Rattle.history.specs.laws.Slots.{free-holds, none-found, limits-within}
 use Rattle.history.specs.Held.{Same, limitOf}
 use Rattle.history.specs.laws.Call.{Came, alone, full, first, more, unread, came, none-dropped, found-dropped, opened-all, defined}
 use Rattle.history.specs.laws.Ready.{used-inside, found-used}
-use Rattle.history.specs.laws.Sound.{Intact, group-intact, drop-intact, opening-intact}
-use Rattle.history.specs.laws.Others.{same-then, same-self, group-others, drop-others}
+use Rattle.history.specs.laws.Sound.{Intact, drop-intact, opening-intact, handed-intact}
+use Rattle.history.specs.laws.Others.{same-then, same-self, drop-others, handed-others}
 use Rattle.history.specs.History.{Call, hand, drop, ask, CallBytes, Elsewhere, Event, leaves, event, after, Allowed, reached, told, under}
-use Rattle.history.specs.laws.Stands.{Stands, group-stands, drop-stands}
+use Rattle.history.specs.laws.Stands.{Stands, drop-stands, handed-stands}
+use Rattle.history.specs.Taking.{take}
 
 -- ---- the opening
 
@@ -79,12 +76,12 @@ came-bounds arrived s t (first i n a f e) = rw e (record { limit = refl; count =
 came-bounds arrived s t (more i n e) = rw e (record { limit = refl; count = refl })
 
 leaves-bounds : (call : Call) (s : State) → Intact s → SameBounds s (leaves defined call s)
-leaves-bounds (hand bytes) s whole = go (readingOf bytes) refl
+leaves-bounds (hand given) s whole = go (broughtBy given) refl
   where
-    go : (reading : Reading) → readingOf bytes ≡ reading → SameBounds s (takeGroup bytes s .left)
-    go (Refused why) e = rw (unread bytes s (whole .undamaged) why e) (record { limit = refl; count = refl })
-    go (Read carried) e = came-bounds (arrivalIn bytes carried) s (takeGroup bytes s)
-        (came bytes s (whole .undamaged) carried e)
+    go : (brought : Brought) → broughtBy given ≡ brought → SameBounds s (take given s .left)
+    go (refused why) e = rw (unread given s (whole .undamaged) why e) (record { limit = refl; count = refl })
+    go (arrives arrived) e = came-bounds arrived s (take given s)
+        (came given s (whole .undamaged) arrived e)
 leaves-bounds (drop number) s whole = go (find number s) refl
   where
     go : (found : Found) → find number s ≡ found → SameBounds s (dropNumber number s .left)
@@ -97,14 +94,14 @@ leaves-bounds (ask question) s whole = record { limit = refl; count = refl }
 -- ---- one call
 
 leaves-intact : (call : Call) (s : State) → CallBytes call → Intact s → Intact (leaves defined call s)
-leaves-intact (hand bytes) s y whole = group-intact bytes s y whole
+leaves-intact (hand given) s y whole = handed-intact given s y whole
 leaves-intact (drop number) s y whole = drop-intact number s whole
 leaves-intact (ask question) s y whole = whole
 
 leaves-stands : (call : Call) (s : State) (events : List Event) → CallBytes call → Intact s → Stands s events
     → Stands (leaves defined call s) (event defined call s ∷ events)
 unfolding under
-leaves-stands (hand bytes) s events y whole w = group-stands bytes s events y whole w
+leaves-stands (hand given) s events y whole w = handed-stands given s events y whole w
 leaves-stands (drop number) s events y whole w = drop-stands number s events whole w
 leaves-stands (ask question) s events y whole w = w
 
@@ -142,7 +139,7 @@ reached-count start a (call ∷ calls) y =
 -- CALLS UNDER OTHER NUMBERS change nothing that is held for a number
 leaves-others : (number : ℕ) (call : Call) (s : State) → CallBytes call → Elsewhere number call → Intact s
     → Same number s (leaves defined call s)
-leaves-others number (hand bytes) s y d whole = group-others number bytes s d y whole
+leaves-others number (hand given) s y d whole = handed-others number given s d y whole
 leaves-others number (drop other) s y d whole = drop-others number other s d whole
 leaves-others number (ask question) s y d whole = same-self number s
 

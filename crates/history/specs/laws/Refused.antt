@@ -3,10 +3,9 @@
 use mathlib.Core.Path.{_≡_, refl, ap, _∙_}
 use mathlib.Core.Bool.{Bool, true, false}
 use mathlib.Core.Logic.{_↔_}
-use mathlib.Core.List.{List}
-use Prim.Native.Nat.{ℕ, zero, suc, _≤_}
+use Prim.Native.Nat.{ℕ, _≤_}
 use native.Mathlib.Omega.{arith}
-use lib.ListN.{length, getD}
+use lib.ListN.{length}
 use lib.Seq.{set-getD}
 use Rattle.octets.specs.Octets.{zeros}
 use Rattle.answer.specs.declared.Answer.{Answer}
@@ -18,13 +17,10 @@ use Rattle.answer.specs.Table.{numberOf}
 use Rattle.answer.specs.laws.Table.{refusal-to, reason-from}
 use Rattle.counts.specs.declared.Counts.{Counts}
 use Rattle.counts.specs.Counted.{noneYet, oneRepeated, oneRefused, counted}
-use Rattle.wire.specs.declared.Carried.{Carried}
-use Rattle.wire.specs.declared.Reading.{Reading}
-use Rattle.wire.specs.declared.Reading.the-variants.{Read, Refused}
-use Rattle.wire.specs.Reading.{readingOf}
+use Rattle.wire.specs.declared.Reading.the-variants.{Refused}
+use Rattle.cut.specs.Lists.{pick}
 use Rattle.cut.specs.Requirement.{limitLeast, Segment}
 use Rattle.cut.specs.laws.Decision.{false-true}
-use Rattle.cut.specs.Lists.{pick}
 use Rattle.object.specs.declared.Slot.{Slot}
 use Rattle.object.specs.declared.Stage.{Stage}
 use Rattle.object.specs.declared.Stage.the-variants as Stage
@@ -43,14 +39,16 @@ use Rattle.slots.specs.laws.Fresh.{fresh-taken}
 use Rattle.slots.specs.laws.StateTests.{limits-hold}
 use Rattle.collector.specs.declared.Opening.the-variants as Opening
 use Rattle.collector.specs.State.{Start, Reply, State, allFree, find}
-use Rattle.collector.specs.Calls.{answerAs, dropFound, dropNumber, inLimits, openWith, takeGroup, answering, sound}
-use Rattle.collector.specs.Arrival.{Arrival, arrivalIn, heardAs}
+use Rattle.collector.specs.Calls.{answerAs, dropFound, dropNumber, inLimits, openWith, answering, sound}
+use Rattle.collector.specs.Arrival.{Arrival, heardAs}
 use Rattle.history.specs.laws.Slots.{limits-within}
 use Rattle.history.specs.Held.{lentOf, limitOf, slotOf}
-use Rattle.history.specs.laws.Call.{groupAnswer, groupLeaves, dropAnswer, dropLeaves, replacing, offering, Came, alone, full, first, more, group-damaged, unread, came, drop-damaged, none-dropped, found-dropped, lent-same, opened-all, opened-none}
+use Rattle.history.specs.laws.Call.{dropAnswer, dropLeaves, replacing, offering, Came, alone, full, first, more, unread, came, drop-damaged, none-dropped, found-dropped, lent-same, opened-all, opened-none, handedAnswer, handedLeaves, handed-damaged}
+use Rattle.history.specs.Handed.{Handed, Brought, arrives, refused, broughtBy}
+use Rattle.history.specs.State.{Used, InOrder}
 use Rattle.history.specs.History.{Within}
 use Rattle.history.specs.laws.Ready.{used-inside, found-used, free-marks}
-use Rattle.history.specs.State.{Used, InOrder}
+use Rattle.history.specs.Taking.{take}
 
 -- ---- the offer of a segment
 
@@ -131,16 +129,16 @@ came-kept arrived s t good (more i n e) k =
     (found-used s good (arrived .number) i n))
 
 -- A GROUP that is refused, or that is a repeat, changes nothing but a count
-pub group-kept : (group : List ℕ) (s : State) → Kept (takeGroup group s .answer)
-    → takeGroup group s ≡ answering (takeGroup group s .answer) s
-group-kept group s k = go (sound s) refl (readingOf group) refl
+pub handed-kept : (given : Handed) (s : State) → Kept (take given s .answer)
+    → take given s ≡ answering (take given s .answer) s
+handed-kept given s k = go (sound s) refl (broughtBy given) refl
   where
-    go : (b : Bool) → sound s ≡ b → (reading : Reading) → readingOf group ≡ reading
-        → takeGroup group s ≡ answering (takeGroup group s .answer) s
-    go false d reading e = rw (group-damaged group s d) refl
-    go true d (Refused why) e = rw (unread group s d why e) refl
-    go true d (Read carried) e = came-kept (arrivalIn group carried) s (takeGroup group s) d
-        (came group s d carried e) k
+    go : (b : Bool) → sound s ≡ b → (brought : Brought) → broughtBy given ≡ brought
+        → take given s ≡ answering (take given s .answer) s
+    go false d brought e = rw (handed-damaged given s d) refl
+    go true d (refused why) e = rw (unread given s d why e) refl
+    go true d (arrives arrived) e = came-kept arrived s (take given s) d
+        (came given s d arrived e) k
 
 -- A DROP that is refused changes nothing at all
 pub drop-kept : (number : ℕ) (s : State) → Kept (dropNumber number s .answer) → dropNumber number s .left ≡ s
@@ -185,20 +183,20 @@ counted-not (Answer.Denied reason) c h = refl
 
 -- A REFUSED GROUP, 10 to 18: one more is refused, and every other count, every store byte, every mark and every slot's
 -- record stay
-pub refused-group : (group : List ℕ) (s : State) → 10 ≤ numberOf (groupAnswer group s)
-    → numberOf (groupAnswer group s) ≤ 18
-    → groupLeaves group s ≡ record { collector = s .collector; counts = oneRefused (s .counts); stores = s .stores }
-refused-group group s h g =
-    let a : Answer = takeGroup group s .answer in
-    ap (λ (t : Reply). t .left) (group-kept group s (refusal-kept a h))
+pub refused-handed : (given : Handed) (s : State) → 10 ≤ numberOf (handedAnswer given s)
+    → numberOf (handedAnswer given s) ≤ 18
+    → handedLeaves given s ≡ record { collector = s .collector; counts = oneRefused (s .counts); stores = s .stores }
+refused-handed given s h g =
+    let a : Answer = take given s .answer in
+    ap (λ (t : Reply). t .left) (handed-kept given s (refusal-kept a h))
     ∙ ap (λ (c : Counts). record { collector = s .collector; counts = c; stores = s .stores })
     (counted-refused a (s .counts) h g)
 
 -- 19 to 26 change nothing, the counts neither
-pub unanswered-group : (group : List ℕ) (s : State) → 19 ≤ numberOf (groupAnswer group s) → groupLeaves group s ≡ s
-unanswered-group group s h =
-    let a : Answer = takeGroup group s .answer in
-    ap (λ (t : Reply). t .left) (group-kept group s (refusal-kept a (omega arith)))
+pub unanswered-handed : (given : Handed) (s : State) → 19 ≤ numberOf (handedAnswer given s) → handedLeaves given s ≡ s
+unanswered-handed given s h =
+    let a : Answer = take given s .answer in
+    ap (λ (t : Reply). t .left) (handed-kept given s (refusal-kept a (omega arith)))
     ∙ ap (λ (c : Counts). record { collector = s .collector; counts = c; stores = s .stores })
     (counted-not a (s .counts) h)
 
@@ -207,10 +205,10 @@ pub refused-drop : (number : ℕ) (s : State) → 10 ≤ numberOf (dropAnswer nu
 refused-drop number s h = drop-kept number s (refusal-kept (dropNumber number s .answer) h)
 
 -- A REPEAT: one more is repeated, and nothing else changes
-pub repeated-group : (group : List ℕ) (s : State) (heard : Heard) → groupAnswer group s ≡ Answer.Repeat heard
-    → groupLeaves group s ≡ record { collector = s .collector; counts = oneRepeated (s .counts); stores = s .stores }
-repeated-group group s heard e =
-    ap (λ (t : Reply). t .left) (group-kept group s (rw e tt))
+pub repeated-handed : (given : Handed) (s : State) (heard : Heard) → handedAnswer given s ≡ Answer.Repeat heard
+    → handedLeaves given s ≡ record { collector = s .collector; counts = oneRepeated (s .counts); stores = s .stores }
+repeated-handed given s heard e =
+    ap (λ (t : Reply). t .left) (handed-kept given s (rw e tt))
     ∙ ap (λ (a : Answer). record { collector = s .collector; counts = counted a (s .counts); stores = s .stores }) e
 
 -- ---- a drop

@@ -8,13 +8,9 @@ use native.Mathlib.Omega.{arith}
 use lib.ListN.{length, take, drop, getD, length-set, length-replicate}
 use Rattle.octets.specs.Octets.{sumOf}
 use Rattle.octets.specs.laws.Marks.{sum-split, sum-none}
-use Rattle.wire.specs.declared.Carried.{Carried}
-use Rattle.wire.specs.declared.Reading.{Reading}
-use Rattle.wire.specs.declared.Reading.the-variants.{Read, Refused}
-use Rattle.wire.specs.Reading.{readingOf}
+use Rattle.cut.specs.Lists.{Each}
 use Rattle.cut.specs.Requirement.{headerNumbers, Segment}
 use Rattle.cut.specs.laws.Marks.{Marked}
-use Rattle.cut.specs.Lists.{Each}
 use Rattle.object.specs.laws.Inside.{sound-slot}
 use Rattle.object.specs.laws.Held.{Holds}
 use Rattle.object.specs.Parts.{partsOf}
@@ -23,8 +19,9 @@ use Rattle.slots.specs.declared.Found.the-variants.{Nothing, At}
 use Rattle.slots.specs.Stores.{slotsMost, freeSlot}
 use Rattle.slots.specs.Find.{isFree, holds, findIn, freeIn}
 use Rattle.collector.specs.State.{Start, Reply, State, find, free}
-use Rattle.collector.specs.Calls.{dropNumber, takeGroup, sound}
-use Rattle.collector.specs.Arrival.{Arrival, arrivalIn}
+use Rattle.collector.specs.Calls.{dropNumber, sound}
+use Rattle.collector.specs.Arrival.{Arrival}
+use Rattle.history.specs.Handed.{Brought, arrives, refused, broughtBy}
 use Rattle.history.specs.laws.Slots.{held-is, is-held, found-none, none-found, only-found}
 use Rattle.history.specs.Held.{lentOf, limitOf, slotOf}
 use Rattle.history.specs.laws.Call.{Came, alone, full, first, more, unread, came, none-dropped, found-dropped, defined}
@@ -34,6 +31,7 @@ use Rattle.history.specs.History.{Call, hand, ask, CallBytes, leaves, Al
 use Rattle.history.specs.laws.Stands.{StandsFor}
 use Rattle.history.specs.laws.Reached.{start-is, reached-intact, reached-count}
 use Rattle.history.specs.State.{InUse}
+use Rattle.history.specs.Taking.{take as handIn}
 
 -- ---- a number holds a slot exactly when something is stored under it
 
@@ -83,12 +81,12 @@ came-slots arrived s t (more i n e) = rw e (simp length-set)
 
 leaves-slots : (call : Call) (s : State) → Intact s → slots-of (leaves defined call s) ≡ slots-of s
 unfolding slots-of
-leaves-slots (hand bytes) s whole = go (readingOf bytes) refl
+leaves-slots (hand given) s whole = go (broughtBy given) refl
   where
-    go : (reading : Reading) → readingOf bytes ≡ reading → slots-of (takeGroup bytes s .left) ≡ slots-of s
-    go (Refused why) e = rw (unread bytes s (whole .undamaged) why e) refl
-    go (Read carried) e = came-slots (arrivalIn bytes carried) s (takeGroup bytes s)
-        (came bytes s (whole .undamaged) carried e)
+    go : (brought : Brought) → broughtBy given ≡ brought → slots-of (handIn given s .left) ≡ slots-of s
+    go (refused why) e = rw (unread given s (whole .undamaged) why e) refl
+    go (arrives arrived) e = came-slots arrived s (handIn given s)
+        (came given s (whole .undamaged) arrived e)
 leaves-slots (Call.drop number) s whole = go (find number s) refl
   where
     go : (found : Found) → find number s ≡ found → slots-of (dropNumber number s .left) ≡ slots-of s

@@ -40,6 +40,7 @@ use Rattle.collector.specs.State.{Start}
 use Rattle.collector.specs.Calls.{takeSegment, takeGroup, dropNumber, openWith, locate, show, sound}
 use Rattle.collector.specs.Arrival.{segmentIn}
 use Rattle.queries.specs.Questions.{parameters, name, find as findByName}
+use Rattle.history.specs.Handed.{group}
 use Rattle.history.specs.History.{Call, hand, CallBytes, Allowed, under}
 
 -- ---- the groups
@@ -164,7 +165,9 @@ object = record {
 }
 
 abbrev pub oneCut : List Call
-oneCut = hand bodyFirst ∷ hand bodyLast ∷ hand otherNumber ∷ hand header ∷ hand bodyLast ∷ []
+oneCut =
+    hand (group bodyFirst) ∷ hand (group bodyLast) ∷ hand (group otherNumber) ∷ hand (group header)
+    ∷ hand (group bodyLast) ∷ []
 
 -- what is read off a group
 abbrev pub readAs : ℕ → Part → ℕ → Bool → ℕ → Carried

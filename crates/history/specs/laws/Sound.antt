@@ -1,5 +1,5 @@
 -- No state so reached is damaged: an opening within the limits gives a state that is not, and every call leaves it so.
-use mathlib.Core.Path.{_≡_, refl, sym, _∙_}
+use mathlib.Core.Path.{subst, _≡_, refl, sym, _∙_}
 use mathlib.Core.Bool.{true}
 use mathlib.Core.List.{List, []}
 use Prim.Native.Nat.{ℕ, _*_, _≤_}
@@ -13,7 +13,6 @@ use Rattle.answer.specs.declared.Answer.{Answer}
 use Rattle.answer.specs.declared.Answer.the-variants as Answer
 use Rattle.answer.specs.declared.Reason.the-variants as Reason
 use Rattle.answer.specs.declared.Part.{Part}
-use Rattle.counts.specs.declared.Counts.{Counts}
 use Rattle.counts.specs.Counted.{noneYet, counted, within}
 use Rattle.wire.specs.declared.Carried.{Carried}
 use Rattle.wire.specs.declared.Reading.{Reading}
@@ -38,15 +37,17 @@ use Rattle.slots.specs.State.{rightSlot, soundSlots}
 use Rattle.slots.specs.laws.StateTests.{limits-hold}
 use Rattle.slots.specs.laws.Shares.{Wide}
 use Rattle.collector.specs.State.{Start, State, Reply, state, allFree, find, free}
-use Rattle.collector.specs.Calls.{answerAs, dropNumber, inLimits, openWith, takeGroup, sound, answering}
+use Rattle.collector.specs.Calls.{answerAs, dropNumber, inLimits, openWith, sound, answering}
 use Rattle.collector.specs.Arrival.{Arrival, arrivalIn, heardAs, segmentIn}
+use Rattle.history.specs.Handed.{Handed, HandedBytes, Brought, arrives, refused, broughtIn, broughtBy, group, segment}
 use Rattle.history.specs.laws.Counts.{low-within, counted-low}
 use Rattle.history.specs.laws.Ready.{slots-sound, counts-low, slots-right, limit-low, used-inside, used-lent, found-used, found-holds, found-sound, none-holds, free-used, free-marks}
 use Rattle.history.specs.laws.Taken.{sound-right, taken-number, fresh-gathers, fresh-added}
 use Rattle.history.specs.laws.Slots.{Undamaged, held-is, is-held, free-holds, undamaged-sound, replaced}
 use Rattle.history.specs.Held.{lentOf, limitOf, slotOf}
-use Rattle.history.specs.laws.Call.{groupLeaves, dropLeaves, replacing, Came, alone, full, first, more, unread, came, none-dropped, found-dropped, cleared, opened-all}
+use Rattle.history.specs.laws.Call.{dropLeaves, replacing, Came, alone, full, first, more, unread, came, none-dropped, found-dropped, cleared, opened-all, handedLeaves}
 use Rattle.history.specs.State.{Used, InUse, OfBytes}
+use Rattle.history.specs.Taking.{take}
 
 -- a state that is not damaged, and what is lent are bytes, as all memory is
 pub record Intact (s : State) : Type 0 where
@@ -110,29 +111,29 @@ module _ (s : State) (whole : Intact s) where
   low = limit-low s (whole .undamaged)
 
   -- what is lent for the slot is as it has to be afterwards
-  pub more-lent : (number i : ℕ) (part : Part) (segment : Segment) → Bytes (segment .bytes) → find number s ≡ At i
-      → IsLent (limitOf s) (takeInto part (limitOf s) segment (slotOf i s) (lentOf i s) .lent)
-  more-lent number i part segment y e =
-      lent-stays part (limitOf s) segment (slotOf i s) (lentOf i s) low y
+  pub more-lent : (number i : ℕ) (part : Part) (piece : Segment) → Bytes (piece .bytes) → find number s ≡ At i
+      → IsLent (limitOf s) (takeInto part (limitOf s) piece (slotOf i s) (lentOf i s) .lent)
+  more-lent number i part piece y e =
+      lent-stays part (limitOf s) piece (slotOf i s) (lentOf i s) low y
       (used-lent s (whole .undamaged) i (found-used s (whole .undamaged) number i e) (whole .bytes))
       (found-sound s (whole .undamaged) number i e)
 
-  pub first-lent : (number i : ℕ) (part : Part) (segment : Segment) → Bytes (segment .bytes) → free s ≡ At i
-      → IsLent (limitOf s) (takeInto part (limitOf s) segment (freshSlot number) (lentOf i s) .lent)
-  first-lent number i part segment y e =
+  pub first-lent : (number i : ℕ) (part : Part) (piece : Segment) → Bytes (piece .bytes) → free s ≡ At i
+      → IsLent (limitOf s) (takeInto part (limitOf s) piece (freshSlot number) (lentOf i s) .lent)
+  first-lent number i part piece y e =
       let lends = used-lent s (whole .undamaged) i (free-used s (whole .undamaged) i e) (whole .bytes) in
-      taken-lent part (limitOf s) segment (freshSlot number) (lentOf i s) [] [] low y lends
-      (fresh-gathers part (limitOf s) number segment (lentOf i s) low y lends (free-marks s (whole .undamaged) i e))
+      taken-lent part (limitOf s) piece (freshSlot number) (lentOf i s) [] [] low y lends
+      (fresh-gathers part (limitOf s) number piece (lentOf i s) low y lends (free-marks s (whole .undamaged) i e))
 
   -- a segment offered to the slot that holds its number
-  more-intact : (answer : Answer) (number i : ℕ) (part : Part) (segment : Segment) → Bytes (segment .bytes)
+  more-intact : (answer : Answer) (number i : ℕ) (part : Part) (piece : Segment) → Bytes (piece .bytes)
       → find number s ≡ At i
-      → Intact (replacing answer i (takeInto part (limitOf s) segment (slotOf i s) (lentOf i s) .slot)
-      (takeInto part (limitOf s) segment (slotOf i s) (lentOf i s) .lent) s .left)
-  more-intact answer number i part segment y e =
+      → Intact (replacing answer i (takeInto part (limitOf s) piece (slotOf i s) (lentOf i s) .slot)
+      (takeInto part (limitOf s) piece (slotOf i s) (lentOf i s) .lent) s .left)
+  more-intact answer number i part piece y e =
       replaced-intact answer i (x .slot) (x .lent) s whole u l
       (sound-right limit (x .slot) (x .lent) low l
-      (sound-stays part limit segment slot lent low y (used-lent s (whole .undamaged) i u (whole .bytes))
+      (sound-stays part limit piece slot lent low y (used-lent s (whole .undamaged) i u (whole .bytes))
       (found-sound s (whole .undamaged) number i e))) only
     where
       limit : ℕ
@@ -145,30 +146,30 @@ module _ (s : State) (whole : Intact s) where
       lent = lentOf i s
 
       x : Taken
-      x = takeInto part limit segment slot lent
+      x = takeInto part limit piece slot lent
 
       u : InUse i s
       u = found-used s (whole .undamaged) number i e
 
       l : IsLent limit (x .lent)
-      l = more-lent number i part segment y e
+      l = more-lent number i part piece y e
 
       only : (n j : ℕ) → InUse j s → holds n (x .slot) ≡ true → holds n (slotOf j s) ≡ true → i ≡ j
       only n j v h g = slots-right s (whole .undamaged) .once n i j u v
           (is-held n slot (held-is number slot (found-holds s (whole .undamaged) number i e) .0)
-          (sym (taken-number part limit segment slot lent) ∙ held-is n (x .slot) h .1)) g
+          (sym (taken-number part limit piece slot lent) ∙ held-is n (x .slot) h .1)) g
 
   -- the first segment of a number, in a free slot
-  first-intact : (answer : Answer) (number i : ℕ) (part : Part) (segment : Segment) → Bytes (segment .bytes)
-      → find number s ≡ Nothing → fitsAlone part (limitOf s) segment ≡ true → free s ≡ At i
-      → Intact (replacing answer i (takeInto part (limitOf s) segment (freshSlot number) (lentOf i s) .slot)
-      (takeInto part (limitOf s) segment (freshSlot number) (lentOf i s) .lent) s .left)
+  first-intact : (answer : Answer) (number i : ℕ) (part : Part) (piece : Segment) → Bytes (piece .bytes)
+      → find number s ≡ Nothing → fitsAlone part (limitOf s) piece ≡ true → free s ≡ At i
+      → Intact (replacing answer i (takeInto part (limitOf s) piece (freshSlot number) (lentOf i s) .slot)
+      (takeInto part (limitOf s) piece (freshSlot number) (lentOf i s) .lent) s .left)
   unfolding freshSlot
-  first-intact answer number i part segment y n a e =
+  first-intact answer number i part piece y n a e =
       replaced-intact answer i (x .slot) (x .lent) s whole u l
       (sound-right limit (x .slot) (x .lent) low l
-      (added-sound part limit segment (freshSlot number) [] [] x
-      (fresh-added part limit number segment lent low y lends none a))) only
+      (added-sound part limit piece (freshSlot number) [] [] x
+      (fresh-added part limit number piece lent low y lends none a))) only
     where
       limit : ℕ
       limit = limitOf s
@@ -177,7 +178,7 @@ module _ (s : State) (whole : Intact s) where
       lent = lentOf i s
 
       x : Taken
-      x = takeInto part limit segment (freshSlot number) lent
+      x = takeInto part limit piece (freshSlot number) lent
 
       u : InUse i s
       u = free-used s (whole .undamaged) i e
@@ -189,11 +190,11 @@ module _ (s : State) (whole : Intact s) where
       none = free-marks s (whole .undamaged) i e
 
       l : IsLent limit (x .lent)
-      l = first-lent number i part segment y e
+      l = first-lent number i part piece y e
 
       only : (m j : ℕ) → InUse j s → holds m (x .slot) ≡ true → holds m (slotOf j s) ≡ true → i ≡ j
       only m j v h g =
-          let same : number ≡ m = sym (taken-number part limit segment (freshSlot number) lent) ∙ held-is m
+          let same : number ≡ m = sym (taken-number part limit piece (freshSlot number) lent) ∙ held-is m
           (x .slot) h .1 in
           absurd (false-true (rw same at (none-holds s (whole .undamaged) number j n v)) g)
 
@@ -212,9 +213,23 @@ module _ (s : State) (whole : Intact s) where
       l = used-lent s (whole .undamaged) i u (whole .bytes)
 
 -- the segment of a group of bytes is bytes
-pub segment-bytes : (group : List ℕ) (carried : Carried) → Bytes group → Bytes (segmentIn group carried .bytes)
-segment-bytes group carried y =
-    bytes-take (carried .length) (drop (carried .start) group) (bytes-drop (carried .start) group y)
+segment-bytes : (bytes : List ℕ) (carried : Carried) → Bytes bytes → Bytes (segmentIn bytes carried .bytes)
+segment-bytes bytes carried y =
+    bytes-take (carried .length) (drop (carried .start) bytes) (bytes-drop (carried .start) bytes y)
+
+pub brought-bytes : (given : Handed) (arrived : Arrival) → HandedBytes given → broughtBy given ≡ arrives arrived
+    → Bytes (arrived .segment .bytes)
+brought-bytes (group bytes) arrived y e = go (readingOf bytes) refl e
+  where
+    go : (reading : Reading) → readingOf bytes ≡ reading → broughtIn reading bytes ≡ arrives arrived
+        → Bytes (arrived .segment .bytes)
+    go (Refused why) r f = let z : _≡_ {A = ℕ} 0 1 = cc in absurd (omega arith)
+    go (Read carried) r f =
+        let same : arrivalIn bytes carried ≡ arrived = cc in
+        subst (λ (a : Arrival). Bytes (a .segment .bytes)) same (segment-bytes bytes carried y)
+brought-bytes (segment other) arrived y e =
+    let same : other ≡ arrived = cc in
+    subst (λ (a : Arrival). Bytes (a .segment .bytes)) same (y .0)
 
 came-intact : (arrived : Arrival) (s : State) (t : Reply) → Bytes (arrived .segment .bytes) → Intact s
     → Came arrived s t → Intact (t .left)
@@ -230,13 +245,13 @@ came-intact arrived s t y whole (more i n e) =
     (arrived .number) i (arrived .part) (arrived .segment) y n)
 
 -- A GROUP of any bytes leaves the state undamaged
-pub group-intact : (group : List ℕ) (s : State) → Bytes group → Intact s → Intact (groupLeaves group s)
-group-intact group s y whole = go (readingOf group) refl
+pub handed-intact : (given : Handed) (s : State) → HandedBytes given → Intact s → Intact (handedLeaves given s)
+handed-intact given s y whole = go (broughtBy given) refl
   where
-    go : (reading : Reading) → readingOf group ≡ reading → Intact (takeGroup group s .left)
-    go (Refused why) e = rw (unread group s (whole .undamaged) why e) (answered-intact (Answer.Refused why) s whole)
-    go (Read carried) e = came-intact (arrivalIn group carried) s (takeGroup group s)
-        (segment-bytes group carried y) whole (came group s (whole .undamaged) carried e)
+    go : (brought : Brought) → broughtBy given ≡ brought → Intact (take given s .left)
+    go (refused why) e = rw (unread given s (whole .undamaged) why e) (answered-intact (Answer.Refused why) s whole)
+    go (arrives arrived) e = came-intact arrived s (take given s)
+        (brought-bytes given arrived y e) whole (came given s (whole .undamaged) arrived e)
 
 -- A DROP of any number does so too
 pub drop-intact : (number : ℕ) (s : State) → Intact s → Intact (dropLeaves number s)

@@ -17,13 +17,9 @@ use Rattle.answer.specs.declared.Heard.{Heard}
 use Rattle.answer.specs.declared.Part.{Part}
 use Rattle.answer.specs.declared.Part.the-variants.{Header, Body}
 use Rattle.answer.specs.Table.{numberOf}
-use Rattle.wire.specs.declared.Carried.{Carried}
-use Rattle.wire.specs.declared.Reading.{Reading}
-use Rattle.wire.specs.declared.Reading.the-variants.{Read, Refused}
-use Rattle.wire.specs.Reading.{readingOf}
+use Rattle.cut.specs.Lists.{pick, Bytes}
 use Rattle.cut.specs.Requirement.{Segment}
 use Rattle.cut.specs.Parts.{headersWith, bodiesWith}
-use Rattle.cut.specs.Lists.{pick, Bytes}
 use Rattle.object.specs.declared.Slot.{Slot}
 use Rattle.object.specs.declared.Outcome.{Outcome}
 use Rattle.object.specs.declared.Outcome.the-variants.{Stored, Complete, Repeat, Conflict}
@@ -39,17 +35,19 @@ use Rattle.slots.specs.Find.{isFree, holds, findIn, freeIn}
 use Rattle.slots.specs.Alone.{fitsAlone}
 use Rattle.slots.specs.laws.Shares.{lent-back}
 use Rattle.collector.specs.State.{Reply, State, find, free}
-use Rattle.collector.specs.Calls.{answerAs, dropNumber, takeGroup, answering, sound}
-use Rattle.collector.specs.Arrival.{Arrival, arrivalIn, heardAs}
+use Rattle.collector.specs.Calls.{answerAs, dropNumber, answering, sound}
+use Rattle.collector.specs.Arrival.{Arrival, heardAs}
+use Rattle.history.specs.Handed.{Handed, HandedBytes, Brought, arrives, refused, broughtBy}
 use Rattle.history.specs.laws.Slots.{held-is, is-held, free-holds, found-first, none-found, only-found, slot-here, slot-there, used-before, used-after}
 use Rattle.history.specs.Held.{Same, lentOf, limitOf, slotOf}
 use Rattle.history.specs.laws.Call.{replacing, offering, Came, alone, full, first, more, unread, came, none-dropped, found-dropped, cleared}
 use Rattle.history.specs.laws.Ready.{slots-right, limit-low, used-inside, used-lent, found-used, found-holds, free-used, free-free, free-marks}
 use Rattle.history.specs.laws.Taken.{holds-held, taken-number, fresh-gathers, fresh-added}
-use Rattle.history.specs.laws.Sound.{Intact, lent-is-wide, more-lent, first-lent, segment-bytes, group-intact}
+use Rattle.history.specs.laws.Sound.{Intact, lent-is-wide, more-lent, first-lent, brought-bytes, handed-intact}
 use Rattle.history.specs.laws.Others.{came-same, drop-others}
-use Rattle.history.specs.History.{Event, handed, dropped, isStored, isDropped, with, afterGroup, afterDrop, under, storedUnder}
+use Rattle.history.specs.History.{Event, handed, dropped, isStored, isDropped, with, afterDrop, under, storedUnder, afterHanded}
 use Rattle.history.specs.State.{InUse}
+use Rattle.history.specs.Taking.{take}
 
 -- the slot that holds a number holds just these segments; if none holds it, there are none
 pub record StandsFor (number : ℕ) (s : State) (hs bs : List Segment) : Type 0 where
@@ -279,13 +277,13 @@ came-lowest arrived s t y whole whole' (first i n a f e) none h =
     )
 
 -- A GROUP: each slot holds just what was stored, this group counted
-pub group-stands : (bytes : List ℕ) (s : State) (events : List Event) → Bytes bytes → Intact s → Stands s events
-    → Stands (takeGroup bytes s .left) (handed bytes (takeGroup bytes s .answer) ∷ events)
+pub handed-stands : (given : Handed) (s : State) (events : List Event) → HandedBytes given → Intact s → Stands s events
+    → Stands (take given s .left) (handed given (take given s .answer) ∷ events)
 unfolding under
-group-stands bytes s events y whole w number = go (readingOf bytes) refl
+handed-stands given s events y whole w number = go (broughtBy given) refl
   where
     t : Reply
-    t = takeGroup bytes s
+    t = take given s
 
     hs : ℕ → List Segment
     hs n = storedUnder Header n events
@@ -294,35 +292,36 @@ group-stands bytes s events y whole w number = go (readingOf bytes) refl
     bs n = storedUnder Body n events
 
     whole' : Intact (t .left)
-    whole' = group-intact bytes s y whole
+    whole' = handed-intact given s y whole
 
-    read : (carried : Carried) → readingOf bytes ≡ Read carried → (n : ℕ) → Dec (n ≡ carried .number)
-        → StandsFor n (t .left) (next Header n (arrivalIn bytes carried) (t .answer) (hs n))
-        (next Body n (arrivalIn bytes carried) (t .answer) (bs n))
-    read carried e n (no d) =
+    read : (arrived : Arrival) → broughtBy given ≡ arrives arrived → (n : ℕ) → Dec (n ≡ arrived .number)
+        → StandsFor n (t .left) (next Header n arrived (t .answer) (hs n))
+        (next Body n arrived (t .answer) (bs n))
+    read arrived e n (no d) =
         rw (
-          next-other Header n (arrivalIn bytes carried) (t .answer) (hs n) d,
-          next-other Body n (arrivalIn bytes carried) (t .answer) (bs n) d,
+          next-other Header n arrived (t .answer) (hs n) d,
+          next-other Body n arrived (t .answer) (bs n) d,
         )
         (same-stands n s (t .left) (hs n) (bs n)
-        (came-same n (arrivalIn bytes carried) s t d (segment-bytes bytes carried y) whole
-        (came bytes s (whole .undamaged) carried e)) (w n))
-    read carried e n (yes d) =
-        subst (λ (m : ℕ). StandsFor m (t .left) (next Header m (arrivalIn bytes carried) (t .answer) (hs m))
-        (next Body m (arrivalIn bytes carried) (t .answer) (bs m))) (sym d)
+        (came-same n arrived s t d (brought-bytes given arrived y e) whole
+        (came given s (whole .undamaged) arrived e)) (w n))
+    read arrived e n (yes d) =
+        subst (λ (m : ℕ). StandsFor m (t .left) (next Header m arrived (t .answer) (hs m))
+        (next Body m arrived (t .answer) (bs m))) (sym d)
         (rw (
-          next-own Header (arrivalIn bytes carried) (t .answer) (hs (carried .number)),
-          next-own Body (arrivalIn bytes carried) (t .answer) (bs (carried .number)),
+          next-own Header arrived (t .answer) (hs (arrived .number)),
+          next-own Body arrived (t .answer) (bs (arrived .number)),
         )
-        (came-own (arrivalIn bytes carried) s t (hs (carried .number)) (bs (carried .number))
-        (segment-bytes bytes carried y) whole whole' (w (carried .number)) (came bytes s (whole .undamaged) carried e)))
+        (came-own arrived s t (hs (arrived .number)) (bs (arrived .number))
+        (brought-bytes given arrived y e) whole whole' (w (arrived .number))
+        (came given s (whole .undamaged) arrived e)))
 
-    go : (reading : Reading) → readingOf bytes ≡ reading
-        → StandsFor number (t .left) (afterGroup isStored Header number (readingOf bytes) bytes (t .answer) (hs number))
-        (afterGroup isStored Body number (readingOf bytes) bytes (t .answer) (bs number))
-    go (Refused why) e = rw (e, unread bytes s (whole .undamaged) why e)
+    go : (brought : Brought) → broughtBy given ≡ brought
+        → StandsFor number (t .left) (afterHanded isStored Header number (broughtBy given) (t .answer) (hs number))
+        (afterHanded isStored Body number (broughtBy given) (t .answer) (bs number))
+    go (refused why) e = rw (e, unread given s (whole .undamaged) why e)
         (record { held = w number .held; rest = w number .rest })
-    go (Read carried) e = rw e (read carried e number (ℕ-discrete number (carried .number)))
+    go (arrives arrived) e = rw e (read arrived e number (ℕ-discrete number (arrived .number)))
 
 -- ---- a drop
 

@@ -15,9 +15,7 @@ use Rattle.answer.specs.declared.Heard.{Heard}
 use Rattle.answer.specs.declared.Part.{Part}
 use Rattle.answer.specs.declared.Part.the-variants.{Header}
 use Rattle.counts.specs.Counted.{within}
-use Rattle.wire.specs.declared.Reading.{Reading}
 use Rattle.wire.specs.declared.Reading.the-variants.{Read, Refused}
-use Rattle.wire.specs.Reading.{readingOf}
 use Rattle.cut.specs.Requirement.{limitMost}
 use Rattle.cut.specs.laws.Decision.{true-both}
 use Rattle.header.specs.declared.Reading.{Reading as HeaderReading}
@@ -46,8 +44,8 @@ use Rattle.name_search.specs.declared.Holder.{Holder}
 use Rattle.name_search.specs.declared.Holder.the-variants as Holder
 use Rattle.name_search.specs.Finding.{foundByName}
 use Rattle.collector.specs.State.{Reply, State, find}
-use Rattle.collector.specs.Calls.{answerAs, dropNumber, locate, locatedAs, locatedIn, show, takeGroup, sound}
-use Rattle.collector.specs.Arrival.{Arrival, arrivalIn, heardAs}
+use Rattle.collector.specs.Calls.{answerAs, dropNumber, locate, locatedAs, locatedIn, show, sound}
+use Rattle.collector.specs.Arrival.{Arrival, heardAs}
 use Rattle.queries.specs.Questions as queries
 use Rattle.queries.specs.declared.Asked.the-variants as Asked
 use Rattle.queries.specs.declared.Sought.the-variants as Sought
@@ -55,10 +53,12 @@ use Rattle.queries.specs.Questions.{askedOf, parameters, name, soughtAs, find a
 use Rattle.queries.specs.Said.{askedAs}
 use Rattle.history.specs.laws.Slots.{undamaged-sound}
 use Rattle.history.specs.Held.{lentOf, limitOf, slotOf}
-use Rattle.history.specs.laws.Call.{groupAnswer, dropAnswer, Came, alone, full, first, more, group-damaged, unread, came, drop-damaged, none-dropped, found-dropped}
+use Rattle.history.specs.laws.Call.{dropAnswer, Came, alone, full, first, more, unread, came, drop-damaged, none-dropped, found-dropped, handedAnswer, handed-damaged}
 use Rattle.history.specs.laws.Counts.{low-within}
 use Rattle.history.specs.laws.Ready.{counts-low, slots-right, limit-low, limits-lent, used-inside, used-lent, found-used}
 use Rattle.history.specs.State.{InUse, OfBytes, InOrder}
+use Rattle.history.specs.Handed.{Handed, Brought, arrives, refused, broughtBy}
+use Rattle.history.specs.Taking.{take}
 
 -- ---- the test of a state is this list
 
@@ -126,12 +126,12 @@ came-never arrived s t (more i n e) d =
     named-never (takeInto (arrived .part) (limitOf s) (arrived .segment) (slotOf i s) (lentOf i s) .outcome)
     (heardAs arrived) (rw e at d)
 
-pub group-never : (group : List ℕ) (s : State) → sound s ≡ true → groupAnswer group s ≢ Answer.Denied Reason.State
-group-never group s good = go (readingOf group) refl
+pub handed-never : (given : Handed) (s : State) → sound s ≡ true → handedAnswer given s ≢ Answer.Denied Reason.State
+handed-never given s good = go (broughtBy given) refl
   where
-    go : (reading : Reading) → readingOf group ≡ reading → takeGroup group s .answer ≢ Answer.Denied Reason.State
-    go (Refused why) e d = let f = unread group s good why e in let z : _≡_ {A = ℕ} 0 1 = cc in absurd (omega arith)
-    go (Read carried) e d = came-never (arrivalIn group carried) s (takeGroup group s) (came group s good carried e) d
+    go : (brought : Brought) → broughtBy given ≡ brought → take given s .answer ≢ Answer.Denied Reason.State
+    go (refused why) e d = let f = unread given s good why e in let z : _≡_ {A = ℕ} 0 1 = cc in absurd (omega arith)
+    go (arrives arrived) e d = came-never arrived s (take given s) (came given s good arrived e) d
 
 pub drop-never : (number : ℕ) (s : State) → sound s ≡ true → dropAnswer number s ≢ Answer.Denied Reason.State
 drop-never number s good = go (find number s) refl
@@ -184,11 +184,11 @@ tested : (s : State) (b : Bool) → sound s ≡ b → OfBytes (s .stores) → ¬
 tested s false e y n = e
 tested s true e y n = absurd (n (in-order-exactly s y .0 e))
 
-pub group-state : (group : List ℕ) (s : State) → OfBytes (s .stores)
-    → (groupAnswer group s ≡ Answer.Denied Reason.State) ↔ (¬ (InOrder s))
-group-state group s y = (
-  (λ e w. group-never group s (in-order-exactly s y .1 w) e),
-  (λ n. ap (λ (t : Reply). t .answer) (group-damaged group s (tested s (sound s) refl y n))),
+pub handed-state : (given : Handed) (s : State) → OfBytes (s .stores)
+    → (handedAnswer given s ≡ Answer.Denied Reason.State) ↔ (¬ (InOrder s))
+handed-state given s y = (
+  (λ e w. handed-never given s (in-order-exactly s y .1 w) e),
+  (λ n. ap (λ (t : Reply). t .answer) (handed-damaged given s (tested s (sound s) refl y n))),
 )
 
 pub drop-state : (number : ℕ) (s : State) → OfBytes (s .stores) → (dropAnswer number s ≡ Answer.Denied Reason.State)

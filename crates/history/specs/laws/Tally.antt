@@ -14,23 +14,21 @@ use Rattle.answer.specs.Table.{numberOf}
 use Rattle.answer.specs.laws.Table.{reason-from}
 use Rattle.counts.specs.declared.Counts.{Counts}
 use Rattle.counts.specs.Counted.{ceiling, risen, counted}
-use Rattle.wire.specs.declared.Carried.{Carried}
-use Rattle.wire.specs.declared.Reading.{Reading}
-use Rattle.wire.specs.declared.Reading.the-variants.{Read, Refused}
-use Rattle.wire.specs.Reading.{readingOf}
-use Rattle.cut.specs.Requirement.{Segment}
-use Rattle.cut.specs.Decision.{both}
+use Rattle.wire.specs.declared.Reading.the-variants.{Refused}
 use Rattle.cut.specs.Lists.{pick}
+use Rattle.cut.specs.Decision.{both}
 use Rattle.slots.specs.declared.Found.{Found}
 use Rattle.slots.specs.declared.Found.the-variants.{Nothing, At}
 use Rattle.collector.specs.State.{Start, Reply, State, find}
-use Rattle.collector.specs.Calls.{dropNumber, takeGroup, sound}
-use Rattle.collector.specs.Arrival.{Arrival, arrivalIn}
-use Rattle.history.specs.laws.Call.{Came, alone, full, first, more, group-damaged, unread, came, drop-damaged, none-dropped, found-dropped, defined}
+use Rattle.collector.specs.Calls.{dropNumber, sound}
+use Rattle.collector.specs.Arrival.{Arrival}
+use Rattle.history.specs.laws.Call.{Came, alone, full, first, more, unread, came, drop-damaged, none-dropped, found-dropped, defined, handed-damaged}
+use Rattle.history.specs.Handed.{Handed, Brought, arrives, refused, broughtBy}
 use Rattle.history.specs.laws.Ready.{used-inside, found-used}
 use Rattle.history.specs.Promise.{between, answersFrom, tallied}
 use Rattle.history.specs.History.{Call, hand, drop, ask, Event, dropped, leaves, event, Allowed, reached, told}
 use Rattle.history.specs.laws.Reached.{start-is}
+use Rattle.history.specs.Taking.{take}
 
 risen-min : (n : ℕ) → risen (min n ceiling) ≡ min (suc n) ceiling
 unfolding risen
@@ -104,15 +102,15 @@ came-counted arrived s t (full n a f e) = rw e refl
 came-counted arrived s t (first i n a f e) = rw e refl
 came-counted arrived s t (more i n e) = rw e refl
 
-group-counted : (bytes : List ℕ) (s : State)
-    → takeGroup bytes s .left .counts ≡ counted (takeGroup bytes s .answer) (s .counts)
-group-counted bytes s = go (sound s) refl (readingOf bytes) refl
+handed-counted : (given : Handed) (s : State)
+    → take given s .left .counts ≡ counted (take given s .answer) (s .counts)
+handed-counted given s = go (sound s) refl (broughtBy given) refl
   where
-    go : (b : Bool) → sound s ≡ b → (reading : Reading) → readingOf bytes ≡ reading
-        → takeGroup bytes s .left .counts ≡ counted (takeGroup bytes s .answer) (s .counts)
-    go false d reading e = rw (group-damaged bytes s d) refl
-    go true d (Refused why) e = rw (unread bytes s d why e) refl
-    go true d (Read carried) e = came-counted (arrivalIn bytes carried) s (takeGroup bytes s) (came bytes s d carried e)
+    go : (b : Bool) → sound s ≡ b → (brought : Brought) → broughtBy given ≡ brought
+        → take given s .left .counts ≡ counted (take given s .answer) (s .counts)
+    go false d brought e = rw (handed-damaged given s d) refl
+    go true d (refused why) e = rw (unread given s d why e) refl
+    go true d (arrives arrived) e = came-counted arrived s (take given s) (came given s d arrived e)
 
 drop-counted : (number : ℕ) (s : State)
     → dropNumber number s .left .counts ≡ counted (dropNumber number s .answer) (s .counts)
@@ -135,8 +133,8 @@ tallied-more answer events = counted-more answer (answersFrom 0 1 events) (answe
 leaves-tallied : (call : Call) (s : State) (events : List Event) → s .counts ≡ tallied events
     → leaves defined call s .counts ≡ tallied (event defined call s ∷ events)
 unfolding answersFrom
-leaves-tallied (hand bytes) s events e =
-    group-counted bytes s ∙ ap (counted (takeGroup bytes s .answer)) e ∙ tallied-more (takeGroup bytes s .answer) events
+leaves-tallied (hand given) s events e =
+    handed-counted given s ∙ ap (counted (take given s .answer)) e ∙ tallied-more (take given s .answer) events
 leaves-tallied (drop number) s events e =
     drop-counted number s ∙ ap (counted (dropNumber number s .answer)) e ∙ tallied-more
     (dropNumber number s .answer) events

@@ -1,6 +1,6 @@
 -- What wrong collectors are tried with: small objects and their groups, runs of a few calls, states that no run
 -- reaches, and the collector's own definitions with one piece replaced.
-use mathlib.Core.Path.{_≡_, refl}
+use mathlib.Core.Path.{_≡_, refl, ap}
 use mathlib.Core.Logic.{inl}
 use mathlib.Core.Bool.{true}
 use mathlib.Core.List.{List, [], _∷_}
@@ -13,6 +13,8 @@ use Rattle.answer.specs.declared.Part.the-variants.{Header, Body}
 use Rattle.answer.specs.Table.{numberOf}
 use Rattle.counts.specs.declared.Counts.{Counts}
 use Rattle.counts.specs.Counted.{ceiling, noneYet, within}
+use Rattle.wire.specs.declared.Carried.{Carried}
+use Rattle.wire.specs.declared.Reading.{Reading}
 use Rattle.wire.specs.declared.Reading.the-variants.{Read}
 use Rattle.wire.specs.Reading.{readingOf}
 use Rattle.cut.specs.Requirement.{bodySize, headerSize, Segment, Fits, Finished}
@@ -30,7 +32,8 @@ use Rattle.collector.specs.declared.Opening.the-variants as Opening
 use Rattle.collector.specs.declared.Located.{Located}
 use Rattle.collector.specs.declared.Located.the-variants as Located
 use Rattle.collector.specs.State.{Start, Opened, Reply, State}
-use Rattle.collector.specs.Calls.{dropNumber, locate, openWith, show, takeGroup, sound}
+use Rattle.collector.specs.Calls.{dropNumber, locate, openWith, show, sound, takeSegment}
+use Rattle.collector.specs.Arrival.{arrivalIn}
 use Rattle.queries.specs.Questions as queries
 use Rattle.queries.specs.declared.Asked.{Asked}
 use Rattle.queries.specs.declared.Asked.the-variants as Asked
@@ -40,11 +43,13 @@ use Rattle.history.specs.Held.{limitOf}
 use Rattle.history.specs.laws.Ready.{slots-sound}
 use Rattle.history.specs.laws.State.{in-order-exactly}
 use Rattle.history.specs.History.{Question, hand, drop, Collecting, Allowed, asking}
+use Rattle.history.specs.laws.Call.{defined}
+use Rattle.history.specs.State.{OfBytes, InOrder}
+use Rattle.history.specs.Handed.{Handed, group, segment, broughtIn}
 use Rattle.history.specs.laws.Reached.{reached-intact}
 use Rattle.history.specs.Promise.{Run, reachedBy, Passing}
 use Rattle.history.specs.laws.Samples.{computing, small, allowed, pair, pair-allowed, bodyLast, header, readAs, oneCut, of-bytes-one}
-use Rattle.history.specs.State.{OfBytes, InOrder}
-use Rattle.history.specs.laws.Call.{defined}
+use Rattle.history.specs.Taking.{take}
 
 -- ---- an object of one segment: a header of 7 bytes and no body
 
@@ -155,17 +160,25 @@ pub reads : (readingOf five ≡ Read (readAs 5 Header 0 true 7)) × (readingOf s
 unfolding computing
 reads = (refl, refl, refl, refl)
 
+abbrev passing : (bytes : List ℕ) (carried : Carried) → Bytes bytes → readingOf bytes ≡ Read carried → Passing
+passing bytes carried y e = record {
+  given = group bytes;
+  areBytes = y;
+  arrived = arrivalIn bytes carried;
+  brought = ap (λ (r : Reading). broughtIn r bytes) e;
+}
+
 unfoldable pub groupFive : Passing
-groupFive = record { bytes = five; areBytes = omega arith; carried = readAs 5 Header 0 true 7; read = reads .0 }
+groupFive = passing five (readAs 5 Header 0 true 7) (omega arith) (reads .0)
 
 unfoldable pub groupSix : Passing
-groupSix = record { bytes = six; areBytes = omega arith; carried = readAs 6 Header 0 true 7; read = reads .1 }
+groupSix = passing six (readAs 6 Header 0 true 7) (omega arith) (reads .1)
 
 unfoldable pub groupShort : Passing
-groupShort = record { bytes = short; areBytes = omega arith; carried = readAs 5 Header 0 true 6; read = reads .2 }
+groupShort = passing short (readAs 5 Header 0 true 6) (omega arith) (reads .2)
 
 unfoldable pub groupLast : Passing
-groupLast = record { bytes = bodyLast; areBytes = omega arith; carried = readAs 5 Body 1 true 4; read = reads .3 }
+groupLast = passing bodyLast (readAs 5 Body 1 true 4) (omega arith) (reads .3)
 
 -- ---- the runs, in one slot
 
@@ -173,26 +186,32 @@ abbrev pub none : Run
 none = record { start = small; allowed = allowed; calls = []; bytes = tt }
 
 abbrev pub one : Run
-one = record { start = small; allowed = allowed; calls = hand five ∷ []; bytes = (omega arith, tt) }
+one = record { start = small; allowed = allowed; calls = hand (group five) ∷ []; bytes = (omega arith, tt) }
 
 abbrev pub two : Run
 two = record {
   start = small;
   allowed = allowed;
-  calls = hand six ∷ hand five ∷ [];
+  calls = hand (group six) ∷ hand (group five) ∷ [];
   bytes =
       (omega arith, (omega arith, tt));
 }
 
 -- a drop, and a group after it
 abbrev pub dropped : Run
-dropped = record { start = small; allowed = allowed; calls = drop 5 ∷ hand five ∷ []; bytes = (tt, (omega arith, tt)) }
+dropped = record {
+  start = small;
+  allowed = allowed;
+  calls = drop 5 ∷ hand (group five) ∷ [];
+  bytes =
+      (tt, (omega arith, tt));
+}
 
 abbrev pub again : Run
 again = record {
   start = small;
   allowed = allowed;
-  calls = hand six ∷ drop 5 ∷ hand five ∷ [];
+  calls = hand (group six) ∷ drop 5 ∷ hand (group five) ∷ [];
   bytes =
       (omega arith, (tt, (omega arith, tt)));
 }
@@ -203,17 +222,23 @@ many = record { start = small; allowed = allowed; calls = oneCut; bytes = of-byt
 
 -- a header whose body is not in, and one with a name
 abbrev pub waiting : Run
-waiting = record { start = small; allowed = allowed; calls = hand header ∷ []; bytes = (omega arith, tt) }
+waiting = record { start = small; allowed = allowed; calls = hand (group header) ∷ []; bytes = (omega arith, tt) }
 
 abbrev pub namedWaiting : Run
-namedWaiting = record { start = small; allowed = allowed; calls = hand namedFirst ∷ []; bytes = (omega arith, tt) }
+namedWaiting = record {
+  start = small;
+  allowed = allowed;
+  calls = hand (group namedFirst) ∷ [];
+  bytes =
+      (omega arith, tt);
+}
 
 -- a finished object with a name, and one with a broken list of parameters
 abbrev pub named : Run
-named = record { start = small; allowed = allowed; calls = hand namedFive ∷ []; bytes = (omega arith, tt) }
+named = record { start = small; allowed = allowed; calls = hand (group namedFive) ∷ []; bytes = (omega arith, tt) }
 
 abbrev pub spoilt : Run
-spoilt = record { start = small; allowed = allowed; calls = hand broken ∷ []; bytes = (omega arith, tt) }
+spoilt = record { start = small; allowed = allowed; calls = hand (group broken) ∷ []; bytes = (omega arith, tt) }
 
 -- an opening with counts from before
 abbrev used : Start
@@ -263,7 +288,7 @@ worn-allowed = record {
 }
 
 abbrev pub wornOne : Run
-wornOne = record { start = worn; allowed = worn-allowed; calls = hand five ∷ []; bytes = (omega arith, tt) }
+wornOne = record { start = worn; allowed = worn-allowed; calls = hand (group five) ∷ []; bytes = (omega arith, tt) }
 
 -- ---- the runs, in two slots
 
@@ -274,7 +299,7 @@ abbrev pub twice : Run
 twice = record {
   start = pair;
   allowed = pair-allowed;
-  calls = hand five ∷ hand five ∷ [];
+  calls = hand (group five) ∷ hand (group five) ∷ [];
   bytes =
       (omega arith, (omega arith, tt));
 }
@@ -284,7 +309,7 @@ abbrev pub crossed : Run
 crossed = record {
   start = pair;
   allowed = pair-allowed;
-  calls = hand namedFive ∷ hand namedSix ∷ [];
+  calls = hand (group namedFive) ∷ hand (group namedSix) ∷ [];
   bytes =
       (omega arith, (omega arith, tt));
 }
@@ -359,8 +384,13 @@ foundSlot (At i) = i
 
 -- ---- the collector's own definitions with one piece replaced
 
+-- groups are taken otherwise, and segments as they are
+abbrev pub grouped : (List ℕ → State → Reply) → Handed → State → Reply
+grouped takes (group bytes) s = takes bytes s
+grouped takes (segment arrived) s = takeSegment arrived s
+
 -- a call
-abbrev calling : (Start → Opened) → (List ℕ → State → Reply) → (ℕ → State → Reply) → Collecting
+abbrev calling : (Start → Opened) → (Handed → State → Reply) → (ℕ → State → Reply) → Collecting
 calling opens takes drops = record {
   opens = opens;
   takes = takes;
@@ -374,20 +404,20 @@ calling opens takes drops = record {
 }
 
 abbrev pub openingBy : (Start → Opened) → Collecting
-openingBy opens = calling opens takeGroup dropNumber
+openingBy opens = calling opens take dropNumber
 
 abbrev pub takingBy : (List ℕ → State → Reply) → Collecting
-takingBy takes = calling openWith takes dropNumber
+takingBy takes = calling openWith (grouped takes) dropNumber
 
 abbrev pub droppingBy : (ℕ → State → Reply) → Collecting
-droppingBy drops = calling openWith takeGroup drops
+droppingBy drops = calling openWith take drops
 
 -- a question
 abbrev questioning : (ℕ → State → Located) → (ℕ → Part → State → List ℕ) → (ℕ → State → Asked) → (ℕ → State → List ℕ)
     → (List ℕ → State → Sought) → (Question → State → State) → Collecting
 questioning locates shows tells names finds asks = record {
   opens = openWith;
-  takes = takeGroup;
+  takes = take;
   drops = dropNumber;
   locates = locates;
   shows = shows;

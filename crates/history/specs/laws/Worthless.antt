@@ -43,7 +43,8 @@ use Rattle.slots.specs.Alone.{fitsAlone}
 use Rattle.collector.specs.declared.Located.the-variants as Located
 use Rattle.collector.specs.State.{Start, Opened, Reply, State, allFree, find, free}
 use Rattle.collector.specs.Calls.{dropNumber, intoFree, locate, openWith, takeGroup, answering, sound, withSlots}
-use Rattle.collector.specs.Arrival.{arrivalIn, heardAs, heardIn, segmentIn}
+use Rattle.collector.specs.Arrival.{arrivalIn, heardIn, segmentIn}
+use Rattle.history.specs.Handed.{group}
 use Rattle.history.specs.Held.{limitOf, slotOf, stageFor}
 use Rattle.history.specs.History.{Question, drop, ask, Collecting, told, under}
 use Rattle.history.specs.laws.Stage.{none-finished}
@@ -97,7 +98,7 @@ unfolding computing small
 makes-room-breaks p =
     let s : State = reachedBy (takingBy makesRoom) one in
     different (find 5 (makesRoom six s .left)) (find 5 s)
-    (ap (λ (t : State). find 5 t) (p six s (omega arith) (omega arith))) refl refl
+    (ap (λ (t : State). find 5 t) (p (group six) s (omega arith) (omega arith))) refl refl
 
 -- a drop that frees every slot
 abbrev pub dropsAll : ℕ → State → Reply

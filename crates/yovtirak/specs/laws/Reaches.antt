@@ -29,7 +29,8 @@ use Rattle.collector.specs.Calls.{takeGroup, dropNumber, openWith, locate, show
 use Rattle.queries.specs.Questions.{find}
 use Rattle.history.specs.laws.Ready.{used-inside, found-used}
 use Rattle.history.specs.laws.Shown.{held-lengths}
-use Rattle.history.specs.laws.Refused.{Kept, group-kept, drop-kept}
+use Rattle.history.specs.laws.Refused.{Kept, handed-kept, drop-kept}
+use Rattle.history.specs.Handed.{Handed}
 use Rattle.history.specs.History.{CallBytes, Within, Allowed, told}
 use Rattle.history.specs.laws.Reached.{reached-count}
 use Rattle.history.specs.laws.Room.{reached-slots}
@@ -98,7 +99,7 @@ module _ (l : Lent) (s : State) (w : Words l s) (r : Written s) where
           ≡ wordsOf (takeGroup group s .left .collector)
       kept true e = refl
       kept false e = w .state ∙ ap (λ (t : Reply). wordsOf (t .left .collector))
-          (sym (group-kept group s (unchanged (takeGroup group s .answer) e)))
+          (sym (handed-kept (Handed.group group) s (unchanged (takeGroup group s .answer) e)))
 
   drop-words : (number : ℕ) → (dropCall number (l .state) (l .counts) (l .stores) .result
       ≡ answerWord (dropNumber number s .answer)) × Words (leaves (HeadCall.drop number) l) (dropNumber number s .left)
