@@ -8,7 +8,7 @@ ghost use mathlib.Core.Path.{_≡_};
 ghost use Prim.Native.Nat.{_<_, _≤_, _-_, _*_, min};
 ghost use lib.Dec.{leb};
 ghost use Rattle.cut.specs.Requirement.{sizeLeast, sizeMost};
-ghost use Rattle.cut.specs.Decision.{largest, room, roomOpen, roomEnded, all, nothingTests, firstTests, laterTests, alone, possible};
+ghost use Rattle.cut.specs.Decision.{room, roomOpen, roomEnded, all, nothingTests, firstTests, laterTests, alone, possible};
 
 // Whether so many segments of a size reach a length. By division: the product could wrap.
 fn reaches(least: usize, numbers: usize, size: usize) -> bool
@@ -121,13 +121,6 @@ fn alone_first(b: Bounds, tail: usize) -> bool
     true
 }
 
-fn largest(b: Bounds, n: usize, tail: usize) -> usize
-    requires { ⌜ (0 < n) × (tail ≤ b .most) ⌝ }
-    ensures { λ r. ⌜ r ≡ largest b n tail ⌝ }
-{
-    lesser(SIZE_MOST, (b.most - tail) / n)
-}
-
 fn alone_later(b: Bounds, n: usize, tail: usize) -> bool
     requires { ⌜ 0 < n ⌝ }
     ensures { λ r. ⌜ r ≡ all (laterTests b n tail) ⌝ }
@@ -141,7 +134,7 @@ fn alone_later(b: Bounds, n: usize, tail: usize) -> bool
     if b.numbers <= n {
         return false;
     }
-    let size = largest(b, n, tail);
+    let size = lesser(SIZE_MOST, (b.most - tail) / n);
     if size < SIZE_LEAST {
         return false;
     }
