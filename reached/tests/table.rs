@@ -7,6 +7,7 @@ fn table() -> Table {
     Table {
         rows: vec![("a/One".into(), row(2, 10)), ("b/Two".into(), row(1, 5))],
         words: row(1, 4),
+        files: row(3, 20),
     }
 }
 
@@ -20,7 +21,8 @@ const RIGHT: &str = "\
 | `a/One` | the first | 2 | 10 |
 | `b/Two` | the other | 1 | 5 |
 | *all* | | 3 | 15 |
-| *the promises* | theirs | 1 | 4 |";
+| *the promises* | theirs | 1 | 4 |
+| *their files* | where they stand | 3 | 20 |";
 
 #[test]
 fn a_table_that_is_right_passes() {
@@ -55,6 +57,6 @@ fn a_row_without_words_is_said() {
     let new = document("");
     let written = table().written(&new).unwrap();
     assert!(written.contains("| `a/One` | ? | 2 | 10 |"));
-    assert_eq!(table().differences(&written).unwrap().len(), 4);
+    assert_eq!(table().differences(&written).unwrap().len(), 5);
     assert!(table().differences("no table").is_err());
 }
