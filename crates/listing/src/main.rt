@@ -2,7 +2,7 @@
 // one a line, and what is answered to each on standard output. A line's answer is written before
 // more of the input is read. All memory is lent here, once, so none grows with the input. What an
 // input leaves is what its lines leave, each done once, in order (`lines-done` in
-// specs/Theorems.antt).
+// specs/laws/Theorems.antt).
 use answer::Answer;
 use collector::Collector;
 use counts::Counts;

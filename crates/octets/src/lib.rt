@@ -1,8 +1,9 @@
-// Bytes moved and looked over: what is written into a store, copied down inside it, compared with what is there, and the
-// arrival marks, cleared and counted. Each function works on the part that its caller lends. What a write leaves is always
-// `over`, a run of bytes laid over a list, so that one set of laws (specs/Over.antt) says what stands before, inside and
-// after it and how it reads on the whole store; what marks add up to is in specs/Marks.antt. This is how document 01
-// stores a segment ("One object, one cut"). No loop here leaves early: a pass over all bytes is the faster one.
+// Bytes moved and looked over: what is written into a store, copied down inside it, compared with what is there, and
+// the arrival marks, cleared and counted. Each function works on the part that its caller lends. What a write leaves is
+// always `over`, a run of bytes laid over a list, so that one set of laws (specs/laws/Over.antt) says what stands
+// before, inside and after it and how it reads on the whole store; what marks add up to is in specs/laws/Marks.antt.
+// This is how document 01 stores a segment ("One object, one cut"). No loop here leaves early: a pass over all bytes is
+// the faster one.
 ghost use mathlib.Core.Path.{_≡_};
 ghost use Prim.Native.Nat.{_+_, _≤_, min};
 ghost use lib.ListN.{length, take, drop};

@@ -1,4 +1,4 @@
--- What one pass over the list notes: the executable form of `readHeader`, which specs/Exact.antt proves equal to it.
+-- What one pass over the list notes: the executable form of `readHeader`, which Exact.antt proves equal to it.
 use mathlib.Core.Bool.{Bool, true, false}
 use mathlib.Core.List.{List, [], _∷_}
 use Prim.Native.Nat.{ℕ, _<_}
