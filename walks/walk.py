@@ -321,6 +321,18 @@ class Walk:
                 c.rep(0, [p['id']], s.make(p))
             c.rep(2, ['acc'], 'fjoin ! $')
 
+    def enters(s, c, rec, within):
+        """The call is entered: with what is asked of its arguments, by the term that says it, or with nothing asked."""
+        if within:
+            c.say('says ! %s $' % within)
+            c.rep(1, [], 'frame ! $')
+            s.build(c, s.Q, rec)
+            c.say('done !')
+        else:
+            s.build(c, s.Q, rec)
+            c.move('tok', 'acc')
+            c.say('join ! $ frame ! $ done !')
+
     def ab(s, n, t, v, args=''):
         s.A('  abbrev %s : %s\n  %s = %s\n' % (n, t, (n + ' ' + args).strip(), v))
 
@@ -534,15 +546,8 @@ class Walk:
         hyps = cons(['tokens'] + [s.owns(p) for p in s.refs])
         c = Ctx(['tok'] + [p['id'] for p in s.refs])
         rec = lambda c: c.rep(0, ['C'], s.makeC('h', 'g'))
-        if s.d.get('core_requires', bool(s.fact)):
-            c.say('says ! %s $' % s.d.get('core_within', 'within'))
-            c.rep(1, [], 'frame ! $')
-            s.build(c, s.Q, rec)
-            c.say('done !')
-        else:
-            s.build(c, s.Q, rec)
-            c.move('tok', 'acc')
-            c.say('join ! $ frame ! $ done !')
+        asked = s.d.get('core_requires', bool(s.fact))
+        s.enters(c, rec, s.d.get('core_within', 'within') if asked else None)
         s.A('  goes : Is R h (machC h ∷ []) → ent 𝓤 (⋆ 𝓤 H A (%s)) (Callee 𝓤 H A at-mem run .pre to)\n  goes g =\n      qed W (%s) ∵ %s\n' % (hyps, hyps, ' '.join(c.out)))
         s.said()
         eh = cons(['‵ (fobs γ (R .coded .code (r .%s)))' % cf, '‵ (fbor κ-rec (Body (mem R) b o γ))', '‵ (flft κ-rec q-rec)', 'tokens'] + s.fins + [s.owns(p) for p in s.shrs])
@@ -624,15 +629,7 @@ class Walk:
         hyps = cons(['tokens ν', ref('l')] + [s.owns(p) for p in s.refs])
         c = Ctx(['tok', 'ref'] + [p['id'] for p in s.refs])
         rec = lambda c: c.move('ref', 'acc')
-        if s.fact:
-            c.say('says ! within $')
-            c.rep(1, [], 'frame ! $')
-            s.build(c, s.Q, rec)
-            c.say('done !')
-        else:
-            s.build(c, s.Q, rec)
-            c.move('tok', 'acc')
-            c.say('join ! $ frame ! $ done !')
+        s.enters(c, rec, 'within' if s.fact else None)
         s.A('  goes : (l ν : ℕ) (δ : GName) → ent 𝓤 (⋆ 𝓤 H A (%s)) (Callee 𝓤 H A at-mem run .pre (to l ν δ))\n  goes l ν δ =\n      qed W (%s) ∵ %s\n' % (hyps, hyps, ' '.join(c.out)))
         s.said()
         eh = cons(['caller-tokens'] + s.fins + [s.owns(p) for p in s.shrs])
