@@ -4,3 +4,4 @@ pub mod Shares
 pub mod Fresh
 pub mod Ready
 pub mod Held
+pub mod Finished

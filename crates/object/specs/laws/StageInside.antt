@@ -1,5 +1,5 @@
--- The stage of a slot that passes the test is the one that its parts give; the two lengths of a finished object lie
--- inside the shares.
+-- The stage of a slot that passes the test is the one that its parts give; the header of a finished object has its
+-- core, and its two lengths lie inside the shares.
 use mathlib.Core.Path.{_≡_, refl, sym}
 use mathlib.Core.Bool.{Bool, true, false}
 use mathlib.Core.List.{[], _∷_}
@@ -9,7 +9,7 @@ use lib.Dec.{eqb}
 use borrow.Author.Tests.{eqb-true, leb-true}
 use Rattle.octets.specs.Octets.{sumOf}
 use Rattle.answer.specs.declared.Part.the-variants.{Header, Body}
-use Rattle.cut.specs.Requirement.{headerMost}
+use Rattle.cut.specs.Requirement.{headerLeast, headerMost}
 use Rattle.cut.specs.declared.Core.{Core}
 use Rattle.cut.specs.declared.Core.the-variants.{Unseen, Seen}
 use Rattle.cut.specs.Decision.{boundsOf, coreTests, coreFits, finished}
@@ -51,14 +51,23 @@ finished-core false c h b e = let z : _≡_ {A = ℕ} 0 1 = cc in absurd (omega 
 finished-core true Unseen h b e = let z : _≡_ {A = ℕ} 0 1 = cc in absurd (omega arith)
 finished-core true (Seen body header) h b e = let x : header ≡ h = cc in let y : body ≡ b = cc in rw (x, y) refl
 
-core-lengths : (limit h b : ℕ) → coreFits limit (Seen b h) ≡ true → (h ≤ headerMost) × (b ≤ limit)
-unfolding coreFits
-core-lengths limit h b e = let t = all-true (coreTests limit (Seen b h)) e in
-    (leb-true h headerMost (t .1 .0), leb-true b limit (t .1 .1 .0))
+-- the two lengths of a finished object: its header has its core, and both lie inside the shares
+pub record Lengths (limit h b : ℕ) : Type 0 where
+  pub core : headerLeast ≤ h
+  pub header : h ≤ headerMost
+  pub body : b ≤ limit
 
--- the two lengths of a finished object lie inside the shares
-pub finished-inside : (limit h b : ℕ) (ps : Parts) → soundParts limit (Finished h b) ps ≡ true → (h ≤ headerMost)
-    × (b ≤ limit)
+core-lengths : (limit h b : ℕ) → coreFits limit (Seen b h) ≡ true → Lengths limit h b
+unfolding coreFits
+core-lengths limit h b e =
+    let t = all-true (coreTests limit (Seen b h)) e in
+    record {
+      core = leb-true headerLeast h (t .0);
+      header = leb-true h headerMost (t .1 .0);
+      body = leb-true b limit (t .1 .1 .0);
+    }
+
+pub finished-inside : (limit h b : ℕ) (ps : Parts) → soundParts limit (Finished h b) ps ≡ true → Lengths limit h b
 unfolding stageOf
 finished-inside limit h b ps e =
     let c : coreIn (ps .header) ≡ Seen b h =

@@ -102,7 +102,7 @@ module _ (limit count : ℕ) (slots : List Slot) (stores : Stores) (sound : soun
     w : Limits limit count (length (stores .header)) (length (stores .body)) (length (stores .marks))
     w = sound-limits limit count slots stores sound
 
-    sound-inside : (i : ℕ) → i < count → Inside limit i stores
+    pub sound-inside : (i : ℕ) → i < count → Inside limit i stores
     sound-inside i h = record {
       slot = omega (arith, w .slots);
       header = omega (arith, w .header, inside-store headerMost count i h);
@@ -110,10 +110,20 @@ module _ (limit count : ℕ) (slots : List Slot) (stores : Stores) (sound : soun
       marks = omega (arith, w .marks, inside-store slotMarks count i h);
     }
 
+    -- each of them is right
+    pub sound-right : (i : ℕ) → i < length (take count slots)
+        → rightSlot limit (slotAt i slots) (lentAt limit i stores) ≡ true
+    unfolding soundSlots slotAt
+    sound-right i h =
+        let short : i < count = omega (arith, rw length-take at h) in
+        let right = right-at limit 0 i (take count slots) stores
+        (all-true (soundTests limit count slots stores) sound .1 .1 .0) h in
+        rw (getD-take count slots i freeSlot short, zero-add i) at right
+
     -- the slot that is found is one of them, right, and passes the test
     pub found-right : (test : Slot → Bool) (i : ℕ) → firstFrom test 0 (take count slots) ≡ At i → (i < count)
         × (test (slotAt i slots) ≡ true) × (rightSlot limit (slotAt i slots) (lentAt limit i stores) ≡ true)
-    unfolding soundSlots slotAt
+    unfolding slotAt
     found-right test i e =
         let r = found-passes test 0 i (take count slots) e in
         let same : i ≡ r .0 = omega (arith, r .1) in
@@ -121,9 +131,7 @@ module _ (limit count : ℕ) (slots : List Slot) (stores : Stores) (sound : soun
         let short : i < count = omega (arith, rw length-take at h) in
         let at : getD (take count slots) i freeSlot ≡ getD slots i freeSlot = getD-take count slots i freeSlot short in
         let passes : test (getD (take count slots) i freeSlot) ≡ true = rw same (r .3) in
-        let right = right-at limit 0 i (take count slots) stores
-        (all-true (soundTests limit count slots stores) sound .1 .1 .0) h in
-        (short, rw at at passes, rw (at, zero-add i) at right)
+        (short, rw at at passes, sound-right i h)
 
     -- a slot that holds a number can be offered a segment
     pub sound-offered : (number i : ℕ) → findIn number count slots ≡ At i → OfferedAt limit i slots stores

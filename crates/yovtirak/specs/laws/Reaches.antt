@@ -4,11 +4,10 @@
 use mathlib.Core.Path.{_≡_, refl, sym, ap, _∙_}
 use mathlib.Core.Bool.{Bool, true, false}
 use mathlib.Core.List.{List, [], _∷_}
-use Prim.Native.Nat.{ℕ, suc, _+_, _*_, _≤_}
+use Prim.Native.Nat.{ℕ, suc, _≤_}
 use native.Mathlib.Omega.{arith}
 use lib.Dec.{eqb}
 use lib.ListN.{length}
-use borrow.Author.Tests.{le-leb}
 use Rattle.answer.specs.declared.Answer.{Answer}
 use Rattle.answer.specs.declared.Answer.the-variants as Answer
 use Rattle.cut.specs.Requirement.{headerMost}
@@ -21,9 +20,10 @@ use Rattle.slots.specs.declared.Found.{Found}
 use Rattle.slots.specs.declared.Found.the-variants.{Nothing, At}
 use Rattle.slots.specs.Stores.{Stores, slotAt}
 use Rattle.slots.specs.Find.{findIn}
-use Rattle.slots.specs.Show.{startOf, shownOf}
+use Rattle.slots.specs.Show.{shownOf}
 use Rattle.slots.specs.State.{withinLimits}
 use Rattle.slots.specs.laws.StateTests.{limits-hold}
+use Rattle.slots.specs.laws.Finished.{start-there}
 use Rattle.collector.specs.State.{State, Reply}
 use Rattle.collector.specs.Calls.{takeGroup, dropNumber, openWith, locate, show, sound}
 use Rattle.queries.specs.Questions.{find}
@@ -43,7 +43,6 @@ use Rattle.layout.specs.Layout.{wordsOf, countWords, collectorFrom, countsFrom}
 use Rattle.layout.specs.laws.ReadBack.{Numbered, written-back, written-reads}
 use Rattle.yovtirak.specs.Exports.{answerWord, held, changes, lentRight, left, takeCall, dropCall, leftOpen, openCall, finishedCall, readCall, findCall}
 use Rattle.yovtirak.specs.Heads.{Place, Lent, HeadCall, GroupBytes, leftBy, begins, leaves, returns, after, asStart, asCalls, reachedBy, inWords, Fitting, Words}
-use Rattle.octets.specs.Octets.{part}
 
 -- ---- words and the state that they hold
 
@@ -217,11 +216,6 @@ module _ (number : ℕ) (state counts : List ℕ) (stores : Stores) (place : Lis
   abbrev here : State
   here = held state counts stores
 
-  start-there : (width i count : ℕ) (store : List ℕ) → count ≤ width → i * width + width ≤ length store
-      → startOf width i count store ≡ part store (i * width) count
-  unfolding startOf
-  start-there width i count store h g = rw (le-leb (i * width + count) (length store) (omega arith)) refl
-
   -- A `yovtirak_finished` THAT RETURNS 0 tells where the header and the body stand
   pub finished-there : finishedCall number state counts stores place .result ≡ 0
       → Place number state counts stores place
@@ -247,8 +241,8 @@ module _ (number : ℕ) (state counts : List ℕ) (stores : Stores) (place : Lis
             body = b;
             told = rw (f, g, n, t) (rw t refl);
             headerThere = rw (g, n, t) (rw t
-                (start-there headerMost i h (stores .header) (lengths .0) (inside .header)));
-            bodyThere = rw (g, n, t) (rw t (start-there (collectorFrom state .limit) i b (stores .body) (lengths .1)
+                (start-there headerMost i h (stores .header) (lengths .header) (inside .header)));
+            bodyThere = rw (g, n, t) (rw t (start-there (collectorFrom state .limit) i b (stores .body) (lengths .body)
                 (inside .body)));
           }
 
