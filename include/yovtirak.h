@@ -111,6 +111,7 @@ struct yovtirak_lent {
 
 /* ---- what comes back */
 
+/* No answer has number 23, and none will. */
 enum yovtirak_answer {
     YOVTIRAK_STORED = 0,      /* new segment, the object is not finished */
     YOVTIRAK_COMPLETE = 1,    /* new segment, the object is now finished */
@@ -129,7 +130,6 @@ enum yovtirak_answer {
     YOVTIRAK_UNFINISHED = 20, /* the object is not finished */
     YOVTIRAK_HEADER = 21,     /* the header's parameter list is broken */
     YOVTIRAK_DUPLICATE = 22,  /* a single parameter comes twice */
-    YOVTIRAK_CORE = 23,       /* a finished header of fewer than 7 bytes */
     YOVTIRAK_NOTFOUND = 24,   /* no finished object has the name */
     YOVTIRAK_LIMITS = 25,     /* opening outside the bounds, or a lent length is wrong */
     YOVTIRAK_STATE = 26,      /* the state is damaged, or a lent length is wrong */
@@ -281,7 +281,7 @@ static inline enum yovtirak_answer yovtirak_show_object(const struct yovtirak_le
     return answer;
 }
 
-/* Tells what a finished object's header says. READ; or STATE, NOTHELD, UNFINISHED, CORE, HEADER or
+/* Tells what a finished object's header says. READ; or STATE, NOTHELD, UNFINISHED, HEADER or
  * DUPLICATE, and `said` stays as it is. */
 static inline enum yovtirak_answer yovtirak_read_parameters(const struct yovtirak_lent *lent,
                                                             uint16_t number,

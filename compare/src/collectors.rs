@@ -7,6 +7,7 @@ use crate::lent::Lent;
 use independent::answer::Answer;
 use independent::collector::{Collector, Counts, Memory, MOST_COUNTED};
 use independent::group::Part;
+use independent::object::CORE_LENGTH;
 use independent::random::histories::{calls, Call};
 use independent::random::Random;
 use independent::state::Handed;
@@ -20,9 +21,8 @@ const LIMITS: [usize; 4] = [1_024, 12_288, 65_536, 1_048_576];
 /// Stores up to this many bytes are compared after every call.
 const SMALL: usize = 40_000;
 
-/// What no call of a collector that is open and sound, with a whole core in each finished header, is
-/// answered: `states` has STATE, the openings here LIMITS, and `headers` CORE.
-const OTHERS: [Answer; 3] = [Answer::Core, Answer::Limits, Answer::State];
+/// What no call of a collector that is open and sound is answered: `states` has STATE, the openings here LIMITS.
+const OTHERS: [Answer; 2] = [Answer::Limits, Answer::State];
 
 /// How often each answer was given.
 pub type Tally = BTreeMap<&'static str, usize>;
@@ -85,7 +85,10 @@ pub fn call(
                 return Err(differ("a header", ours, theirs));
             }
             match theirs {
-                Ok(_) => return told(tally, "a header read"),
+                Ok(reading) if reading.core.header_size == CORE_LENGTH => {
+                    return told(tally, "a header of 7 bytes read")
+                }
+                Ok(_) => return told(tally, "a longer header read"),
                 Err(answer) => answer,
             }
         }

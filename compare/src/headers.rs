@@ -4,7 +4,7 @@
 use crate::proved;
 use independent::answer::Answer;
 use independent::header;
-use independent::object::Core;
+use independent::object::{Core, CORE_LENGTH};
 use independent::random::headers::{any_header, name};
 use independent::random::Random;
 use std::collections::BTreeMap;
@@ -94,6 +94,9 @@ fn compare_header(random: &mut Random, tally: &mut Tally) -> Result<(), String> 
     if ours != theirs {
         return Err(format!("read as {ours:?}, not {theirs:?}: {bytes:02x?}"));
     }
+    if bytes.len() == CORE_LENGTH {
+        count("of 7 bytes");
+    }
     match ours {
         Err(answer) => count(answer.name()),
         Ok(reading) => count(match (reading.name, reading.priority) {
@@ -128,7 +131,7 @@ pub fn run() -> Result<String, String> {
         compare_header(&mut random, &mut tally)?;
     }
     const EXPECTED: [&str; 9] = [
-        "CORE",
+        "of 7 bytes",
         "HEADER",
         "DUPLICATE",
         "read with name and priority",

@@ -20,6 +20,9 @@ struct Seen {
     not_found: usize,
     several: usize,
     headers: usize,
+    /// Headers of 7 bytes that were read, and names that were asked for beside one.
+    cores: usize,
+    beside: usize,
 }
 
 /// A whole header, of an object without a body, that a single group brings.
@@ -67,6 +70,12 @@ fn filled(random: &mut Random) -> Result<(Lent, Collector), String> {
 
 fn one(random: &mut Random, seen: &mut Seen) -> Result<(), String> {
     let (lent, collector) = filled(random)?;
+    let held = || collector.slots().iter().flatten();
+    let is_core = |transport| {
+        let header = collector.show(transport, Part::Header);
+        header.is_ok_and(|header| header.len() == CORE_LENGTH)
+    };
+    let has_core = held().any(|held| is_core(held.transport));
     for _ in 0..ASKED {
         let name = headers::name(random);
         let (ours, theirs) = (lent.find(&name), collector.find(&name));
@@ -81,12 +90,12 @@ fn one(random: &mut Random, seen: &mut Seen) -> Result<(), String> {
             let header = collector.show(transport, Part::Header);
             header.is_ok_and(|header| independent::header::has_name(header, &name))
         };
-        let holders = collector.slots().iter().flatten();
-        if holders.filter(|held| named(held.transport)).count() > 1 {
+        if held().filter(|held| named(held.transport)).count() > 1 {
             seen.several += 1;
         }
+        seen.beside += usize::from(has_core);
     }
-    for held in collector.slots().iter().flatten() {
+    for held in held() {
         let (ours, theirs) = (
             lent.read(held.transport),
             collector.read_header(held.transport),
@@ -95,6 +104,7 @@ fn one(random: &mut Random, seen: &mut Seen) -> Result<(), String> {
             return Err(format!("{:04x}: {ours:?}, not {theirs:?}", held.transport));
         }
         seen.headers += 1;
+        seen.cores += usize::from(is_core(held.transport));
     }
     Ok(())
 }
@@ -110,11 +120,20 @@ pub fn run() -> Result<String, String> {
         not_found,
         several,
         headers,
+        cores,
+        beside,
     } = seen;
-    if several < 1_000 || not_found < 1_000 {
-        return Err(format!("only {several} of several and {not_found} of none"));
+    if [several, not_found, cores, beside]
+        .iter()
+        .any(|&times| times < 1_000)
+    {
+        return Err(format!(
+            "only {several} of several, {not_found} of none, {cores} of 7 bytes and {beside} beside these"
+        ));
     }
     Ok(format!(
-        "{COLLECTORS} collectors, {headers} headers read, {found} names found, {several} of them among several objects, and {not_found} not found"
+        "{COLLECTORS} collectors, {headers} headers read, {cores} of them of 7 bytes, {found} names found, \
+         {several} of them among several objects, and {not_found} not found, {beside} asked for beside a header \
+         of 7 bytes"
     ))
 }

@@ -9,7 +9,7 @@ use crate::lent::{state_of, words, Lent, UNTOLD};
 use independent::answer::{Answer, Reply};
 use independent::collector::{Collector, Counts, Memory, MOST_COUNTED};
 use independent::group::{Fields, Part};
-use independent::object::Core;
+use independent::object::{Core, CORE_LENGTH, HEADER_LENGTHS};
 use independent::random::histories::{calls, Call};
 use independent::random::{damage, headers, Random};
 use independent::state::{Handed, StageRecord, State};
@@ -263,6 +263,45 @@ fn verdict(lent: &mut Lent, seen: &mut Seen) -> Result<(), String> {
     Ok(())
 }
 
+/// A finished header of every length, in the bounds and out of them, with all else as it would be then. Of 7 bytes
+/// to 1,024 it is read; any other state is damaged, so that no question meets a header without its core.
+fn header_lengths(seen: &mut Seen) -> Result<usize, String> {
+    let lengths = 0..HEADER_LENGTHS.end() + 2;
+    for length in lengths.clone() {
+        let memory = Memory::filled(1_024, 1, 0);
+        let mut collector = Collector::open(1_024, 1, memory).expect("the limits are in bounds");
+        let core = |header_size| Core {
+            body_size: 0,
+            header_size,
+            content_type: 2,
+            content_subtype: 1,
+        };
+        let header = core(CORE_LENGTH).bytes();
+        collector.take(&Fields::of_segment(5, Part::Header, 0, true, &header).whole());
+        let mut state = State::of(&collector);
+        state.slots[0].stage = StageRecord::Finished {
+            header: length,
+            body: 0,
+        };
+        state.slots[0].header.tail = length;
+        collector.memory.header_store[..CORE_LENGTH].copy_from_slice(&core(length).bytes());
+        let mut lent = lent_of(&state, &collector.memory, &collector.counts);
+        let (shown, read, found) = (lent.show(5, Part::Header), lent.read(5), lent.find(b"a"));
+        let right = if HEADER_LENGTHS.contains(&length) {
+            shown.is_ok_and(|header| header.len() == length)
+                && read.is_ok_and(|reading| reading.core.header_size == length)
+                && found == Err(Answer::NotFound)
+        } else {
+            [shown.err(), read.err(), found.err()] == [Some(Answer::State); 3]
+        };
+        if !right {
+            return Err(format!("a finished header of {length} bytes"));
+        }
+        verdict(&mut lent, seen).map_err(|said| format!("{length} bytes: {said}"))?;
+    }
+    Ok(lengths.len())
+}
+
 /// Words of the wrong number to tell something in: STATE, and nothing is told.
 fn told_elsewhere() -> Result<usize, String> {
     let collector = two_slots();
@@ -354,6 +393,7 @@ fn everything(seen: &mut Seen) -> Result<(), String> {
 pub fn run() -> Result<String, String> {
     let mut seen = Seen::default();
     everything(&mut seen)?;
+    let lengths = header_lengths(&mut seen)?;
     let told = told_elsewhere()?;
     let mut tally = Tally::new();
     for number in 0..HISTORIES {
@@ -381,7 +421,8 @@ pub fn run() -> Result<String, String> {
     Ok(format!(
         "{} states with one thing changed, {damaged} damaged and {sound} sound, {asked} questions \
          asked of them, {words} with a word that holds nothing of its kind, every word, count, mark \
-         and byte of one in turn, {each} states, and {told} lengths of what is told; answers {tally:?}",
+         and byte of one in turn and {lengths} lengths of a finished header, {each} states, and {told} lengths of \
+         what is told; answers {tally:?}",
         sound + damaged
     ))
 }

@@ -3,7 +3,7 @@
 
 use crate::group::Part;
 
-/// Every answer, with document 01's number.
+/// Every answer, with document 01's number; 23 is retired (document 02, Item 14).
 #[derive(Clone, Copy, Debug, PartialEq, Eq, PartialOrd, Ord, Hash)]
 pub enum Answer {
     Stored = 0,
@@ -23,14 +23,13 @@ pub enum Answer {
     Unfinished = 20,
     Header = 21,
     Duplicate = 22,
-    Core = 23,
     NotFound = 24,
     Limits = 25,
     State = 26,
 }
 
 impl Answer {
-    pub const ALL: [Answer; 21] = [
+    pub const ALL: [Answer; 20] = [
         Answer::Stored,
         Answer::Complete,
         Answer::Repeat,
@@ -48,7 +47,6 @@ impl Answer {
         Answer::Unfinished,
         Answer::Header,
         Answer::Duplicate,
-        Answer::Core,
         Answer::NotFound,
         Answer::Limits,
         Answer::State,
@@ -77,7 +75,6 @@ impl Answer {
             Answer::Unfinished => "UNFINISHED",
             Answer::Header => "HEADER",
             Answer::Duplicate => "DUPLICATE",
-            Answer::Core => "CORE",
             Answer::NotFound => "NOTFOUND",
             Answer::Limits => "LIMITS",
             Answer::State => "STATE",
@@ -149,7 +146,6 @@ mod tests {
             (20, "UNFINISHED"),
             (21, "HEADER"),
             (22, "DUPLICATE"),
-            (23, "CORE"),
             (24, "NOTFOUND"),
             (25, "LIMITS"),
             (26, "STATE"),

@@ -388,7 +388,7 @@ impl Collector {
         })
     }
 
-    /// What a finished object's header says; or NOTHELD, UNFINISHED, CORE, HEADER or DUPLICATE.
+    /// What a finished object's header says; or NOTHELD, UNFINISHED, HEADER or DUPLICATE.
     pub fn read_header(&self, transport: u16) -> Result<header::Reading, Answer> {
         header::read(self.show(transport, Part::Header)?)
     }

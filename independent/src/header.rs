@@ -1,5 +1,5 @@
 //! The parameters of a finished object's header and the matching of names (document 01,
-//! "Parameters and names"), for a header of any bytes.
+//! "Parameters and names"), for a header of any bytes that has its core, as a finished one has.
 
 use crate::answer::Answer;
 use crate::object::{Core, CORE_LENGTH};
@@ -59,9 +59,9 @@ pub fn parameters(header: &[u8]) -> Option<Vec<Parameter>> {
     Some(found)
 }
 
-/// Reads a finished header, or says CORE, HEADER or DUPLICATE, in this order.
+/// Reads a finished header, or says HEADER or DUPLICATE, in this order.
 pub fn read(header: &[u8]) -> Result<Reading, Answer> {
-    let core = Core::of(header).ok_or(Answer::Core)?;
+    let core = Core::of(header).expect("a finished header has its core");
     let list = parameters(header).ok_or(Answer::Header)?;
     for parameter in &list {
         let wrong = match parameter.identifier {
@@ -157,16 +157,12 @@ mod tests {
 
     #[test]
     fn no_parameters() {
-        let reading = read(&header(&[])).unwrap();
+        let core_alone = header(&[]);
+        assert_eq!(core_alone.len(), 7);
+        let reading = read(&core_alone).unwrap();
+        assert_eq!((reading.core.body_size, reading.core.header_size), (20, 7));
         assert_eq!((reading.priority, reading.name), (None, None));
-    }
-
-    #[test]
-    fn under_seven_bytes() {
-        for length in 0..7 {
-            assert_eq!(read(&vec![0; length]), Err(Answer::Core));
-        }
-        assert!(read(&[0; 7]).is_ok());
+        assert!(!has_name(&core_alone, b""));
     }
 
     #[test]

@@ -1,6 +1,6 @@
 //! The answers of document 01, "What comes back", and what is returned with them.
 
-/// An answer, with document 01's number.
+/// An answer, with document 01's number. None has number 23, and none will.
 #[derive(Clone, Copy, Debug, PartialEq, Eq, Hash)]
 #[repr(u8)]
 pub enum Answer {
@@ -38,8 +38,6 @@ pub enum Answer {
     Header = 21,
     /// A single parameter comes twice.
     Duplicate = 22,
-    /// A finished header of fewer than 7 bytes.
-    Core = 23,
     /// No finished object has the name.
     NotFound = 24,
     /// An opening outside the bounds, or a lent length is wrong.
@@ -50,7 +48,7 @@ pub enum Answer {
 
 impl Answer {
     /// All answers, in the order of their numbers.
-    pub const ALL: [Answer; 21] = [
+    pub const ALL: [Answer; 20] = [
         Answer::Stored,
         Answer::Complete,
         Answer::Repeat,
@@ -68,7 +66,6 @@ impl Answer {
         Answer::Unfinished,
         Answer::Header,
         Answer::Duplicate,
-        Answer::Core,
         Answer::NotFound,
         Answer::Limits,
         Answer::State,

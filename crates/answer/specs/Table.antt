@@ -6,7 +6,7 @@ use Prim.Native.String.{String}
 use Rattle.answer.specs.declared.Refusal.{Refusal}
 use Rattle.answer.specs.declared.Refusal.the-variants.{Length, NoCheck, BadCheck, Kind, NoSegment, Address, Size}
 use Rattle.answer.specs.declared.Reason.{Reason}
-use Rattle.answer.specs.declared.Reason.the-variants.{NotHeld, Unfinished, Header, Duplicate, Core, NotFound, Limits, State}
+use Rattle.answer.specs.declared.Reason.the-variants.{NotHeld, Unfinished, Header, Duplicate, NotFound, Limits, State}
 use Rattle.answer.specs.declared.Answer.{Answer}
 use Rattle.answer.specs.declared.Answer.the-variants.{Stored, Complete, Repeat, Dropped, Refused, Conflict, Full, Denied}
 use Rattle.answer.specs.declared.Returned.{Returned}
@@ -38,7 +38,6 @@ reasonRow NotHeld = row 19 "NOTHELD" Nothing
 reasonRow Unfinished = row 20 "UNFINISHED" Nothing
 reasonRow Header = row 21 "HEADER" Nothing
 reasonRow Duplicate = row 22 "DUPLICATE" Nothing
-reasonRow Core = row 23 "CORE" Nothing
 reasonRow NotFound = row 24 "NOTFOUND" Nothing
 reasonRow Limits = row 25 "LIMITS" Nothing
 reasonRow State = row 26 "STATE" Nothing
@@ -61,6 +60,10 @@ nameOf answer = rowOf answer .name
 
 abbrev pub returnedWith : Answer → Returned
 returnedWith answer = rowOf answer .returned
+
+-- the number that no answer has, and none is given again
+abbrev pub retired : ℕ
+retired = 23
 
 -- a row as the code has it, with the name spelt in ASCII
 pub record Reads (kept : Kept) (row : Row) : Type 0 where

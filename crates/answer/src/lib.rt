@@ -29,13 +29,12 @@ pub enum Refusal {
     Size,
 }
 
-// Why a call gives nothing: numbers 19 to 26.
+// Why a call gives nothing: numbers 19 to 26, of which 23 is retired.
 pub enum Reason {
     NotHeld,
     Unfinished,
     Header,
     Duplicate,
-    Core,
     NotFound,
     Limits,
     State,
@@ -111,7 +110,6 @@ fn reason_row(reason: Reason) -> Row
         Reason::Unfinished => entry(20, *b"UNFINISHED", 10, Returned::Nothing),
         Reason::Header => entry(21, *b"HEADER    ", 6, Returned::Nothing),
         Reason::Duplicate => entry(22, *b"DUPLICATE ", 9, Returned::Nothing),
-        Reason::Core => entry(23, *b"CORE      ", 4, Returned::Nothing),
         Reason::NotFound => entry(24, *b"NOTFOUND  ", 8, Returned::Nothing),
         Reason::Limits => entry(LIMITS, *b"LIMITS    ", 6, Returned::Nothing),
         Reason::State => entry(STATE, *b"STATE     ", 5, Returned::Nothing),

@@ -1,10 +1,14 @@
 -- What a header says, field by field, in numbers: 0 for what is not there.
 use mathlib.Core.Bool.{cond}
+use mathlib.Core.List.{List}
 use Prim.Native.Nat.{ℕ, _+_}
-use lib.Dec.{eqb}
+use lib.Dec.{eqb, ltb}
+use lib.ListN.{length}
 use Rattle.answer.specs.declared.Answer.the-variants as Answer
 use Rattle.answer.specs.declared.Reason.the-variants as Reason
 use Rattle.answer.specs.Table.{numberOf}
+use Rattle.cut.specs.Requirement.{headerLeast}
+use Rattle.header.specs.Parameters.{readHeader}
 use Rattle.header.specs.declared.Fields.{Fields}
 use Rattle.header.specs.declared.Name.{Name}
 use Rattle.header.specs.declared.Name.the-variants as Name
@@ -17,7 +21,6 @@ use Rattle.header.specs.declared.Refusal.the-variants as Refusal
 use Rattle.comparison.specs.Fields.{refusalField}
 
 abbrev pub refusalNumber : Refusal → ℕ
-refusalNumber Refusal.Core = numberOf (Answer.Denied Reason.Core)
 refusalNumber Refusal.Header = numberOf (Answer.Denied Reason.Header)
 refusalNumber Refusal.Duplicate = numberOf (Answer.Denied Reason.Duplicate)
 
@@ -45,6 +48,10 @@ saidField fields field =
     (cond (eqb field 6) (nameStart (fields .name))
     (cond (eqb field 7) (nameSize (fields .name)) 0))))))
 
-abbrev pub headerField : Reading → ℕ → ℕ
-headerField (Read fields) field = saidField fields field
-headerField (Refused refusal) field = refusalField (refusalNumber refusal) field
+abbrev pub readField : Reading → ℕ → ℕ
+readField (Read fields) field = saidField fields field
+readField (Refused refusal) field = refusalField (refusalNumber refusal) field
+
+-- nothing is told of a header that is shorter than its core
+unfoldable pub headerField : List ℕ → ℕ → ℕ
+headerField header field = cond (ltb (length header) headerLeast) 0 (readField (readHeader header) field)

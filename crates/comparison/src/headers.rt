@@ -6,7 +6,6 @@ use header::Priority;
 use header::Reading;
 use header::Refusal;
 ghost use mathlib.Core.Path.{_≡_};
-ghost use Rattle.header.specs.Parameters.{readHeader};
 ghost use Rattle.header.specs.Names.{nameMatches};
 ghost use Rattle.comparison.specs.Headers.{refusalNumber, priorityNumber, nameStart, nameSize, saidField, headerField};
 
@@ -14,7 +13,6 @@ fn refusal_number(refusal: Refusal) -> u8
     ensures { λ r. ⌜ r ≡ refusalNumber refusal ⌝ }
 {
     match refusal {
-        Refusal::Core => 23,
         Refusal::Header => 21,
         Refusal::Duplicate => 22,
     }
@@ -64,11 +62,14 @@ fn said_field(fields: Fields, field: u8) -> u64
     }
 }
 
-// One field of what is read of a header.
+// One field of what is read of a header that has its core, as every finished one has.
 #[no_mangle]
 pub extern "C" fn compared_header(header: &[u8], field: u8) -> u64
-    ensures { λ r. ⌜ r ≡ headerField (readHeader (now (header .entry))) field ⌝ }
+    ensures { λ r. ⌜ r ≡ headerField (now (header .entry)) field ⌝ }
 {
+    if header.len() < header::CORE {
+        return 0;
+    }
     match header::read(header) {
         Reading::Read(fields) => said_field(fields, field),
         Reading::Refused(refusal) => crate::refusal_field(refusal_number(refusal), field),

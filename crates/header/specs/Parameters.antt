@@ -13,7 +13,7 @@ use Rattle.header.specs.declared.Priority.the-variants.{Absent as NoPrio
 use Rattle.header.specs.declared.Name.{Name}
 use Rattle.header.specs.declared.Name.the-variants.{Absent as NoName, Data}
 use Rattle.header.specs.declared.Fields.{Fields}
-use Rattle.header.specs.declared.Refusal.the-variants.{Core, Header, Duplicate}
+use Rattle.header.specs.declared.Refusal.the-variants.{Header, Duplicate}
 use Rattle.header.specs.declared.Reading.{Reading}
 use Rattle.header.specs.declared.Reading.the-variants.{Refused, Read}
 
@@ -145,9 +145,9 @@ judged h (listed ps) =
     pick (allFit ps) (pick (twice singles ps) (Refused Duplicate) (Read (fieldsOf h (find 0x0A ps) (find 0x0C ps))))
     (Refused Header)
 
--- CORE first
+-- a finished header, which has its core
 unfoldable pub readHeader : List ℕ → Reading
-readHeader h = pick (ltb (length h) 7) (Refused Core) (judged h (parameters h))
+readHeader h = judged h (parameters h)
 
 -- the name's data of a header that reads; a refused one has none
 abbrev pub nameIn : Reading → Name

@@ -2,7 +2,8 @@
 // ContentName, or why the list is refused; and whether a name that is asked for is the header's name. A reading is one
 // definition (specs/Parameters.antt) in the words of document 01, "Parameters and names", after EN 301 234 V1.2.1,
 // clauses 5.1 and 5.2, with the single parameters and the matching of names from TS 101 498-1, clause 5.4. No function
-// that others call asks anything of its bytes, and no byte past the header is looked at.
+// that others call asks anything of its bytes but that the core's 7 are there, as they are in every finished header,
+// and no byte past the header is looked at.
 ghost use mathlib.Core.Path.{_≡_};
 ghost use Prim.Native.Nat.{_≤_, _<_};
 ghost use lib.ListN.{length};
@@ -54,9 +55,8 @@ pub struct Fields {
     pub name: Name,
 }
 
-// Why a header is refused: it has no whole core; its list is broken; a single parameter comes twice.
+// Why a header is refused: its list is broken; a single parameter comes twice.
 pub enum Refusal {
-    Core,
     Header,
     Duplicate,
 }
@@ -264,11 +264,9 @@ fn fields_of(header: &[u8], notes: Notes) -> Fields
 
 // What a whole header says, or why it is refused.
 pub fn read(header: &[u8]) -> Reading
+    requires { ⌜ headerLeast ≤ length (now header) ⌝ }
     ensures { λ r. ⌜ r ≡ readHeader (now (header .entry)) ⌝ }
 {
-    if header.len() < CORE {
-        return Reading::Refused(Refusal::Core);
-    }
     let Scan::Whole(notes) = note_all(header) else {
         return Reading::Refused(Refusal::Header);
     };
@@ -280,6 +278,7 @@ pub fn read(header: &[u8]) -> Reading
 
 // Where the name's data stands in a header that reads; a refused header has no name.
 pub fn name_of(header: &[u8]) -> Name
+    requires { ⌜ headerLeast ≤ length (now header) ⌝ }
     ensures { λ r. ⌜ r ≡ nameIn (readHeader (now (header .entry))) ⌝ }
 {
     match read(header) {

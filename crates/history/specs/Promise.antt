@@ -21,7 +21,7 @@ use Rattle.counts.specs.Counted.{ceiling, noneYet, oneRepeated, oneRefused}
 use Rattle.wire.specs.declared.Reading.the-variants.{Refused}
 use Rattle.wire.specs.Reading.{readingOf}
 use Rattle.cut.specs.Lists.{pick, Each, Among}
-use Rattle.cut.specs.Requirement.{headerNumbers, bodyNumbers, Segment, Fits, Finished, joined}
+use Rattle.cut.specs.Requirement.{headerLeast, headerNumbers, bodyNumbers, Segment, Fits, Finished, joined}
 use Rattle.cut.specs.Decision.{both}
 use Rattle.cut.specs.Parts.{headersWith, bodiesWith}
 use Rattle.header.specs.declared.Reading.{Reading}
@@ -244,6 +244,11 @@ module _ (k : Collecting) (v : View) where
       × (k .shows number Header (v .state) ≡ joined headerNumbers (v .kept Header number))
       × (k .shows number Body (v .state) ≡ joined bodyNumbers (v .kept Body number))
 
+  -- The header of a finished object has its 7 bytes at least, and so has whatever a question reads.
+  abbrev pub CoreBy : Type 0
+  CoreBy = (number i : ℕ) → k .locates number (v .state) ≡ Located.At i
+      → headerLeast ≤ length (k .shows number Header (v .state))
+
   -- Of any other number, nothing.
   abbrev pub UnshownBy : Type 0
   UnshownBy = (number : ℕ) → Missing v number → (part : Part) → k .shows number part (v .state) ≡ []
@@ -284,6 +289,7 @@ pub record AnsweredBy (k : Collecting) (v : View) : Type 0 where
   pub unfinished : UnfinishedBy k v
   pub located : LocatedBy k v
   pub shown : ShownBy k v
+  pub core : CoreBy k v
   pub unshown : UnshownBy k v
   pub reading : ReadBy k v
   pub named : NamedBy k v
@@ -388,6 +394,9 @@ module _ (k : Collecting) where
   -- Demand 2.
   abbrev pub ShownJoined : Type 0
   ShownJoined = (r : Run) → ShownBy k (since k r)
+
+  abbrev pub CoreShown : Type 0
+  CoreShown = (r : Run) → CoreBy k (since k r)
 
   abbrev pub UnfinishedUnshown : Type 0
   UnfinishedUnshown = (r : Run) → UnshownBy k (since k r)
@@ -496,6 +505,7 @@ pub record Promised (k : Collecting) : Type 0 where
   pub asking : AskedLeaves k
   pub others : OthersLeave k
   pub shown : ShownJoined k
+  pub core : CoreShown k
   pub unshown : UnfinishedUnshown k
   pub counts : CountsTold k
   pub conflict : ConflictExactly k

@@ -1,6 +1,7 @@
 // Finished objects and their names (document 01, "Parameters and names"): ContentName's data as a part
-// of a header, and the lowest transport number among the finished objects that have a name. What is
-// read may be any bytes: a header that is refused has no name.
+// of a header, and the lowest transport number among the finished objects that have a name. Only the
+// headers of finished objects are read, which have their core; else they may be any bytes, and one that
+// is refused has no name.
 use header::Found;
 use header::Name;
 use header::Parameter;
@@ -10,11 +11,11 @@ use object::Stage;
 ghost use mathlib.Core.Path.{_≡_};
 ghost use Prim.Native.Nat.{_+_, _≤_};
 ghost use lib.ListN.{length};
-ghost use Rattle.slots.specs.Stores.{slotsMost};
+ghost use Rattle.cut.specs.Requirement.{headerLeast};
 ghost use Rattle.header.specs.laws.Search.{isNamed};
 ghost use Rattle.header.specs.Names.{nameData};
-ghost use Rattle.name_search.specs.Finding.{headerIn, lower, foundByName};
-ghost use Rattle.name_search.specs.laws.Legible.{legible};
+ghost use Rattle.name_search.specs.Finding.{lower, foundByName, CoreIn, Searched};
+ghost use Rattle.name_search.specs.laws.Legible.{legibleIn};
 
 // Whose a name is: nobody's, or that of the finished object with this transport number.
 pub enum Holder {
@@ -22,19 +23,9 @@ pub enum Holder {
     Number(u16),
 }
 
-// A finished object's header, as the part of the store that has it; nothing of any other slot.
-fn header_in(i: usize, slot: Slot, store: &[u8]) -> &[u8]
-    ensures { λ r. ⌜ now r ≡ headerIn i slot (now (store .entry)) ⌝ }
-{
-    let stage = slot.stage;
-    let Stage::Finished(length, _) = stage else {
-        return &store[..0];
-    };
-    slots::start_of(store, cut::HEADER_MOST, i, length)
-}
-
 // ContentName's data, as the part of the header that it is; nothing where there is none.
 pub fn name_data(header: &[u8]) -> &[u8]
+    requires { ⌜ headerLeast ≤ length (now header) ⌝ }
     ensures { λ r. ⌜ now r ≡ nameData (now (header .entry)) ⌝ }
 {
     let Name::Data(start, size) = header::name_of(header) else {
@@ -44,12 +35,19 @@ pub fn name_data(header: &[u8]) -> &[u8]
     &header[start..end]
 }
 
-// A header that reads; nothing of one that is refused.
-fn legible(header: &[u8]) -> &[u8]
-    ensures { λ r. ⌜ now r ≡ legible (now (header .entry)) ⌝ }
+// A finished object's header, as the part of the store that has it, if it reads; nothing of one that is
+// refused, nor of any other slot.
+fn legible_in(i: usize, slot: Slot, store: &[u8]) -> &[u8]
+    requires { ⌜ CoreIn i slot (now store) ⌝ }
+    ensures { λ r. ⌜ now r ≡ legibleIn i slot (now (store .entry)) ⌝ }
 {
+    let stage = slot.stage;
+    let Stage::Finished(length, _) = stage else {
+        return &store[..0];
+    };
+    let header = slots::start_of(store, cut::HEADER_MOST, i, length);
     let Reading::Read(_) = header::read(header) else {
-        return &header[..0];
+        return &store[..0];
     };
     header
 }
@@ -83,14 +81,14 @@ fn lower_of(holder: Holder, number: u16) -> Holder
 // The lowest transport number among the finished objects of the first count slots that have a name.
 // No number is lower than 0: once it is found, both loops are left at once.
 pub fn find(asked: &[u8], count: usize, slots: [Slot; slots::SLOTS_MOST], store: &[u8]) -> Holder
-    requires { ⌜ count ≤ slotsMost ⌝ }
+    requires { ⌜ Searched count slots (now store) ⌝ }
     ensures { λ r. ⌜ r ≡ foundByName (now (asked .entry)) count slots (now (store .entry)) ⌝ }
 {
     let mut holder = Holder::Nobody;
     let mut i = 0;
     'slots: while i < count {
         let slot = slots[i];
-        let header = legible(header_in(i, slot, store));
+        let header = legible_in(i, slot, store);
         let mut at = header::CORE;
         'parameters: while at < header.len() {
             let Found::One(parameter) = header::parameter_at(header, at) else {

@@ -1,5 +1,5 @@
 -- What each question about finished objects is answered; none changes anything.
-use mathlib.Core.List.{List}
+use mathlib.Core.List.{List, []}
 use Prim.Native.Nat.{ℕ, _≤_}
 use Rattle.answer.specs.declared.Reason.{Reason}
 use Rattle.answer.specs.declared.Reason.the-variants as Reason
@@ -30,13 +30,17 @@ abbrev pub askedOf : Located → List ℕ → Asked
 askedOf (Located.Denied why) header = Asked.Denied why
 askedOf (Located.At i) header = askedAs (readHeader header)
 
--- STATE, NOTHELD, UNFINISHED; then CORE, HEADER, DUPLICATE, or what the header that is shown says
+-- STATE, NOTHELD, UNFINISHED; then HEADER, DUPLICATE, or what the header that is shown says
 unfoldable pub parameters : ℕ → State → Asked
 parameters number s = askedOf (locate number s) (show number Header s)
 
--- ContentName's data, as a part of the header that is shown; nothing where it has none
+abbrev pub namedOf : Located → List ℕ → List ℕ
+namedOf (Located.Denied why) header = []
+namedOf (Located.At i) header = nameData header
+
+-- ContentName's data, as a part of the header that is shown; nothing where it has none, or where none is shown
 unfoldable pub name : ℕ → State → List ℕ
-name number s = nameData (show number Header s)
+name number s = namedOf (locate number s) (show number Header s)
 
 -- ---- whose a name is
 

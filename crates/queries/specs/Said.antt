@@ -11,7 +11,6 @@ use Rattle.queries.specs.declared.Asked.{Asked}
 -- What a header that is read says, as the answer to a question.
 
 abbrev pub reasonOf : Refusal → Reason
-reasonOf Refusal.Core = Reason.Core
 reasonOf Refusal.Header = Reason.Header
 reasonOf Refusal.Duplicate = Reason.Duplicate
 

@@ -31,7 +31,6 @@ fn reason_of(refusal: Refusal) -> Reason
     ensures { λ r. ⌜ r ≡ reasonOf refusal ⌝ }
 {
     match refusal {
-        Refusal::Core => Reason::Core,
         Refusal::Header => Reason::Header,
         Refusal::Duplicate => Reason::Duplicate,
     }
@@ -87,7 +86,10 @@ pub fn name<'a>(
     ensures { λ r. ⌜ now r ≡ name number
         (state collector counts (stores (header .entry) (body .entry) (marks .entry))) ⌝ }
 {
-    name_search::name_data(collector.show(counts, number, Part::Header, header, body, marks))
+    let Located::At(i) = collector.locate(counts, number, header, body, marks) else {
+        return &header[..0];
+    };
+    name_search::name_data(collector.shown_at(Part::Header, i, header, body))
 }
 
 // The lowest transport number among the finished objects that have a name.

@@ -310,8 +310,7 @@ mod tests {
         }
     }
 
-    /// Every answer to a group, a drop or a question that a sound state can give, but CORE: a
-    /// finished header always has its seven bytes.
+    /// Every answer to a group, a drop or a question that a sound state can give.
     #[test]
     fn every_answer_of_the_collector_comes_up() {
         let mut seen = HashSet::new();
@@ -332,7 +331,7 @@ mod tests {
                 }
             }
         }
-        let never = [Answer::Core, Answer::Limits, Answer::State];
+        let never = [Answer::Limits, Answer::State];
         for answer in Answer::ALL {
             assert_eq!(
                 seen.contains(&answer),

@@ -1,15 +1,17 @@
--- The table's rows of a kind: where their numbers lie, and that no name is longer than ten letters.
-use Prim.Native.Nat.{ℕ, _≤_}
+-- The table's rows of a kind: where their numbers lie, and that no name is longer than ten letters; and that no answer
+-- has the retired number.
+use mathlib.Core.Logic.{_≢_}
+use Prim.Native.Nat.{ℕ, _≤_, _<_}
 use native.Mathlib.Omega.{arith}
 use lib.ListN.{length}
 use Rattle.answer.specs.declared.Refusal.{Refusal}
 use Rattle.answer.specs.declared.Refusal.the-variants.{Length, NoCheck, BadCheck, Kind, NoSegment, Address, Size}
 use Rattle.answer.specs.declared.Reason.{Reason}
-use Rattle.answer.specs.declared.Reason.the-variants.{NotHeld, Unfinished, Header, Duplicate, Core, NotFound, Limits, State}
+use Rattle.answer.specs.declared.Reason.the-variants.{NotHeld, Unfinished, Header, Duplicate, NotFound, Limits, State}
 use Rattle.answer.specs.declared.Answer.{Answer}
 use Rattle.answer.specs.declared.Answer.the-variants.{Stored, Complete, Repeat, Dropped, Refused, Conflict, Full, Denied}
 use Rattle.answer.specs.Letters.{letters}
-use Rattle.answer.specs.Table.{Row, refusalRow, reasonRow, nameOf}
+use Rattle.answer.specs.Table.{Row, refusalRow, reasonRow, numberOf, nameOf, retired}
 
 -- ten letters are room for the name
 abbrev Short : Row → Type 0
@@ -24,15 +26,15 @@ refusal-table NoSegment = (omega arith, omega arith)
 refusal-table Address = (omega arith, omega arith)
 refusal-table Size = (omega arith, omega arith)
 
-reason-table : (reason : Reason) → (19 ≤ reasonRow reason .number) × Short (reasonRow reason)
-reason-table NotHeld = (omega arith, omega arith)
-reason-table Unfinished = (omega arith, omega arith)
-reason-table Header = (omega arith, omega arith)
-reason-table Duplicate = (omega arith, omega arith)
-reason-table Core = (omega arith, omega arith)
-reason-table NotFound = (omega arith, omega arith)
-reason-table Limits = (omega arith, omega arith)
-reason-table State = (omega arith, omega arith)
+reason-table : (reason : Reason) → (19 ≤ reasonRow reason .number) × (reasonRow reason .number < 256)
+    × (reasonRow reason .number ≢ retired) × Short (reasonRow reason)
+reason-table NotHeld = (omega arith, omega arith, (λ e. omega arith), omega arith)
+reason-table Unfinished = (omega arith, omega arith, (λ e. omega arith), omega arith)
+reason-table Header = (omega arith, omega arith, (λ e. omega arith), omega arith)
+reason-table Duplicate = (omega arith, omega arith, (λ e. omega arith), omega arith)
+reason-table NotFound = (omega arith, omega arith, (λ e. omega arith), omega arith)
+reason-table Limits = (omega arith, omega arith, (λ e. omega arith), omega arith)
+reason-table State = (omega arith, omega arith, (λ e. omega arith), omega arith)
 
 pub refusal-to : (refusal : Refusal) → refusalRow refusal .number ≤ 16
 refusal-to refusal = refusal-table refusal .0
@@ -48,4 +50,26 @@ name-short (Dropped number) = omega arith
 name-short (Refused refusal) = refusal-table refusal .1
 name-short (Conflict heard) = omega arith
 name-short (Full heard) = omega arith
-name-short (Denied reason) = reason-table reason .1
+name-short (Denied reason) = reason-table reason .3
+
+-- a number is a byte
+pub number-byte : (answer : Answer) → numberOf answer < 256
+number-byte (Stored heard) = omega arith
+number-byte (Complete heard) = omega arith
+number-byte (Repeat heard) = omega arith
+number-byte (Dropped number) = omega arith
+number-byte (Refused refusal) = omega (arith, refusal-to refusal)
+number-byte (Conflict heard) = omega arith
+number-byte (Full heard) = omega arith
+number-byte (Denied reason) = reason-table reason .1
+
+-- NO ANSWER HAS THE RETIRED NUMBER
+pub never-retired : (answer : Answer) → numberOf answer ≢ retired
+never-retired (Stored heard) e = omega arith
+never-retired (Complete heard) e = omega arith
+never-retired (Repeat heard) e = omega arith
+never-retired (Dropped number) e = omega arith
+never-retired (Refused refusal) e = omega (arith, refusal-to refusal)
+never-retired (Conflict heard) e = omega arith
+never-retired (Full heard) e = omega arith
+never-retired (Denied reason) e = reason-table reason .2 e

@@ -5,7 +5,7 @@ use mathlib.Core.List.{List, [], _∷_}
 use Prim.Native.Nat.{ℕ, suc, _+_, _≤_, _<_}
 use native.Mathlib.Decide.{ℕ-discrete, decLt}
 use native.Mathlib.Omega.{arith}
-use borrow.Author.Tests.{lt-ltb, le-ltb, eq-eqb, ne-eqb, eqb-true, eqb-false, ltb-true}
+use borrow.Author.Tests.{lt-ltb, eq-eqb, ne-eqb, eqb-true, eqb-false, ltb-true}
 use lib.Dec.{eqb, ltb}
 use lib.ListN.{length, getD, set, length-set, getD-replicate, List·getD-eq-default}
 use lib.Seq.{getD-set-same, getD-set-other}
@@ -16,7 +16,7 @@ use Rattle.header.specs.declared.Found.the-variants.{Nothing, One}
 use Rattle.header.specs.declared.Notes.{Notes}
 use Rattle.header.specs.declared.Scan.{Scan}
 use Rattle.header.specs.declared.Scan.the-variants.{Broken, Whole}
-use Rattle.header.specs.declared.Refusal.the-variants.{Core, Header, Duplicate}
+use Rattle.header.specs.declared.Refusal.the-variants.{Header, Duplicate}
 use Rattle.header.specs.declared.Reading.{Reading}
 use Rattle.header.specs.declared.Reading.the-variants.{Refused, Read}
 use Rattle.header.specs.Parameters.{pick, Listed, broken, listed, put, foundAt, parameters, parametersFrom, widthFits, allFit, singles, among, single, count, twice, orElse, find, fieldsOf, judged, readHeader}
@@ -292,15 +292,10 @@ judged-is h (listed ps) k = on (allFit ps) ∙ ap (outcome h) (sym (noted-is h p
     on true = refl
     on false = refl
 
--- a header with no whole core is refused; of any other the reading is what the pass comes to
-module _ (h : List ℕ) where
-  pub read-short : length h < 7 → readHeader h ≡ Refused Core
-  unfolding readHeader
-  read-short g = rw (lt-ltb (length h) 7 g)
-
-  pub read-scanned : (s : Scan) → 7 ≤ length h → scanHeader h ≡ s → readHeader h ≡ outcome h s
-  unfolding readHeader scanHeader
-  read-scanned s g e = rw (le-ltb (length h) 7 g) (judged-is h (parameters h) (from-known h 7) ∙ ap (outcome h) e)
+-- a reading is what the pass comes to
+pub read-scanned : (h : List ℕ) (s : Scan) → scanHeader h ≡ s → readHeader h ≡ outcome h s
+unfolding readHeader scanHeader
+read-scanned h s e = judged-is h (parameters h) (from-known h 7) ∙ ap (outcome h) e
 
 -- where the pass ends well, Priority's byte is inside the header
 pub scan-inside : (h : List ℕ) (n : Notes) → scanHeader h ≡ Whole n → Inside (length h) (n .priority)

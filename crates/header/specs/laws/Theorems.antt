@@ -16,7 +16,7 @@ use Rattle.header.specs.declared.Found.the-variants.{Nothing, One}
 use Rattle.header.specs.declared.Priority.the-variants.{Byte}
 use Rattle.header.specs.declared.Name.the-variants.{Data}
 use Rattle.header.specs.declared.Fields.{Fields}
-use Rattle.header.specs.declared.Refusal.the-variants.{Core, Header, Duplicate}
+use Rattle.header.specs.declared.Refusal.the-variants.{Header, Duplicate}
 use Rattle.header.specs.declared.Reading.{Reading}
 use Rattle.header.specs.declared.Reading.the-variants.{Refused, Read}
 use Rattle.header.specs.Parameters.{pick, lengthAt, byCode, parameterAt, foundAt, Listed, broken, listed, parameters, widthFits, allFit, singles, among, count, twice, find, priorityOf, nameOf, fieldsOf, judged, readHeader}
@@ -34,12 +34,11 @@ pub record Repeats (ps : List Parameter) : Type 0 where
 
 -- what a reading is given for
 pub data Given (h : List ℕ) : Reading → Type 0 where
-  core : length h < 7 → Given h (Refused Core)
-  past-end : 7 ≤ length h → parameters h ≡ broken → Given h (Refused Header)
-  width : {ps : List Parameter} → 7 ≤ length h → parameters h ≡ listed ps → allFit ps ≡ false → Given h (Refused Header)
-  repeated : {ps : List Parameter} → 7 ≤ length h → parameters h ≡ listed ps → allFit ps ≡ true → Repeats ps
+  past-end : parameters h ≡ broken → Given h (Refused Header)
+  width : {ps : List Parameter} → parameters h ≡ listed ps → allFit ps ≡ false → Given h (Refused Header)
+  repeated : {ps : List Parameter} → parameters h ≡ listed ps → allFit ps ≡ true → Repeats ps
       → Given h (Refused Duplicate)
-  whole : {ps : List Parameter} → 7 ≤ length h → parameters h ≡ listed ps → allFit ps ≡ true → (Repeats ps → ⊥)
+  whole : {ps : List Parameter} → parameters h ≡ listed ps → allFit ps ≡ true → (Repeats ps → ⊥)
       → Given h (Read (fieldsOf h (find 0x0A ps) (find 0x0C ps)))
 
 not-twice : (ps : List Parameter) → twice singles ps ≡ false → Repeats ps → ⊥
@@ -51,33 +50,27 @@ not-twice ps e r =
 -- each reading is given for one of these
 pub given : (h : List ℕ) → Given h (readHeader h)
 unfolding readHeader judged
-given h = go (decLt (length h) 7)
+given h = on (parameters h) refl
   where
-    on : (l : Listed) → 7 ≤ length h → parameters h ≡ l → Given h (judged h l)
-    on broken g e = past-end g e
-    on (listed ps) g e = fit (allFit ps) refl (twice singles ps) refl
+    on : (l : Listed) → parameters h ≡ l → Given h (judged h l)
+    on broken e = past-end e
+    on (listed ps) e = fit (allFit ps) refl (twice singles ps) refl
       where
         fit : (t : Bool) → allFit ps ≡ t → (u : Bool) → twice singles ps ≡ u
             → Given h (pick t (pick u (Refused Duplicate) (Read (fieldsOf h (find 0x0A ps) (find 0x0C ps))))
             (Refused Header))
-        fit false f u x = width g e f
+        fit false f u x = width e f
         fit true f true x = let a = twice-there singles ps x in
-            repeated g e f (record { identifier = a .0; single = a .1; again = a .2 })
-        fit true f false x = whole g e f (not-twice ps x)
-
-    go : Dec (length h < 7) → Given h (readHeader h)
-    go (yes g) = rw (lt-ltb (length h) 7 g) (core g)
-    go (no g) = rw (le-ltb (length h) 7 (omega arith)) (on (parameters h) (omega arith) refl)
+            repeated e f (record { identifier = a .0; single = a .1; again = a .2 })
+        fit true f false x = whole e f (not-twice ps x)
 
 -- and for nothing else
 pub given-only : (h : List ℕ) {r : Reading} → Given h r → readHeader h ≡ r
 unfolding readHeader judged
-given-only h (core g) = rw (lt-ltb (length h) 7 g)
-given-only h (past-end g e) = rw (le-ltb (length h) 7 g, e)
-given-only h (width g e f) = rw (le-ltb (length h) 7 g, e, f)
-given-only h (repeated {ps} g e f r) =
-    rw (le-ltb (length h) 7 g, e, f, twice-back singles ps (r .identifier) (r .single) (r .again))
-given-only h (whole {ps} g e f n) = rw (le-ltb (length h) 7 g, e, f, once (twice singles ps) refl)
+given-only h (past-end e) = rw e
+given-only h (width e f) = rw (e, f)
+given-only h (repeated {ps} e f r) = rw (e, f, twice-back singles ps (r .identifier) (r .single) (r .again))
+given-only h (whole {ps} e f n) = rw (e, f, once (twice singles ps) refl)
   where
     once : (t : Bool) → twice singles ps ≡ t → twice singles ps ≡ false
     once false x = x
@@ -102,11 +95,10 @@ read-from h f e = go (given h) e
     known ps x = subst (EachListed (Known h)) x (from-known h 7)
 
     go : {r : Reading} → Given h r → r ≡ Read f → ReadFrom h f
-    go (core g) x = let z : _≡_ {A = ℕ} 0 1 = cc in absurd (omega arith)
-    go (past-end g l) x = let z : _≡_ {A = ℕ} 0 1 = cc in absurd (omega arith)
-    go (width g l a) x = let z : _≡_ {A = ℕ} 0 1 = cc in absurd (omega arith)
-    go (repeated g l a n) x = let z : _≡_ {A = ℕ} 0 1 = cc in absurd (omega arith)
-    go (whole {ps} g l a n) x = record { ps = ps; lists = l; known = known ps l; fit = a; once = n; fields = cc }
+    go (past-end l) x = let z : _≡_ {A = ℕ} 0 1 = cc in absurd (omega arith)
+    go (width l a) x = let z : _≡_ {A = ℕ} 0 1 = cc in absurd (omega arith)
+    go (repeated l a n) x = let z : _≡_ {A = ℕ} 0 1 = cc in absurd (omega arith)
+    go (whole {ps} l a n) x = record { ps = ps; lists = l; known = known ps l; fit = a; once = n; fields = cc }
 
 -- ContentName's data has its character set byte at least, and lies inside the header
 pub name-inside : (h : List ℕ) (f : Fields) (start size : ℕ) → readHeader h ≡ Read f → f .name ≡ Data start size

@@ -20,6 +20,7 @@ use Rattle.slots.specs.declared.Found.{Found}
 use Rattle.slots.specs.declared.Found.the-variants.{Nothing, At}
 use Rattle.collector.specs.State.{Start, Reply, State, find}
 use Rattle.collector.specs.Calls.{answerAs, show}
+use Rattle.queries.specs.laws.Theorems.{core-shown}
 use Rattle.history.specs.Held.{Same, limitOf, stageFor, markedUnder}
 use Rattle.history.specs.laws.Call.{dropAnswer, unread, came, none-dropped, found-dropped, defined}
 use Rattle.history.specs.laws.Ready.{used-inside, found-used}
@@ -36,7 +37,7 @@ use Rattle.history.specs.laws.Answers.{Meets, Room, came-exactly, came-f
 use Rattle.history.specs.laws.Stage.{all-finished, finished-all, finished-shown, unfinished-shown}
 use Rattle.history.specs.laws.Told.{not-held, unfinished, located-exactly, read-exactly, name-finished, name-missing, found-exactly, nobody-exactly}
 use Rattle.history.specs.laws.Room.{unheld-exactly}
-use Rattle.history.specs.Promise.{Run, reachedBy, stored, Passing, segmentOf, heardOf, View, since, byMarks, answerTo, FitsStored, NotState, ConflictBy, FullBy, RepeatBy, CompleteBy, StoredBy, LowestFreeBy, UnreadBy, DropBy, UnheldBy, NotHeldBy, UnfinishedBy, LocatedBy, ShownBy, UnshownBy, ReadBy, NamedBy, FoundBy, NotFoundBy, AnsweredBy}
+use Rattle.history.specs.Promise.{Run, reachedBy, stored, Passing, segmentOf, heardOf, View, since, byMarks, answerTo, FitsStored, NotState, ConflictBy, FullBy, RepeatBy, CompleteBy, StoredBy, LowestFreeBy, UnreadBy, DropBy, UnheldBy, NotHeldBy, UnfinishedBy, LocatedBy, ShownBy, CoreBy, UnshownBy, ReadBy, NamedBy, FoundBy, NotFoundBy, AnsweredBy}
 use Rattle.history.specs.Taking.{take}
 
 -- ---- by what is stored
@@ -139,6 +140,9 @@ module _ (s : State) (kept : Part → ℕ → List Segment) (whole : Intact s)
   shown-by number f d = finished-shown number s (kept Header number) (kept Body number) (stands number)
       (whole .undamaged) f d
 
+  core-by : CoreBy defined (holding s kept)
+  core-by number i e = core-shown number i s e
+
   unshown-by : UnshownBy defined (holding s kept)
   unshown-by number none part = unfinished-shown number s (kept Header number) (kept Body number) (stands number)
       (whole .undamaged) none part
@@ -182,6 +186,7 @@ module _ (s : State) (kept : Part → ℕ → List Segment) (whole : Intact s)
     unfinished = unfinished-by;
     located = located-by;
     shown = shown-by;
+    core = core-by;
     unshown = unshown-by;
     reading = read-by;
     named = named-by;

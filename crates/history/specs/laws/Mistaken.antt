@@ -25,7 +25,7 @@ use Rattle.slots.specs.declared.Found.{Found}
 use Rattle.slots.specs.declared.Found.the-variants.{Nothing, At}
 use Rattle.name_search.specs.declared.Holder.{Holder}
 use Rattle.name_search.specs.declared.Holder.the-variants.{Nobody, Number}
-use Rattle.name_search.specs.Finding.{headerIn, lower, foundByName}
+use Rattle.name_search.specs.Finding.{lower, holdsName, foundByName}
 use Rattle.collector.specs.declared.Located.{Located}
 use Rattle.collector.specs.declared.Located.the-variants as Located
 use Rattle.collector.specs.State.{State, find}
@@ -41,9 +41,9 @@ use Rattle.history.specs.Held.{lentOf}
 use Rattle.history.specs.History.{Question}
 use Rattle.history.specs.laws.Stage.{none-finished}
 use Rattle.history.specs.laws.Demands.{run-answered}
-use Rattle.history.specs.Promise.{reachedBy, StateAskExactly, AskedLeaves, NotHeldExactly, UnfinishedExactly, LocatedExactly, ReadExactly, NamesRead, FoundExactly, NotFoundExactly}
+use Rattle.history.specs.Promise.{reachedBy, StateAskExactly, AskedLeaves, NotHeldExactly, UnfinishedExactly, LocatedExactly, CoreShown, ReadExactly, NamesRead, FoundExactly, NotFoundExactly}
 use Rattle.history.specs.laws.Samples.{computing, small, pair}
-use Rattle.history.specs.laws.Trials.{core, none, one, waiting, namedWaiting, named, spoilt, crossed, withCounts, recounted-bytes, recounted, damaged, is-damaged, uneven, doubted, foundSlot, locatedNumber, askedNumber, soughtNumber, locatingBy, showingBy, tellingBy, namingBy, findingBy, askingBy}
+use Rattle.history.specs.laws.Trials.{core, none, one, waiting, namedWaiting, named, spoilt, crossed, withCounts, recounted-bytes, recounted, damaged, is-damaged, uneven, doubted, foundSlot, locatedNumber, askedNumber, askedLength, soughtNumber, locatingBy, showingBy, tellingBy, namingBy, findingBy, askingBy}
 use Rattle.history.specs.laws.Call.{defined}
 
 -- ---- in a damaged state
@@ -138,14 +138,14 @@ unfinished-unheld-breaks p =
     let e : _≡_ {A = ℕ} 20 19 = ap locatedNumber (p none 5 .0 .1 refl) in
     absurd (omega arith)
 
--- what is shown is read, and nobody asks whether anything is: CORE
+-- what is shown is read, and nobody asks whether anything is: fields of no bytes
 abbrev pub readsNothing : ℕ → State → Asked
 readsNothing number s = askedAs (readHeader (show number Header s))
 
 pub reads-nothing-breaks : ¬ (NotHeldExactly (tellingBy readsNothing))
 unfolding computing small
 reads-nothing-breaks p =
-    let e : _≡_ {A = ℕ} 23 19 = ap askedNumber (p none 5 .1 .1 refl) in
+    let e : _≡_ {A = ℕ} 0 19 = ap askedNumber (p none 5 .1 .1 refl) in
     absurd (omega arith)
 
 -- ---- UNFINISHED
@@ -213,6 +213,25 @@ slots-from-one-breaks p =
     let e : _≡_ {A = ℕ} 0 1 = ap foundSlot (p one 5 1 .0 refl .0) in
     absurd (omega arith)
 
+-- ---- its core
+
+-- a header is shown from its first parameter on
+abbrev listAs : Part → List ℕ → List ℕ
+listAs Header bytes = drop 7 bytes
+listAs Body bytes = bytes
+
+abbrev pub showsList : ℕ → Part → State → List ℕ
+showsList number part s = listAs part (show number part s)
+
+pub shows-list-breaks : ¬ (CoreShown (showingBy showsList))
+unfolding computing small
+shows-list-breaks p = absurd (omega (arith, p one 5 0 refl))
+
+-- an object that is not finished is located, and has no header to show
+pub locates-held-coreless : ¬ (CoreShown (locatingBy locatesHeld))
+unfolding computing small
+locates-held-coreless p = absurd (omega (arith, p waiting 5 0 refl))
+
 -- ---- what a header says
 
 -- it is read off the body
@@ -223,7 +242,7 @@ pub reads-body-breaks : ¬ (ReadExactly (tellingBy readsBody))
 unfolding computing small
 reads-body-breaks p =
     let m = run-answered one .reading 5 (readHeader core) .0 refl in
-    let e : _≡_ {A = ℕ} 23 0 = ap askedNumber (p one 5 (readHeader core) .1 m) in
+    let e : _≡_ {A = ℕ} 0 7 = ap askedLength (p one 5 (readHeader core) .1 m) in
     absurd (omega arith)
 
 -- a broken list of parameters is called DUPLICATE
@@ -283,7 +302,7 @@ firstBy test i (slot ∷ slots) = pick (test i slot) (Number (slot .number)) (fi
 -- the first slot that has the name is taken, and not the lowest number
 abbrev pub firstSlotWins : List ℕ → State → Sought
 firstSlotWins sought s =
-    soughtAs (firstBy (λ i slot. hasName sought (headerIn i slot (s .stores .header))) 0 (inUse s))
+    soughtAs (firstBy (λ i slot. holdsName sought i slot (s .stores .header)) 0 (inUse s))
 
 pub first-slot-wins-breaks : ¬ (FoundExactly (findingBy firstSlotWins))
 unfolding computing pair
@@ -320,7 +339,7 @@ nobody-not-held-breaks p =
 -- no slash is dropped
 abbrev pub slashKept : List ℕ → State → Sought
 slashKept sought s =
-    soughtAs (lowestBy (λ i slot. equal (drop 1 (nameData (headerIn i slot (s .stores .header)))) sought) 0 (inUse s))
+    soughtAs (lowestBy (λ i slot. equal (drop 1 (queries.name (slot .number) s)) sought) 0 (inUse s))
 
 pub slash-kept-breaks : ¬ (NotFoundExactly (findingBy slashKept))
 unfolding computing small

@@ -3,7 +3,7 @@ use mathlib.Core.Path.{refl}
 use Rattle.history.specs.laws.Refused.{refused-handed, unanswered-handed, refused-drop, repeated-handed, drop-stores, limits-exactly, opened-leaves, unopened-leaves}
 use Rattle.history.specs.laws.State.{handed-state, drop-state, ask-state}
 use Rattle.history.specs.Ours.{ours}
-use Rattle.history.specs.Promise.{RefusedLeaves, UnansweredLeaves, RepeatLeaves, StateExactly, MarkedExactly, LimitsExactly, OpenedLeaves, UnopenedLeaves, NeverState, UndroppedLeaves, StateDropExactly, DropKeepsStores, StateAskExactly, AskedLeaves, OthersLeave, ShownJoined, UnfinishedUnshown, CountsTold, ConflictExactly, FullExactly, RepeatExactly, CompleteExactly, StoredExactly, LowestFreeTaken, UnreadRefused, DropExactly, UnheldExactly, NoneFreeExactly, FinishedExactly, FinishedLengths, NotHeldExactly, UnfinishedExactly, LocatedExactly, ReadExactly, NamesRead, FoundExactly, NotFoundExactly, OneCutAgrees, OneCutFinishes, Promised}
+use Rattle.history.specs.Promise.{RefusedLeaves, UnansweredLeaves, RepeatLeaves, StateExactly, MarkedExactly, LimitsExactly, OpenedLeaves, UnopenedLeaves, NeverState, UndroppedLeaves, StateDropExactly, DropKeepsStores, StateAskExactly, AskedLeaves, OthersLeave, ShownJoined, CoreShown, UnfinishedUnshown, CountsTold, ConflictExactly, FullExactly, RepeatExactly, CompleteExactly, StoredExactly, LowestFreeTaken, UnreadRefused, DropExactly, UnheldExactly, NoneFreeExactly, FinishedExactly, FinishedLengths, NotHeldExactly, UnfinishedExactly, LocatedExactly, ReadExactly, NamesRead, FoundExactly, NotFoundExactly, OneCutAgrees, OneCutFinishes, Promised}
 use Rattle.history.specs.laws.Demands.{marked-answered, never-state, others-held, run-answered, finished-exactly, finished-lengths}
 use Rattle.history.specs.laws.Room.{none-free-exactly}
 use Rattle.history.specs.laws.Tally.{reached-counts}
@@ -60,6 +60,9 @@ others-promised = others-held
 
 pub shown-promised : ShownJoined ours
 shown-promised r = run-answered r .shown
+
+pub core-promised : CoreShown ours
+core-promised r = run-answered r .core
 
 pub unshown-promised : UnfinishedUnshown ours
 unshown-promised r = run-answered r .unshown
@@ -154,6 +157,7 @@ promised = record {
   asking = asking-promised;
   others = others-promised;
   shown = shown-promised;
+  core = core-promised;
   unshown = unshown-promised;
   counts = counts-promised;
   conflict = conflict-promised;

@@ -35,7 +35,7 @@ use Rattle.slots.specs.State.{withinLimits, heldAmong, unlike, distinct, rightS
 use Rattle.slots.specs.Stores.{lentAt, withLent, freeSlot, freshSlot, slotAt}
 use Rattle.slots.specs.Show.{startOf, shownOf}
 use Rattle.slots.specs.Take.{takeAt, takeNew, dropAt}
-use Rattle.name_search.specs.Finding.{headerIn, holderIn, lowestFrom, foundByName}
+use Rattle.name_search.specs.Finding.{holdsName, holderIn, lowestFrom, foundByName}
 use Rattle.collector.specs.State.{Start}
 use Rattle.collector.specs.Calls.{takeSegment, takeGroup, dropNumber, openWith, locate, show, sound}
 use Rattle.collector.specs.Arrival.{segmentIn}
@@ -71,7 +71,7 @@ otherNumber = 0x73 ∷ 0x00 ∷ 0x80 ∷ 0x00 ∷ 0x12 ∷ 0x00 ∷ 0x06 ∷ 0x0
 
 -- all that a run is computed with
 unfoldable pub computing : Unit {0}
-unfolding parameters name findByName nameData hasName headerIn holderIn lowestFrom foundByName readHeader judged
+unfolding parameters name findByName nameData hasName holdsName holderIn lowestFrom foundByName readHeader judged
     fieldsOf findParameter twice count single allFit widthFits parametersFrom turns foundAt inHeader parameterAt
     lengthAt contentType contentSubType nameMatches unslashed under openWith takeSegment takeGroup dropNumber sound
     locate show shownOf startOf takeAt takeNew dropAt slotAt freshSlot freeSlot withLent lentAt soundSlots rightFrom

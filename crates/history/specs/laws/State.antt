@@ -156,7 +156,6 @@ located-never number s good d = go (find number s) (rw good at d)
 
 read-never : (reading : HeaderReading) → askedAs reading ≢ Asked.Denied Reason.State
 read-never (HeaderReading.Read fields) e = let z : _≡_ {A = ℕ} 0 1 = cc in absurd (omega arith)
-read-never (HeaderReading.Refused HeaderRefusal.Core) e = let z : _≡_ {A = ℕ} 0 1 = cc in absurd (omega arith)
 read-never (HeaderReading.Refused HeaderRefusal.Header) e = let z : _≡_ {A = ℕ} 0 1 = cc in absurd (omega arith)
 read-never (HeaderReading.Refused HeaderRefusal.Duplicate) e = let z : _≡_ {A = ℕ} 0 1 = cc in absurd (omega arith)
 
@@ -212,8 +211,8 @@ unfolding parameters
 told-damaged number s d = rw (located-damaged number s d) refl
 
 named-damaged : (number : ℕ) (s : State) → sound s ≡ false → queries.name number s ≡ []
-unfolding name nameData readHeader
-named-damaged number s d = ap nameData (shown-damaged number Header s d)
+unfolding name
+named-damaged number s d = rw (located-damaged number s d) refl
 
 found-damaged : (sought : List ℕ) (s : State) → sound s ≡ false → queries.find sought s ≡ Sought.Denied Reason.State
 unfolding findByName

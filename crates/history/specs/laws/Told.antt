@@ -30,37 +30,30 @@ use Rattle.queries.specs.Questions as queries
 use Rattle.queries.specs.declared.Asked.{Asked}
 use Rattle.queries.specs.declared.Asked.the-variants as Asked
 use Rattle.queries.specs.declared.Sought.the-variants as Sought
-use Rattle.queries.specs.Questions.{askedOf, parameters, name}
+use Rattle.queries.specs.Questions.{askedOf, parameters, namedOf, name}
 use Rattle.queries.specs.laws.Theorems.{find-lowest, find-nobody}
 use Rattle.queries.specs.Said.{reasonOf, askedAs}
 use Rattle.history.specs.laws.Slots.{held-is}
 use Rattle.history.specs.Held.{limitOf, slotOf, stageAt, stageFor}
 use Rattle.history.specs.laws.Ready.{found-holds}
 use Rattle.history.specs.laws.Stands.{StandsFor}
-use Rattle.history.specs.laws.Stage.{all-finished, finished-all, finished-shown, unfinished-shown}
+use Rattle.history.specs.laws.Stage.{all-finished, finished-all, finished-shown}
 
 -- ---- an answer is of one kind
 
 unheld-unread : (reading : Reading) → askedAs reading ≢ Asked.Denied Reason.NotHeld
 unheld-unread (Reading.Read fields) e = let z : _≡_ {A = ℕ} 0 1 = cc in absurd (omega arith)
-unheld-unread (Reading.Refused Refusal.Core) e = let z : _≡_ {A = ℕ} 0 1 = cc in absurd (omega arith)
 unheld-unread (Reading.Refused Refusal.Header) e = let z : _≡_ {A = ℕ} 0 1 = cc in absurd (omega arith)
 unheld-unread (Reading.Refused Refusal.Duplicate) e = let z : _≡_ {A = ℕ} 0 1 = cc in absurd (omega arith)
 
 missing-unread : (reading : Reading) → askedAs reading ≢ Asked.Denied Reason.Unfinished
 missing-unread (Reading.Read fields) e = let z : _≡_ {A = ℕ} 0 1 = cc in absurd (omega arith)
-missing-unread (Reading.Refused Refusal.Core) e = let z : _≡_ {A = ℕ} 0 1 = cc in absurd (omega arith)
 missing-unread (Reading.Refused Refusal.Header) e = let z : _≡_ {A = ℕ} 0 1 = cc in absurd (omega arith)
 missing-unread (Reading.Refused Refusal.Duplicate) e = let z : _≡_ {A = ℕ} 0 1 = cc in absurd (omega arith)
 
 refused-once : (a b : Refusal) → reasonOf a ≡ reasonOf b → a ≡ b
-refused-once Refusal.Core Refusal.Core e = refl
-refused-once Refusal.Core Refusal.Header e = let z : _≡_ {A = ℕ} 0 1 = cc in absurd (omega arith)
-refused-once Refusal.Core Refusal.Duplicate e = let z : _≡_ {A = ℕ} 0 1 = cc in absurd (omega arith)
-refused-once Refusal.Header Refusal.Core e = let z : _≡_ {A = ℕ} 0 1 = cc in absurd (omega arith)
 refused-once Refusal.Header Refusal.Header e = refl
 refused-once Refusal.Header Refusal.Duplicate e = let z : _≡_ {A = ℕ} 0 1 = cc in absurd (omega arith)
-refused-once Refusal.Duplicate Refusal.Core e = let z : _≡_ {A = ℕ} 0 1 = cc in absurd (omega arith)
 refused-once Refusal.Duplicate Refusal.Header e = let z : _≡_ {A = ℕ} 0 1 = cc in absurd (omega arith)
 refused-once Refusal.Duplicate Refusal.Duplicate e = refl
 
@@ -217,11 +210,21 @@ module _ (number : ℕ) (s : State) (hs bs : List Segment) (good : sound s ≡ t
 
   pub name-finished : (f : Fits (limitOf s) hs bs) → Finished f → queries.name number s ≡ nameData (f .header)
   unfolding name
-  name-finished f d = ap nameData (shown-header f d)
+  name-finished f d = go asks
+    where
+      go : Asks → namedOf (locate number s) (show number Header s) ≡ nameData (f .header)
+      go (unheld e l t) = absurd (unheld-missing e f d)
+      go (missing i e m l t) = absurd (m f d)
+      go (whole i e g h l t) = rw (l, shown-header f d) refl
 
   pub name-missing : ((f : Fits (limitOf s) hs bs) → ¬ (Finished f)) → queries.name number s ≡ []
-  unfolding name nameData readHeader
-  name-missing m = ap nameData (unfinished-shown number s hs bs w good m Header)
+  unfolding name
+  name-missing m = go asks
+    where
+      go : Asks → namedOf (locate number s) (show number Header s) ≡ []
+      go (unheld e l t) = rw l refl
+      go (missing i e n l t) = rw l refl
+      go (whole i e f d l t) = absurd (m f d)
 
 -- ---- whose a name is
 

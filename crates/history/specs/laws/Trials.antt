@@ -360,7 +360,8 @@ uneven = record { taken = 0; repeated = 0; refused = 0; completed = 1; dropped =
 abbrev pub doubted : State
 doubted = withCounts uneven (reachedBy defined one)
 
--- ---- what tells two answers apart: the number of a refusal, 0 where there is none; the slot that is found
+-- ---- what tells two answers apart: the number of a refusal, 0 where there is none; the length that a header says; the
+-- slot that is found
 
 abbrev pub openingNumber : Opening → ℕ
 openingNumber Opening.Open = 0
@@ -373,6 +374,10 @@ locatedNumber (Located.Denied why) = numberOf (Answer.Denied why)
 abbrev pub askedNumber : Asked → ℕ
 askedNumber (Asked.Fields fields) = 0
 askedNumber (Asked.Denied why) = numberOf (Answer.Denied why)
+
+abbrev pub askedLength : Asked → ℕ
+askedLength (Asked.Fields fields) = fields .«header_size»
+askedLength (Asked.Denied why) = 0
 
 abbrev pub soughtNumber : Sought → ℕ
 soughtNumber (Sought.Number number) = 0

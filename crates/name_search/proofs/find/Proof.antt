@@ -10,10 +10,10 @@ use Rattle.header.specs.Parameters.{foundAt}
 use Rattle.header.specs.laws.Parameters.{found-known, found-on}
 use Rattle.object.specs.declared.Slot.{Slot}
 use Rattle.object.specs.declared.Stage.the-variants.{Free}
-use Rattle.slots.specs.Stores.{noRecord, freeSlot}
+use Rattle.slots.specs.Stores.{noRecord, freeSlot, slotAt}
 use Rattle.name_search.specs.declared.Holder.{Holder}
 use Rattle.name_search.specs.declared.Holder.the-variants.{Number}
-use Rattle.name_search.specs.Finding.{headerIn, lower, holderIn, lowestFrom, foundByName}
+use Rattle.name_search.specs.Finding.{lower, holdsName, holderIn, lowestFrom, foundByName}
 use Rattle.name_search.specs.laws.Legible.{Left, left-first, left-none, left-whole, left-here, left-on}
 use Rattle.name_search.specs.laws.Lower.{lower-nobody, lower-zero, holder-not, holder-is, lowest-none, lowest-on}
 use borrow.Author.Needs.{needs}
@@ -22,7 +22,7 @@ use Rattle.name_search.proofs.find.Tie as tie
 
 abbrev Inv-parameters : tie.InvT-parameters
 Inv-parameters asked count store slots holder₀ i slot header at₀ holder at =
-    (holder ≡ holder₀) × Left asked (headerIn i slot store) header at
+    (holder ≡ holder₀) × Left (holdsName asked i slot store) asked header at
 
 abbrev μ-parameters : tie.MeasureT-parameters
 μ-parameters asked count store slots holder₀ i slot header at₀ holder at = length header - at
@@ -66,37 +66,37 @@ onward c =
 
 -- the parameter that a turn has found
 found : (c : tie.After-parameter Inv-parameters μ-parameters Inv-slots μ-slots)
-    → foundAt (c .before .before .before .before .before .legible .result .now)
+    → foundAt (c .before .before .before .before .before .legible-in .result .now)
     (c .before .before .before .before .parameters .at) ≡ One (c .parameter .given .0 .0)
 found c = sym (c .before .before .parameter-at .ensures) ∙ c .parameter .given .1
 
 -- it is the name that is asked for
 named : (c : tie.Then1 Inv-parameters μ-parameters Inv-slots μ-slots)
-    → let l = c .before .before .before .before .before .before .before .before .before .before .before .before in
+    → let l = c .before .before .before .before .before .before .before .before .before .before .before in
     holderOf l ≡ Number (slotOf l .number)
 named c =
     let p = c .before .before .before in
-    let l = c .before .before .before .before .before .before .before .before .before .before .before .before in
+    let l = c .before .before .before .before .before .before .before .before .before .before .before in
     let a = l .before .before .before .args in
     holder-is (a .asked .now) (l .slots .i) (slotOf l) (a .store .now)
-    (left-here (a .asked .now) _ _ _ (p .before .before .before .before .parameters .inv .1)
+    (left-here _ (a .asked .now) _ _ (p .before .before .before .before .parameters .inv .1)
     (p .before .before .before .parameters-test .taken) _ (found p)
     (sym (c .before .is-named .ensures) ∙ c .if1 .taken))
 
 -- a turn over slots has gone over one of them
 passed : (c : tie.Left-parameters Inv-parameters μ-parameters Inv-slots μ-slots)
-    → let l = c .before .before .before .before .before .before in
+    → let l = c .before .before .before .before .before in
     c .parameters-test .holder ≡ lower (l .slots .holder) (holderOf l)
 passed c =
-    let l = c .before .before .before .before .before .before in
+    let l = c .before .before .before .before .before in
     let a = l .before .before .before .args in
     let p = c .before .parameters in
     ⊎-elim
     (λ w. w .1 ∙ p .inv .0 ∙ sym (ap (lower (l .slots .holder))
     (holder-not (a .asked .now) (l .slots .i) (slotOf l) (a .store .now)
-    (left-none (a .asked .now) _ _ _ (p .inv .1) (w .0 .left))) ∙ lower-nobody (l .slots .holder)))
+    (left-none _ (a .asked .now) _ _ (p .inv .1) (w .0 .left))) ∙ lower-nobody (l .slots .holder)))
     (⊎-elim
-    (λ w. absurd (left-whole (a .asked .now) _ _ _ (p .inv .1) (w .0 .taken) (sym (w .1 .ensures) ∙ w .3 .given .1)))
+    (λ w. absurd (left-whole _ (a .asked .now) _ _ (p .inv .1) (w .0 .taken) (sym (w .1 .ensures) ∙ w .3 .given .1)))
     (λ w.
     let here : tie.Then1 Inv-parameters μ-parameters Inv-slots μ-slots =
     record {
@@ -135,14 +135,13 @@ mul-slot c = search needs
 array-copy-out-slot : tie.Need-array-copy-out-slot Inv-parameters μ-parameters Inv-slots μ-slots
 array-copy-out-slot c = search needs
 
-header-in-requires : tie.Need-header-in-requires Inv-parameters μ-parameters Inv-slots μ-slots
-header-in-requires c κs = search needs
-
-legible-requires : tie.Need-legible-requires Inv-parameters μ-parameters Inv-slots μ-slots
-legible-requires c κs = search needs
+legible-in-requires : tie.Need-legible-in-requires Inv-parameters μ-parameters Inv-slots μ-slots
+unfolding slotAt freeSlot
+legible-in-requires c κs =
+    c .before .before .before .before .before .pre .cores (c .before .before .slots .i) (omega arith)
 
 parameters-holds : tie.Need-parameters-holds Inv-parameters μ-parameters Inv-slots μ-slots
-parameters-holds c = (refl, rw (c .legible .ensures, c .before .header-in .ensures) (left-first _ _))
+parameters-holds c = (refl, rw (c .legible-in .ensures) (left-first _ _ _ _))
 
 parameter-at-requires :
     tie.Need-parameter-at-requires Inv-parameters μ-parameters Inv-slots μ-slots
@@ -187,7 +186,7 @@ slots-less c = search needs
 
 slots-again : tie.Need-slots-again Inv-parameters μ-parameters Inv-slots μ-slots
 slots-again c =
-    let t = c .before .before .before .before .before in
+    let t = c .before .before .before .before in
     onward t ∙ ap (λ (h : Holder). lower h (restOf (t .before))) (sym (passed c))
 
 returns : tie.Need-returns Inv-parameters μ-parameters Inv-slots μ-slots
@@ -202,7 +201,7 @@ returns-2 : tie.Need-returns-2 Inv-parameters μ-parameters Inv-slots μ-slots
 returns-2 c =
     let n = c .before .before .before in
     let p = n .before .before .before .before .before .before .before .parameters in
-    let t = n .before .before .before .before .before .before .before .before .before .before .before in
+    let t = n .before .before .before .before .before .before .before .before .before .before in
     let held = ap (λ (h : Holder). lower h (Number (slotOf (t .before) .number))) (p .inv .0) in
     let zero : lower (t .before .slots .holder) (holderOf (t .before)) ≡ lower (t .before .slots .holder) (Number 0) =
     ap (lower (t .before .slots .holder)) (named n ∙ ap Number (c .if2 .taken)) in
@@ -214,6 +213,6 @@ returns-2 c =
 pub find-spec : {M : Type 1} → statement M
 find-spec =
     tie.close (tie.spec Inv-parameters μ-parameters Inv-slots μ-slots slots-holds mul-slot array-copy-out-slot
-    header-in-requires legible-requires parameters-holds parameter-at-requires enum-known-parameter enum-told
+    legible-in-requires parameters-holds parameter-at-requires enum-known-parameter enum-told
     is-named-requires lower-of-requires add-at parameters-less parameters-again add-i slots-less slots-again returns
     returns-2)

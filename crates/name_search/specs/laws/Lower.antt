@@ -11,8 +11,7 @@ use Rattle.slots.specs.Stores.{freeSlot}
 use Rattle.slots.specs.laws.StateTests.{spent, one-more}
 use Rattle.name_search.specs.declared.Holder.{Holder}
 use Rattle.name_search.specs.declared.Holder.the-variants.{Nobody, Number}
-use Rattle.name_search.specs.Finding.{headerIn, lower, holderIn, lowestFrom}
-use Rattle.header.specs.Names.{hasName}
+use Rattle.name_search.specs.Finding.{lower, holdsName, holderIn, lowestFrom}
 
 -- ---- the lower of two
 
@@ -36,11 +35,11 @@ lower-zero (Number n) (Number m) = ap Number (omega arith)
 -- ---- slot by slot
 
 module _ (asked : List ℕ) (i : ℕ) (slot : Slot) (store : List ℕ) where
-  pub holder-not : hasName asked (headerIn i slot store) ≡ false → holderIn asked i slot store ≡ Nobody
+  pub holder-not : holdsName asked i slot store ≡ false → holderIn asked i slot store ≡ Nobody
   unfolding holderIn
   holder-not e = rw e refl
 
-  pub holder-is : hasName asked (headerIn i slot store) ≡ true → holderIn asked i slot store ≡ Number (slot .number)
+  pub holder-is : holdsName asked i slot store ≡ true → holderIn asked i slot store ≡ Number (slot .number)
   unfolding holderIn
   holder-is e = rw e refl
 

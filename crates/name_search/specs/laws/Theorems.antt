@@ -6,13 +6,14 @@ use mathlib.Core.List.{List, [], _∷_}
 use mathlib.Core.Logic.{_↔_}
 use Prim.Native.Nat.{ℕ, zero, suc, _+_, _≤_, _<_, min}
 use native.Mathlib.Nat.{add-zero, zero-add}
-use native.Mathlib.Decide.{decLe, decLt}
+use native.Mathlib.Decide.{decLe}
 use native.Mathlib.Omega.{arith}
-use lib.ListN.{length, getD, take, drop, length-take, List·getD-eq-default}
+use lib.ListN.{length, getD, take, drop, length-take}
 use lib.Seq.{getD-take}
 use Rattle.octets.specs.laws.Over.{part-length}
 use Rattle.cut.specs.Requirement.{headerMost}
 use Rattle.cut.specs.Lists.{pick}
+use Rattle.cut.specs.laws.Decision.{false-true}
 use Rattle.object.specs.declared.Slot.{Slot}
 use Rattle.object.specs.declared.Stage.{Stage}
 use Rattle.object.specs.declared.Stage.the-variants.{Free, Gathering, Finished}
@@ -21,14 +22,15 @@ use Rattle.header.specs.declared.Name.the-variants.{Absent, Data}
 use Rattle.header.specs.declared.Reading.{Reading}
 use Rattle.header.specs.declared.Reading.the-variants.{Refused, Read}
 use Rattle.header.specs.Parameters.{readHeader, nameIn}
-use Rattle.header.specs.laws.Theorems.{core, given-only, name-inside, matches-exactly}
+use Rattle.header.specs.laws.Theorems.{name-inside, matches-exactly}
 use Rattle.header.specs.Names.{namedAs, dataAs, nameData, hasName}
 use Rattle.slots.specs.Stores.{freeSlot, slotAt}
 use Rattle.slots.specs.Show.{startOf}
+use Rattle.slots.specs.laws.Finished.{finished-among}
 use Rattle.name_search.specs.declared.Holder.{Holder}
 use Rattle.name_search.specs.declared.Holder.the-variants.{Nobody, Number}
 use Rattle.name_search.specs.Requirement.{Object, Named, Lowest}
-use Rattle.name_search.specs.Finding.{headerAs, headerIn, lower, holderIn, lowestFrom, foundByName}
+use Rattle.name_search.specs.Finding.{namedAt, lower, holdsName, holderIn, lowestFrom, foundByName}
 
 -- ---- the name as a part of the header
 
@@ -85,7 +87,7 @@ has-name asked header = (λ e. go (readHeader header) refl e, back)
 
 module _ (asked store : List ℕ) where
   passes : ℕ → List Slot → ℕ → Bool
-  passes first slots j = hasName asked (headerIn (first + j) (getD slots j freeSlot) store)
+  passes first slots j = holdsName asked (first + j) (getD slots j freeSlot) store
 
   None : ℕ → List Slot → Type 0
   None first slots = (j : ℕ) → j < length slots → passes first slots j ≡ false
@@ -103,7 +105,7 @@ module _ (asked store : List ℕ) where
 
   -- one more slot in front
   module _ (first : ℕ) (slot : Slot) (slots : List Slot) where
-    head : passes first (slot ∷ slots) 0 ≡ hasName asked (headerIn first slot store)
+    head : passes first (slot ∷ slots) 0 ≡ holdsName asked first slot store
     unfolding passes
     head = rw (add-zero first) refl
 
@@ -111,13 +113,13 @@ module _ (asked store : List ℕ) where
     unfolding passes
     tail j = let e : first + suc j ≡ suc first + j = omega arith in rw e refl
 
-    none-more : hasName asked (headerIn first slot store) ≡ false → None (suc first) slots → None first (slot ∷ slots)
+    none-more : holdsName asked first slot store ≡ false → None (suc first) slots → None first (slot ∷ slots)
     unfolding None
     none-more e n zero h = head ∙ e
     none-more e n (suc j) h = tail j ∙ n j (omega arith)
 
     -- this one has the name, and none of the others, or none of a lower number
-    least-here : hasName asked (headerIn first slot store) ≡ true
+    least-here : holdsName asked first slot store ≡ true
         → ((j : ℕ) → j < length slots → passes (suc first) slots j ≡ true
         → slot .number ≤ getD slots j freeSlot .number) → Least first (slot ∷ slots) (slot .number)
     least-here e others = record { slot = 0; inside = omega arith; here = head ∙ e; numbered = refl; lowest = lowest }
@@ -128,7 +130,7 @@ module _ (asked store : List ℕ) where
         lowest (suc j) h f = others j (omega arith) (sym (tail j) ∙ f)
 
     -- one of the others has the name, and this one has it not, or has no lower number
-    least-later : (number : ℕ) → (hasName asked (headerIn first slot store) ≡ true → number ≤ slot .number)
+    least-later : (number : ℕ) → (holdsName asked first slot store ≡ true → number ≤ slot .number)
         → Least (suc first) slots number → Least first (slot ∷ slots) number
     least-later number g l = record {
       slot = suc (l .slot);
@@ -144,7 +146,7 @@ module _ (asked store : List ℕ) where
         lowest zero h f = g (sym head ∙ f)
         lowest (suc j) h f = l .lowest j (omega arith) (sym (tail j) ∙ f)
 
-    step : (b : Bool) (rest : Holder) → hasName asked (headerIn first slot store) ≡ b → Told (suc first) slots rest
+    step : (b : Bool) (rest : Holder) → holdsName asked first slot store ≡ b → Told (suc first) slots rest
         → Told first (slot ∷ slots) (lower (pick b (Number (slot .number)) Nobody) rest)
     unfolding None
     step false Nobody e t = none-more e t
@@ -160,7 +162,7 @@ module _ (asked store : List ℕ) where
   told : (first : ℕ) (slots : List Slot) → Told first slots (lowestFrom asked first slots store)
   unfolding lowestFrom holderIn None
   told first [] = λ j h. absurd (omega arith)
-  told first (slot ∷ slots) = step first slot slots (hasName asked (headerIn first slot store))
+  told first (slot ∷ slots) = step first slot slots (holdsName asked first slot store)
       (lowestFrom asked (suc first) slots store) refl (told (suc first) slots)
 
 -- ---- the objects
@@ -168,27 +170,16 @@ module _ (asked store : List ℕ) where
 -- a slot past the end holds no object
 pub object-there : (count : ℕ) (slots : List Slot) (store : List ℕ) (number : ℕ) (header : List ℕ)
     (o : Object count slots store number header) → o .slot < length (take count slots)
-unfolding slotAt freeSlot
 object-there count slots store number header o =
-    rw length-take (omega (arith, o .inside, go (decLt (o .slot) (length slots))))
-  where
-    go : Dec (o .slot < length slots) → o .slot < length slots
-    go (yes g) = g
-    go (no g) =
-        let e : slotAt (o .slot) slots ≡ freeSlot = List·getD-eq-default slots freeSlot (omega arith) in
-        let z : _≡_ {A = ℕ} 0 1 = cc (o .finished, ap (λ (x : Slot). x .stage) e) in
-        absurd (omega arith)
+    rw length-take
+    (omega (arith, o .inside, finished-among slots (o .slot) (o .headerLength) (o .bodyLength) (o .finished)))
 
--- nothing has no name
-nothing-named : (asked : List ℕ) → Named asked [] → ⊥
-nothing-named asked n = let z : _≡_ {A = ℕ} 0 1 = cc (n .reads, given-only [] (core (omega arith))) in omega arith
-
--- what has a header that has a name is finished
-finished-named : (asked store : List ℕ) (i : ℕ) (stage : Stage) → Named asked (headerAs stage i store) → (h b : ℕ)
-    × (stage ≡ Finished h b)
-finished-named asked store i Free n = absurd (nothing-named asked n)
-finished-named asked store i Gathering n = absurd (nothing-named asked n)
-finished-named asked store i (Finished h b) n = (h, b, refl)
+-- what has a name is finished
+finished-named : (asked store : List ℕ) (i : ℕ) (stage : Stage) → namedAt stage asked i store ≡ true → (h b : ℕ)
+    × (stage ≡ Finished h b) × Named asked (startOf headerMost i h store)
+finished-named asked store i Free e = absurd (false-true refl e)
+finished-named asked store i Gathering e = absurd (false-true refl e)
+finished-named asked store i (Finished h b) e = (h, b, refl, has-name asked (startOf headerMost i h store) .0 e)
 
 module _ (asked : List ℕ) (count : ℕ) (slots : List Slot) (store : List ℕ) where
   -- a slot of the first count
@@ -202,12 +193,10 @@ module _ (asked : List ℕ) (count : ℕ) (slots : List Slot) (store : List ℕ)
   object-of : (j : ℕ) → j < length (take count slots) → passes asked store 0 (take count slots) j ≡ true
       → (header : List ℕ) × Object count slots store (getD (take count slots) j freeSlot .number) header
       × Named asked header
-  unfolding passes headerIn
+  unfolding passes holdsName
   object-of j h e =
       let f = first j h in
-      let n : Named asked (headerAs (slotAt j slots .stage) j store) =
-      has-name asked (headerAs (slotAt j slots .stage) j store) .0 (rw (f .1, zero-add j) at e) in
-      let s = finished-named asked store j (slotAt j slots .stage) n in (
+      let s = finished-named asked store j (slotAt j slots .stage) (rw (f .1, zero-add j) at e) in (
         startOf headerMost j (s .0) store,
         record {
           slot = j;
@@ -219,14 +208,14 @@ module _ (asked : List ℕ) (count : ℕ) (slots : List Slot) (store : List ℕ)
               sym (ap (λ (x : Slot). x .number) (f .1));
           stored = refl;
         },
-        rw (s .2) at n,
+        s .3,
       )
 
   -- and an object that has the name is in such a slot
   slot-of : (number : ℕ) (header : List ℕ) (o : Object count slots store number header) → Named asked header
       → (o .slot < length (take count slots)) × (passes asked store 0 (take count slots) (o .slot) ≡ true)
       × (getD (take count slots) (o .slot) freeSlot .number ≡ number)
-  unfolding passes headerIn
+  unfolding passes holdsName
   slot-of number header o n =
       let there = object-there count slots store number header o in
       let f = first (o .slot) there in (

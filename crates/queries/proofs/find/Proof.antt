@@ -2,10 +2,9 @@
 -- Assumes nothing.
 use mathlib.Core.Path.{sym, ap, _∙_}
 use borrow.Author.Tests.{not-true, not-false}
-use Rattle.slots.specs.laws.Ready.{sound-limits}
 use Rattle.collector.specs.State.{stores, state}
-use Rattle.collector.specs.laws.State.{slots-sound}
 use Rattle.queries.specs.Questions.{soughtAs, find}
+use Rattle.queries.specs.laws.Theorems.{cores-searched}
 use borrow.Author.Needs.{needs}
 use Rattle.queries.proofs.find.Statement.{statement}
 use Rattle.queries.proofs.find.Tie as tie
@@ -22,8 +21,7 @@ find-requires c κs =
     let a = c .before .before .before .before .before .before .before .args in
     let lent = stores (a .header) (a .body) (a .marks) in
     let good = sym (c .before .before .is-sound .ensures) ∙ not-false _ (c .before .if1 .left) in
-    let slots = slots-sound (state (a .collector) (a .counts) lent) good in
-    sound-limits (a .collector .limit) (a .collector .count) (a .collector .slots) lent slots .slots
+    cores-searched (state (a .collector) (a .counts) lent) good
 
 sought-as-requires : tie.Need-sought-as-requires
 sought-as-requires c κs = search needs

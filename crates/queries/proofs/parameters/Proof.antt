@@ -1,9 +1,11 @@
--- `queries::parameters` meets its contract: where the object is, then what its header says.
+-- `queries::parameters` meets its contract: where the object is, then what its header says, which has its core.
 -- Assumes nothing.
 use mathlib.Core.Path.{sym, ap, _∙_}
 use Rattle.header.specs.Parameters.{readHeader}
+use Rattle.collector.specs.State.{stores, state}
 use Rattle.collector.specs.Calls.{show}
 use Rattle.queries.specs.Questions.{parameters}
+use Rattle.queries.specs.laws.Theorems.{core-shown}
 use borrow.Author.Needs.{needs}
 use Rattle.queries.proofs.parameters.Statement.{statement}
 use Rattle.queries.proofs.parameters.Tie as tie
@@ -22,7 +24,12 @@ shown-at-requires : tie.Need-shown-at-requires
 shown-at-requires c κs = search needs
 
 read-requires : tie.Need-read-requires
-read-requires c κs = search needs
+unfolding show
+read-requires c κs =
+    let a = c .before .before .before .before .before .before .before .before .args in
+    let s = state (a .collector) (a .counts) (stores (a .header) (a .body) (a .marks)) in
+    let there = sym (c .before .before .before .before .locate .ensures) ∙ c .before .before .i .given .1 in
+    rw (c .shown-at .ensures) (rw there at (core-shown (a .number) _ s there))
 
 asked-as-requires : tie.Need-asked-as-requires
 asked-as-requires c κs = search needs

@@ -1,17 +1,17 @@
--- What the questions mean, in terms of one another. In a state that is not damaged the number that is found by name
--- is the lowest of those whose header, as it is shown, has the name; and the name is the part of that header which
--- its parameters tell of.
+-- What the questions mean, in terms of one another. Every header that they read has its core. In a state that is not
+-- damaged the number that is found by name is the lowest of those whose header, as it is shown, has the name; and the
+-- name is the part of that header which its parameters tell of.
 use mathlib.Core.Path.{_≡_, refl, sym, ap, _∙_}
-use mathlib.Core.Bool.{true}
+use mathlib.Core.Bool.{Bool, true, false}
 use mathlib.Core.List.{List}
 use mathlib.Core.Logic.{_↔_}
-use Prim.Native.Nat.{ℕ, _<_}
+use Prim.Native.Nat.{ℕ, _≤_, _<_}
 use native.Mathlib.Omega.{arith}
 use lib.ListN.{length, length-take}
 use borrow.Author.Tests.{eq-eqb, eqb-true}
 use Rattle.answer.specs.declared.Reason.the-variants as Reason
 use Rattle.answer.specs.declared.Part.the-variants.{Header}
-use Rattle.cut.specs.Requirement.{headerMost}
+use Rattle.cut.specs.Requirement.{headerLeast, headerMost}
 use Rattle.object.specs.declared.Slot.{Slot}
 use Rattle.object.specs.declared.Stage.{Stage}
 use Rattle.object.specs.declared.Stage.the-variants.{Free, Gathering, Finished}
@@ -23,14 +23,15 @@ use Rattle.header.specs.Names.{dataAs, nameData}
 use Rattle.name_search.specs.declared.Holder.{Holder}
 use Rattle.name_search.specs.declared.Holder.the-variants.{Nobody, Number}
 use Rattle.name_search.specs.Requirement.{Object, Named}
-use Rattle.name_search.specs.Finding.{foundByName}
+use Rattle.name_search.specs.Finding.{foundByName, Searched}
 use Rattle.name_search.specs.laws.Theorems.{object-there, found-nobody, found-lowest}
 use Rattle.slots.specs.declared.Found.{Found as SlotFound}
 use Rattle.slots.specs.declared.Found.the-variants.{Nothing, At}
 use Rattle.slots.specs.Stores.{slotAt}
 use Rattle.slots.specs.Find.{holds, findIn}
 use Rattle.slots.specs.laws.Held.{sound-held}
-use Rattle.slots.specs.laws.Ready.{found-right}
+use Rattle.slots.specs.laws.Ready.{sound-limits, found-right}
+use Rattle.slots.specs.laws.Finished.{finished-core}
 use Rattle.slots.specs.Show.{startOf, shownOf}
 use Rattle.collector.specs.declared.Located.{Located}
 use Rattle.collector.specs.declared.Located.the-variants as Located
@@ -39,7 +40,7 @@ use Rattle.queries.specs.declared.Sought.the-variants as Sought
 use Rattle.collector.specs.State.{State, find as slotFor}
 use Rattle.collector.specs.Calls.{locatedAs, locatedIn, locate, show, sound}
 use Rattle.collector.specs.laws.State.{slots-sound}
-use Rattle.queries.specs.Questions.{askedOf, parameters, name, soughtAs, find, Found}
+use Rattle.queries.specs.Questions.{askedOf, parameters, namedOf, name, soughtAs, find, Found}
 use Rattle.queries.specs.Said.{askedAs}
 
 -- ---- the name and the parameters
@@ -58,7 +59,7 @@ name-told number s fields e = go (locate number s) e
     reads (Refused why) f g = let z : _≡_ {A = ℕ} 0 1 = cc in absurd (omega arith)
     reads (Read said) f g = let same : said ≡ fields = cc in rw (f, same) refl
 
-    go : (l : Located) → askedOf l header ≡ Asked.Fields fields → nameData header ≡ dataAs header (fields .name)
+    go : (l : Located) → askedOf l header ≡ Asked.Fields fields → namedOf l header ≡ dataAs header (fields .name)
     go (Located.Denied why) g = let z : _≡_ {A = ℕ} 0 1 = cc in absurd (omega arith)
     go (Located.At i) g = reads (readHeader header) refl g
 
@@ -134,6 +135,34 @@ module _ (s : State) (good : sound s ≡ true) where
         stored =
             sym (shown-located number i (f .1) (f .2) e (f .3));
       }
+
+-- ---- the core
+
+-- EVERY HEADER THAT IS SHOWN HAS ITS CORE, 7 bytes at least, in any state: a damaged one shows none
+pub core-shown : (number i : ℕ) (s : State) → locate number s ≡ Located.At i
+    → headerLeast ≤ length (show number Header s)
+unfolding locate findIn
+core-shown number i s e = go (sound s) refl
+  where
+    go : (b : Bool) → sound s ≡ b → headerLeast ≤ length (show number Header s)
+    go false d = let z : _≡_ {A = ℕ} 0 1 = cc (rw d at e) in absurd (omega arith)
+    go true good =
+        let f = located-found s good number i e in
+        let inside = found-right (s .collector .limit) (s .collector .count) (s .collector .slots) (s .stores)
+        (slots-sound s good) (holds number) i (f .0) .0 in
+        rw (shown-located s good number i (f .1) (f .2) e (f .3))
+        (finished-core (s .collector .limit) (s .collector .count) (s .collector .slots) (s .stores)
+        (slots-sound s good) i (f .1) (f .2) inside (f .3))
+
+-- and so has every header that the search for a name reads
+pub cores-searched : (s : State) → sound s ≡ true
+    → Searched (s .collector .count) (s .collector .slots) (s .stores .header)
+cores-searched s good = record {
+  few = sound-limits (s .collector .limit) (s .collector .count) (s .collector .slots) (s .stores)
+      (slots-sound s good) .slots;
+  cores = λ i inside h b finished. finished-core (s .collector .limit) (s .collector .count) (s .collector .slots)
+      (s .stores) (slots-sound s good) i h b inside finished;
+}
 
 -- ---- what is found by name
 
