@@ -4,14 +4,15 @@
 use crate::repository::{Item, Repository};
 
 /// What is promised. Of a file with no names behind it all that stands in it, of another what is named.
-const PROMISED: [(&str, &[&str]); 7] = [
+const PROMISED: [(&str, &[&str]); 9] = [
+    ("crates/answer/specs/laws/Table.antt", &["never-retired"]),
     ("crates/collector/specs/laws/Outcome.antt", &[]),
     ("crates/history/specs/Promise.antt", &[]),
     ("crates/history/specs/Ours.antt", &[]),
     ("crates/history/specs/laws/Promises.antt", &[]),
     (
         "crates/queries/specs/laws/Theorems.antt",
-        &["name-told", "find-lowest", "find-nobody"],
+        &["name-told", "core-shown", "find-lowest", "find-nobody"],
     ),
     (
         "crates/yovtirak/specs/laws/Reaches.antt",
@@ -21,6 +22,10 @@ const PROMISED: [(&str, &[&str]); 7] = [
             "counts-reached",
             "finished-there",
         ],
+    ),
+    (
+        "crates/yovtirak/specs/laws/Retired.antt",
+        &["opened-never", "returned-never"],
     ),
     ("crates/listing/specs/laws/Theorems.antt", &["lines-done"]),
 ];
