@@ -145,7 +145,7 @@ judged h (listed ps) =
     pick (allFit ps) (pick (twice singles ps) (Refused Duplicate) (Read (fieldsOf h (find 0x0A ps) (find 0x0C ps))))
     (Refused Header)
 
--- a finished header, which has its core
+-- what a finished header, which has its core, reads as
 unfoldable pub readHeader : List ℕ → Reading
 readHeader h = judged h (parameters h)
 
