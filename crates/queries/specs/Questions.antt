@@ -4,7 +4,6 @@ use Prim.Native.Nat.{ℕ, _≤_}
 use Rattle.answer.specs.declared.Reason.{Reason}
 use Rattle.answer.specs.declared.Reason.the-variants as Reason
 use Rattle.answer.specs.declared.Part.the-variants.{Header}
-use Rattle.header.specs.declared.Refusal.the-variants as Refusal
 use Rattle.header.specs.Parameters.{readHeader}
 use Rattle.header.specs.Names.{nameData}
 use Rattle.name_search.specs.declared.Holder.{Holder}
@@ -22,7 +21,6 @@ use Rattle.collector.specs.State.{State}
 use Rattle.collector.specs.Calls.{locate, show, sound}
 use Rattle.cut.specs.Lists.{pick}
 use mathlib.Core.Path.{_≡_}
-use Rattle.slots.specs.declared.Found.the-variants.{At}
 
 -- ---- what a header says
 

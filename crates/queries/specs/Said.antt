@@ -1,6 +1,5 @@
 use Rattle.answer.specs.declared.Reason.the-variants as Reason
 use Rattle.answer.specs.declared.Reason.{Reason}
-use Rattle.answer.specs.declared.Part.the-variants.{Header}
 use Rattle.header.specs.declared.Refusal.the-variants as Refusal
 use Rattle.header.specs.declared.Reading.{Reading}
 use Rattle.header.specs.declared.Reading.the-variants.{Read, Refused}

@@ -15,14 +15,12 @@ use Rattle.answer.specs.declared.Heard.{Heard}
 use Rattle.answer.specs.declared.Part.{Part}
 use Rattle.answer.specs.declared.Part.the-variants.{Header}
 use Rattle.counts.specs.Counted.{within}
-use Rattle.wire.specs.declared.Reading.the-variants.{Read, Refused}
 use Rattle.cut.specs.Requirement.{limitMost}
 use Rattle.cut.specs.laws.Decision.{true-both}
 use Rattle.header.specs.declared.Reading.{Reading as HeaderReading}
 use Rattle.header.specs.declared.Reading.the-variants as HeaderReading
 use Rattle.header.specs.declared.Refusal.the-variants as HeaderRefusal
 use Rattle.header.specs.Parameters.{readHeader}
-use Rattle.header.specs.Names.{nameData}
 use Rattle.object.specs.declared.Slot.{Slot}
 use Rattle.object.specs.declared.Stage.{Stage}
 use Rattle.object.specs.declared.Stage.the-variants as Stage

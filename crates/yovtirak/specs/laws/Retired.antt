@@ -1,5 +1,4 @@
 -- NO CALL RETURNS THE RETIRED NUMBER, whatever it is handed: the low byte of a result is an answer's number, or 0.
-use mathlib.Core.Path.{_≡_}
 use mathlib.Core.Logic.{_≢_}
 use mathlib.Core.Bool.{Bool, true, false}
 use mathlib.Core.List.{List}
