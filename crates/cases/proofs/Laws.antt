@@ -2,11 +2,9 @@
 use mathlib.Core.Path.{_≡_}
 use mathlib.Core.Bool.{true}
 use Prim.Native.Nat.{_<_}
-use lib.Dec.{leb, ltb}
 use borrow.Author.Tests.{ltb-true}
-use Rattle.cut.specs.laws.Decision.{both-true}
 use Rattle.cases.specs.declared.Piece.{Piece}
 use Rattle.cases.specs.Pieces.{isThere}
 
 pub there-number : (s : Piece) → isThere s ≡ true → s .number < 32768
-there-number s e = ltb-true (s .number) 32768 (both-true (leb 1 (s .length)) (ltb (s .number) 32768) e .1)
+there-number s e = ltb-true (s .number) 32768 e

@@ -1,8 +1,8 @@
 -- A segment given as numbers, or none, with what is kept of a part.
 use mathlib.Core.Bool.{Bool, true}
 use Prim.Native.Nat.{ℕ, _+_}
-use lib.Dec.{leb, ltb}
-use Rattle.cut.specs.Decision.{both, addPart, addTop, joins, suits, finished}
+use lib.Dec.{ltb}
+use Rattle.cut.specs.Decision.{addPart, addTop, joins, suits, finished}
 use Rattle.cut.specs.declared.Record.{Record}
 use Rattle.cut.specs.declared.Core.{Core}
 use Rattle.cut.specs.Lists.{pick}
@@ -10,9 +10,9 @@ use Rattle.cases.specs.declared.Piece.{Piece}
 use Rattle.cases.specs.declared.Verdict.{Verdict}
 use Rattle.cases.specs.declared.Verdict.the-variants.{Conflicts, Fits, Completes}
 
--- it has bytes, and a number of 15 bits
+-- it has a number of 15 bits
 abbrev pub isThere : Piece → Bool
-isThere s = both (leb 1 (s .length)) (ltb (s .number) 32768)
+isThere s = ltb (s .number) 32768
 
 abbrev pub countOf : Piece → ℕ
 countOf s = pick (isThere s) 1 0

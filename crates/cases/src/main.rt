@@ -1,6 +1,6 @@
-// The worked cases of document 01, "Both sides of the line", and others at each bound, run on the decision of crate
-// `cut` and written with its verdict, one case a line. What must be written comes from the independent program, which
-// searches every length and every size (independent/src/bin/cases.rs).
+// The worked cases of document 01, "Both sides of the line", others at each bound and those of the empty last segment,
+// run on the decision of crate `cut` and written with its verdict, one case a line. What must be written comes from the
+// independent program, which searches every length and every size (independent/src/bin/cases.rs).
 use cut::Core;
 use cut::Record;
 ghost use mathlib.Core.Path.{_≡_};
@@ -12,7 +12,7 @@ const LIMIT: usize = 12288;
 
 const MOST: usize = 1048576;
 
-// A segment, as far as the decision looks at it. One without bytes, or with a number of more than 15 bits, is none.
+// A segment, as far as the decision looks at it. One with a number of more than 15 bits is none.
 struct Piece {
     number: usize,
     last: bool,
@@ -47,9 +47,9 @@ fn last(number: usize, length: usize) -> Piece
 }
 
 fn none() -> Piece
-    ensures { λ r. ⌜ r ≡ record { number = 0; last = false; length = 0 } ⌝ }
+    ensures { λ r. ⌜ r ≡ record { number = 32768; last = false; length = 0 } ⌝ }
 {
-    full(0, 0)
+    full(32768, 0)
 }
 
 fn nothing() -> Record
@@ -72,9 +72,6 @@ fn says(header: usize, body: usize) -> Core
 fn is_there(piece: Piece) -> bool
     ensures { λ r. ⌜ r ≡ isThere piece ⌝ }
 {
-    if piece.length == 0 {
-        return false;
-    }
     piece.number < 32768
 }
 
@@ -299,10 +296,27 @@ fn cases_of_two_segments() {
     pair(full(2, 16), last(1, 16));
 }
 
+// The empty last segment: with BodySize 0 or before it is said, and with nothing else of the body.
+fn cases_of_the_empty_segment() {
+    body_alone(LIMIT, last(0, 0));
+    body_alone(LIMIT, last(1, 0));
+    body_alone(LIMIT, full(0, 0));
+    header_alone(last(0, 0));
+    sized(LIMIT, 0, last(0, 0), none());
+    sized(LIMIT, 1, last(0, 0), none());
+    sized(LIMIT, LIMIT, last(0, 0), none());
+    sized(MOST, MOST, last(0, 0), none());
+    pair(last(0, 0), last(1, 5));
+    pair(last(1, 5), last(0, 0));
+    pair(last(0, 0), full(1, 16));
+    pair(full(1, 16), last(0, 0));
+}
+
 fn main() {
     cases_of_document_01();
     cases_of_headers();
     cases_of_bodies();
     cases_of_the_last_alone();
     cases_of_two_segments();
+    cases_of_the_empty_segment();
 }

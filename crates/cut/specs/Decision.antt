@@ -70,12 +70,12 @@ room b p = roomAs b (p .size) (p .end) (p .tail)
 unfoldable pub largest : Bounds → ℕ → ℕ → ℕ
 largest b n tail = min sizeMost ((b .most - tail) / n)
 
--- no full segment is in: nothing is, or the last one alone, as number 0 or as a later number n
+-- no full segment is in: nothing is, or the last one alone, as number 0, where it may be empty, or as a later number n
 abbrev pub nothingTests : Bounds → List Bool
-nothingTests b = leb (b .least) (b .most) ∷ leb (b .least) (b .numbers * sizeMost) ∷ []
+nothingTests b = leb 1 (b .numbers) ∷ leb (b .least) (b .most) ∷ leb (b .least) (b .numbers * sizeMost) ∷ []
 
 abbrev pub firstTests : Bounds → ℕ → List Bool
-firstTests b tail = leb 1 tail ∷ leb tail sizeMost ∷ leb 1 (b .numbers) ∷ leb (b .least) tail ∷ leb tail (b .most) ∷ []
+firstTests b tail = leb tail sizeMost ∷ leb 1 (b .numbers) ∷ leb (b .least) tail ∷ leb tail (b .most) ∷ []
 
 abbrev pub laterTests : Bounds → ℕ → ℕ → List Bool
 laterTests b n tail = leb 1 tail ∷ leb tail (b .most) ∷ leb (suc n) (b .numbers) ∷ leb sizeLeast (largest b n tail)

@@ -1,9 +1,10 @@
--- The requirement: document 01, "One object, one cut". What an object is, how it is cut into segments, when segments
--- fit one object and one cut, when they are all of it, and what they then join to.
+-- The requirement: document 01, "One object, one cut", as document 02, Item 2, mends it. What an object is, how it is
+-- cut into segments, when segments fit one object and one cut, when they are all of it, and what they then join to.
 -- `Each P l` says that P holds of each element of l, `Among x l` that x is one of l, `Bytes l` that each is below 256;
 -- `pick t a b` is a if the test t passes, else b.
 use mathlib.Core.Path.{_≡_}
-use mathlib.Core.Bool.{Bool}
+use mathlib.Core.Logic.{_⊎_}
+use mathlib.Core.Bool.{Bool, true}
 use mathlib.Core.List.{List, [], _∷_, _++_}
 use Prim.Native.Nat.{ℕ, zero, suc, _+_, _*_, _/_, _%_, _≤_, _<_}
 use lib.ListN.{length, take, drop, getD}
@@ -84,12 +85,21 @@ pub record Segment : Type 0 where
 abbrev pub segment : ℕ → Bool → List ℕ → Segment
 segment number last bytes = record { number = number; last = last; bytes = bytes }
 
--- a part cut at a size sends this segment: the part goes on at number times size; the segment has the bytes from there,
+-- a part cut at a size has this segment: the part goes on at number times size; the segment has the bytes from there,
 -- as many as the size says or as there are; it is the last one if none are left after it
-pub record Sends (part : List ℕ) (size : ℕ) (segment : Segment) : Type 0 where
+pub record IsSegment (part : List ℕ) (size : ℕ) (segment : Segment) : Type 0 where
   pub starts : segment .number * size < length part
   pub holds : segment .bytes ≡ take size (drop (segment .number * size) part)
   pub ends : segment .last ≡ leb (length part) (suc (segment .number) * size)
+
+-- the empty last segment: number 0, no bytes
+abbrev pub empty : Segment
+empty = segment 0 true []
+
+-- a part cut at a size sends a segment that it has; where it has length 0, as a body may, it has no segments, or that
+-- one empty last segment, and both belong to the same object
+abbrev pub Sends : List ℕ → ℕ → Segment → Type 0
+Sends part size s = IsSegment part size s ⊎ ((length part ≡ 0) × (s ≡ empty))
 
 -- some object within the limit and some cut of it send all these segments of its header and of its body
 pub record Fits (limit : ℕ) (headerSegments bodySegments : List Segment) : Type 0 where
@@ -105,9 +115,9 @@ pub record Fits (limit : ℕ) (headerSegments bodySegments : List Segment) : Typ
 
 -- ---- finished, and joined
 
--- every segment that a part cut at a size sends is in
+-- every segment that a part cut at a size has is in; the empty one is left out
 abbrev pub Whole : List ℕ → ℕ → List Segment → Type 0
-Whole part size segments = (s : Segment) → Sends part size s → Among s segments
+Whole part size segments = (s : Segment) → IsSegment part size s → Among s segments
 
 -- finished: every segment of the object is in
 pub record Finished {limit : ℕ} {headerSegments bodySegments : List Segment}

@@ -6,6 +6,7 @@ pub mod Object
 pub mod Order
 pub mod Theorem
 pub mod Finished
+pub mod Empty
 pub mod Known
 pub mod Marks
 pub mod Cases

@@ -1,7 +1,7 @@
 -- What is promised of a collector: document 01's demands, each with a name of its own, over any run of it, an
 -- opening within the limits and any calls after it. What was stored under a number is read off the answers.
 use mathlib.Core.Path.{_≡_}
-use mathlib.Core.Logic.{_≢_, _↔_}
+use mathlib.Core.Logic.{_≢_, _⊎_, _↔_}
 use mathlib.Core.Bool.{Bool, true, false}
 use mathlib.Core.List.{List, [], _∷_}
 use Prim.Native.Nat.{ℕ, suc, _≤_, _<_, min}
@@ -21,14 +21,14 @@ use Rattle.counts.specs.Counted.{ceiling, noneYet, oneRepeated, oneRefused}
 use Rattle.wire.specs.declared.Reading.the-variants.{Refused}
 use Rattle.wire.specs.Reading.{readingOf}
 use Rattle.cut.specs.Lists.{pick, Each, Among}
-use Rattle.cut.specs.Requirement.{headerLeast, headerNumbers, bodyNumbers, Segment, Fits, Finished, joined}
+use Rattle.cut.specs.Requirement.{headerLeast, headerNumbers, bodyNumbers, Segment, empty, Fits, Finished, joined}
 use Rattle.cut.specs.Decision.{both}
 use Rattle.cut.specs.Parts.{headersWith, bodiesWith}
 use Rattle.header.specs.declared.Reading.{Reading}
 use Rattle.header.specs.Parameters.{readHeader}
 use Rattle.header.specs.Names.{nameData}
 use Rattle.object.specs.declared.Stage.the-variants as Stage
-use Rattle.object.specs.Source.{Source, SentBy}
+use Rattle.object.specs.Source.{Source, SegmentOf, SentBy}
 use Rattle.slots.specs.declared.Found.the-variants.{Nothing, At}
 use Rattle.slots.specs.Find.{isFree}
 use Rattle.name_search.specs.Requirement.{Named}
@@ -187,12 +187,20 @@ module _ (k : Collecting) (v : View) where
   CompleteBy = (g : Passing) → (answerTo k v g ≡ Answer.Complete (heardOf g))
       ↔ (((f : FitsWith v g) × Finished f) × Missing v (g .arrived .number) × SlotFor (g .arrived .number) (v .state))
 
-  -- STORED exactly when it is new and fits, with it some segment is still missing, and a slot is there.
+  -- STORED exactly when it is new and fits, with it some segment is still missing or before it none was, and a slot is
+  -- there.
   abbrev pub StoredBy : Type 0
   StoredBy = (g : Passing) → (answerTo k v g ≡ Answer.Stored (heardOf g))
-      ↔ (((f : FitsWith v g) × (¬ (Finished f)))
+      ↔ (((f : FitsWith v g) × ((¬ (Finished f)) ⊎ ((h : FitsStored v (g .arrived .number)) × Finished h)))
       × (¬ (Among (segmentOf g) (v .kept (g .arrived .part) (g .arrived .number))))
       × SlotFor (g .arrived .number) (v .state))
+
+  -- Once it is finished, a group that fits is a REPEAT, but for the empty last segment of its body: that one is STORED
+  -- once, and then a REPEAT too.
+  abbrev pub LateBy : Type 0
+  LateBy = (g : Passing) (f : FitsStored v (g .arrived .number)) → Finished f → FitsWith v g
+      → (answerTo k v g ≡ Answer.Repeat (heardOf g))
+      ⊎ ((answerTo k v g ≡ Answer.Stored (heardOf g)) × (g .arrived .part ≡ Body) × (segmentOf g ≡ empty))
 
   -- A number that holds no slot takes the lowest free one: with STORED or COMPLETE it holds slot i, which was free,
   -- and no slot below i was.
@@ -281,6 +289,7 @@ pub record AnsweredBy (k : Collecting) (v : View) : Type 0 where
   pub repeated : RepeatBy k v
   pub complete : CompleteBy k v
   pub storing : StoredBy k v
+  pub late : LateBy k v
   pub lowest : LowestFreeBy k v
   pub unread : UnreadBy k v
   pub dropping : DropBy k v
@@ -421,6 +430,9 @@ module _ (k : Collecting) where
   abbrev pub StoredExactly : Type 0
   StoredExactly = (r : Run) → StoredBy k (since k r)
 
+  abbrev pub LateStored : Type 0
+  LateStored = (r : Run) → LateBy k (since k r)
+
   abbrev pub LowestFreeTaken : Type 0
   LowestFreeTaken = (r : Run) → LowestFreeBy k (since k r)
 
@@ -481,7 +493,7 @@ module _ (k : Collecting) where
   -- Once all its segments have come, each with a slot there, it is finished and shown with that header and that body.
   abbrev pub OneCutFinishes : Type 0
   OneCutFinishes = (r : Run) (object : Source (r .start .limit)) (number : ℕ) → StoredFrom object number (since k r)
-      → ((part : Part) (s : Segment) → SentBy object part s → Among s (cameUnder part number (toldBy k r)))
+      → ((part : Part) (s : Segment) → SegmentOf object part s → Among s (cameUnder part number (toldBy k r)))
       → (stageFor number (reachedBy k r) ≡ Stage.Finished (length (object .header)) (length (object .body)))
       × (k .shows number Header (reachedBy k r) ≡ object .header)
       × (k .shows number Body (reachedBy k r) ≡ object .body)
@@ -513,6 +525,7 @@ pub record Promised (k : Collecting) : Type 0 where
   pub repeated : RepeatExactly k
   pub complete : CompleteExactly k
   pub storing : StoredExactly k
+  pub late : LateStored k
   pub lowest : LowestFreeTaken k
   pub unread : UnreadRefused k
   pub dropping : DropExactly k

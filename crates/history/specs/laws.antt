@@ -24,4 +24,5 @@ pub mod Worthless
 pub mod Careless
 pub mod Mistaken
 pub mod Promises
+pub mod Before
 pub mod Example

@@ -70,10 +70,12 @@ partsWith Body limit s ps = record {
   body = put s (settled (recordAfter Body limit s ps) (ps .body));
 }
 
-abbrev pub outcomeBy : Stage → Outcome
-outcomeBy Stage.Free = Outcome.Stored
-outcomeBy Stage.Gathering = Outcome.Stored
-outcomeBy (Stage.Finished header body) = Outcome.Complete
+-- by the stage that a segment of so many bytes leaves: an empty one completes nothing, as no object waits for it
+abbrev pub outcomeBy : ℕ → Stage → Outcome
+outcomeBy count Stage.Free = Outcome.Stored
+outcomeBy count Stage.Gathering = Outcome.Stored
+outcomeBy zero (Stage.Finished header body) = Outcome.Stored
+outcomeBy (suc count) (Stage.Finished header body) = Outcome.Complete
 
 -- the slot of two parts that have changed
 unfoldable pub slotWith : ℕ → Parts → Slot
@@ -92,16 +94,17 @@ left took lent = record { outcome = took .outcome; slot = took .slot; lent = len
 abbrev pub unchanged : Outcome → Slot → Lent → Taken
 unchanged outcome slot lent = record { outcome = outcome; slot = slot; lent = lent }
 
-abbrev pub tookOf : ℕ → Parts → Took
-tookOf number ps = record { outcome = outcomeBy (stageOf ps); slot = slotWith number ps }
+abbrev pub tookOf : ℕ → ℕ → Parts → Took
+tookOf count number ps = record { outcome = outcomeBy count (stageOf ps); slot = slotWith number ps }
 
-abbrev pub storedAs : ℕ → Parts → Taken
-storedAs number ps = left (tookOf number ps) (lentOf ps)
+abbrev pub storedAs : ℕ → ℕ → Parts → Taken
+storedAs count number ps = left (tookOf count number ps) (lentOf ps)
 
 abbrev pub takenBy : Decided → Part → ℕ → Segment → Slot → Lent → Taken
 takenBy Repeat part limit s slot lent = unchanged Outcome.Repeat slot lent
 takenBy Conflict part limit s slot lent = unchanged Outcome.Conflict slot lent
-takenBy (Fits core) part limit s slot lent = storedAs (slot .number) (partsWith part limit s (partsOf slot lent))
+takenBy (Fits core) part limit s slot lent = storedAs (length (s .bytes)) (slot .number)
+    (partsWith part limit s (partsOf slot lent))
 
 -- What is decided, and then stored: a number that is marked is a repeat or a conflict, and one that is not is stored
 -- where it fits, else it is a conflict.

@@ -8,6 +8,7 @@ pub mod StageInside
 pub mod Step
 pub mod StateParts
 pub mod StateExact
+pub mod StateEmpty
 pub mod StepSound
 pub mod StateAnswered
 pub mod StepBytes

@@ -91,6 +91,9 @@ pub fn room(b: Bounds, p: Record) -> usize
 fn alone_none(b: Bounds) -> bool
     ensures { λ r. ⌜ r ≡ all (nothingTests b) ⌝ }
 {
+    if b.numbers < 1 {
+        return false;
+    }
     if b.most < b.least {
         return false;
     }
@@ -103,9 +106,6 @@ fn alone_none(b: Bounds) -> bool
 fn alone_first(b: Bounds, tail: usize) -> bool
     ensures { λ r. ⌜ r ≡ all (firstTests b tail) ⌝ }
 {
-    if tail < 1 {
-        return false;
-    }
     if SIZE_MOST < tail {
         return false;
     }

@@ -11,7 +11,7 @@ use Rattle.answer.specs.declared.Part.{Part}
 use Rattle.answer.specs.declared.Refusal.the-variants as Refusal
 use Rattle.wire.specs.declared.Reading.the-variants.{Read, Refused}
 use Rattle.wire.specs.Wire.{wordAt, segmentFlag, userAccessFlag, segmentField, userAccess, transportFlag, lengthIndicator, transportNumber, segmentationHeader, segmentStart, checkStart}
-use Rattle.wire.specs.Reading.{sizeWrong, segmentOf}
+use Rattle.wire.specs.Reading.{leastSize, sizeWrong, segmentOf}
 use Rattle.wire.specs.laws.Session.{sessionOf}
 
 module _ (group : List ℕ) (part : Part) where
@@ -65,11 +65,11 @@ module _ (group : List ℕ) (part : Part) where
             lt-ltb (checkStart group) (segmentStart group) h,
           )
 
-          -- the two words that say the size and whether it is the last one
+          -- the two words that say the size, and which one it is and whether it is the last
           module _ (b : segmentStart group ≤ checkStart group) (sized said : ℕ)
               (z : sized ≡ wordAt group (segmentationHeader group)) (d : said ≡ wordAt group (segmentField group)) where
-            pub size-refused : sizeWrong (sized % 0x2000) (checkStart group - segmentStart group)
-                (eqb (said / 0x8000) 1) ≡ true → Refused Refusal.Size ≡ sessionOf group part
+            pub size-refused : sizeWrong (leastSize part (said % 0x8000) (eqb (said / 0x8000) 1)) (sized % 0x2000)
+                (checkStart group - segmentStart group) ≡ true → Refused Refusal.Size ≡ sessionOf group part
             unfolding sessionOf
             size-refused e = rw (
               ne-eqb (segmentFlag group) 0 s,
@@ -83,19 +83,18 @@ module _ (group : List ℕ) (part : Part) where
               e,
             )
 
-            pub segment-read : (number again : ℕ)
-                → sizeWrong (sized % 0x2000) (checkStart group - segmentStart group) (eqb (said / 0x8000) 1) ≡ false
-                → number ≡ transportNumber group → again ≡ wordAt group (segmentField group)
+            pub segment-read : (number : ℕ) → sizeWrong (leastSize part (said % 0x8000) (eqb (said / 0x8000) 1))
+                (sized % 0x2000) (checkStart group - segmentStart group) ≡ false → number ≡ transportNumber group
                 → Read (record {
                   number = number;
                   part = part;
-                  segment = again % 0x8000;
+                  segment = said % 0x8000;
                   last = eqb (said / 0x8000) 1;
                   start = segmentStart group;
                   length = sized % 0x2000;
                 }) ≡ sessionOf group part
             unfolding sessionOf segmentOf
-            segment-read number again e n a =
+            segment-read number e n =
                 rw (
                   ne-eqb (segmentFlag group) 0 s,
                   ne-eqb (userAccessFlag group) 0 u,
@@ -104,7 +103,6 @@ module _ (group : List ℕ) (part : Part) where
                   le-ltb (lengthIndicator group) 2 i,
                   le-ltb (checkStart group) (segmentStart group) b,
                   n,
-                  a,
                   sym z,
                   sym d,
                   e,

@@ -1,7 +1,7 @@
 -- How a group is read: document 01's checks in document 01's order, and what is read off a group that passes them all.
 use mathlib.Core.List.{List}
-use mathlib.Core.Bool.{Bool, true, false, not, cond, _||_, _&&_}
-use Prim.Native.Nat.{ℕ, _+_, _-_}
+use mathlib.Core.Bool.{Bool, true, false, not, cond, _||_}
+use Prim.Native.Nat.{ℕ, zero, suc, _+_, _-_}
 use lib.ListN.{length, take, drop}
 use lib.Dec.{eqb, ltb}
 use Rattle.crc.specs.CheckWord.{checkWord}
@@ -30,10 +30,16 @@ kindOf number = cond (eqb number 3) (Carries Header) (cond (eqb number 4) (Carri
 unfoldable pub checkHolds : List ℕ → Bool
 checkHolds group = eqb (checkField group) (checkWord (checkCovers group))
 
--- a size field is wrong: 0, not equal to the bytes left, over 8,189, or, not last, under 16
-unfoldable pub sizeWrong : ℕ → ℕ → Bool → Bool
-sizeWrong size left last =
-    ltb size segmentLeast || not (eqb size left) || ltb segmentMost size || (not last && ltb size fullLeast)
+-- the least size of a segment: 16 where it is not the last one, else 1; but 0 for number 0 of a body
+abbrev pub leastSize : Part → ℕ → Bool → ℕ
+leastSize part number false = fullLeast
+leastSize Header number true = segmentLeast
+leastSize Body zero true = 0
+leastSize Body (suc number) true = segmentLeast
+
+-- a size field is wrong: under the least, not equal to the bytes left, or over 8,189
+unfoldable pub sizeWrong : ℕ → ℕ → ℕ → Bool
+sizeWrong least size left = ltb size least || not (eqb size left) || ltb segmentMost size
 
 -- what a group carries, once it has passed the checks
 unfoldable pub segmentOf : List ℕ → Part → Carried
@@ -68,5 +74,6 @@ readingOf group =
     Refusal.Length if ltb (checkStart group) (userAccess group + 1) otherwise
     Refusal.Address if eqb (transportFlag group) 0 || ltb (lengthIndicator group) 2 otherwise
     Refusal.Length if ltb (checkStart group) (segmentStart group) otherwise
-    Refusal.Size if sizeWrong (segmentSize group) (checkStart group - segmentStart group) (lastFlag group) otherwise
+    Refusal.Size if sizeWrong (leastSize part (segmentNumber group) (lastFlag group)) (segmentSize group)
+    (checkStart group - segmentStart group) otherwise
     Read (segmentOf group part)

@@ -7,7 +7,7 @@ ghost use mathlib.Core.Path.{_≡_};
 ghost use Prim.Native.Nat.{_+_, _≤_, _<_};
 ghost use lib.ListN.{length};
 ghost use Rattle.wire.specs.Wire.{checkBytes, wordAt};
-ghost use Rattle.wire.specs.Reading.{kindOf, checkHolds, sizeWrong, readingOf};
+ghost use Rattle.wire.specs.Reading.{kindOf, checkHolds, leastSize, sizeWrong, readingOf};
 ghost use Rattle.wire.specs.laws.Session.{sessionOf};
 
 // Bytes of a group.
@@ -76,23 +76,35 @@ fn check_holds(group: &[u8]) -> bool
     word_at(group, end) == crc::check_word(&group[..end])
 }
 
-// Whether a size field is wrong for the bytes that are left.
-fn size_wrong(size: usize, left: usize, last: bool) -> bool
-    ensures { λ r. ⌜ r ≡ sizeWrong size left last ⌝ }
+// The least bytes of a segment: a body of length 0 may be sent as number 0, last, of none.
+fn least_size(part: Part, number: u16, last: bool) -> usize
+    ensures { λ r. ⌜ r ≡ leastSize part number last ⌝ }
 {
-    if size < SEGMENT_LEAST {
+    if !last {
+        return FULL_LEAST;
+    }
+    match part {
+        Part::Header => SEGMENT_LEAST,
+        Part::Body => {
+            if number == 0 {
+                return 0;
+            }
+            SEGMENT_LEAST
+        }
+    }
+}
+
+// Whether a size field is wrong for the bytes that are left.
+fn size_wrong(least: usize, size: usize, left: usize) -> bool
+    ensures { λ r. ⌜ r ≡ sizeWrong least size left ⌝ }
+{
+    if size < least {
         return true;
     }
     if size != left {
         return true;
     }
-    if SEGMENT_MOST < size {
-        return true;
-    }
-    if last {
-        return false;
-    }
-    size < FULL_LEAST
+    SEGMENT_MOST < size
 }
 
 // The rest of a group whose check word holds and whose part is known.
@@ -125,14 +137,16 @@ fn session(group: &[u8], part: Part) -> Reading
         return Reading::Refused(Refusal::Length);
     }
     let size = (word_at(group, access + 1 + indicator) % 8192) as usize;
-    let last = word_at(group, field) / 32768 == 1;
-    if size_wrong(size, end - start, last) {
+    let said = word_at(group, field);
+    let last = said / 32768 == 1;
+    let segment = said % 32768;
+    if size_wrong(least_size(part, segment, last), size, end - start) {
         return Reading::Refused(Refusal::Size);
     }
     Reading::Read(Carried {
         number: word_at(group, access + 1),
         part,
-        segment: word_at(group, field) % 32768,
+        segment,
         last,
         start,
         length: size,

@@ -104,6 +104,24 @@ table =
     ∷ comes [] Header (last 63 (some 17)) conflicts
     ∷ []
 
+-- the empty last segment, document 02, Item 2: it fits a BodySize of 0, before the header or after it, and nothing else
+abbrev pub empties : List Case
+empties =
+    comes [] Body (last 0 []) fits
+    ∷ comes [] Body (last 1 []) conflicts
+    ∷ comes [] Body (full 0 []) conflicts
+    ∷ comes [] Header (last 0 []) conflicts
+    ∷ comes ((Header, header 0) ∷ []) Body (last 0 []) completes
+    ∷ comes ((Body, last 0 []) ∷ []) Header (header 0) completes
+    ∷ comes ((Body, last 0 []) ∷ []) Header (front 17) fits
+    ∷ comes ((Header, header 20) ∷ []) Body (last 0 []) conflicts
+    ∷ comes ((Body, last 0 []) ∷ []) Header (header 20) conflicts
+    ∷ comes ((Body, last 0 []) ∷ []) Body (last 1 (some 5)) conflicts
+    ∷ comes ((Body, last 1 (some 5)) ∷ []) Body (last 0 []) conflicts
+    ∷ comes ((Body, last 0 []) ∷ []) Body (full 1 (some 16)) conflicts
+    ∷ comes ((Body, full 1 (some 16)) ∷ []) Body (last 0 []) conflicts
+    ∷ []
+
 -- ---- what is computed
 
 abbrev isNew : ℕ → List Segment → Bool
@@ -287,3 +305,9 @@ pub starred : Each Says table
 unfolding bodySize headerSize contentType contentSubType coreBytes boundsOf coreFits room largest alone settle suits
     sizeOf
 starred = says-all table refl
+
+-- and those of the empty last segment, each as document 02 says
+pub emptied : Each Says empties
+unfolding bodySize headerSize contentType contentSubType coreBytes boundsOf coreFits room largest alone settle suits
+    sizeOf
+emptied = says-all empties refl

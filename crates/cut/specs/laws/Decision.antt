@@ -67,7 +67,7 @@ TopSits S L (suc t) size = (size ≡ S) × (suc t * S < L)
 
 abbrev pub EndSits : ℕ → ℕ → ℕ → ℕ → Type 0
 EndSits S L zero tail = Unit {0}
-EndSits S L (suc n) tail = (n * S + tail ≡ L) × (0 < tail) × (tail ≤ S)
+EndSits S L (suc n) tail = (n * S + tail ≡ L) × (n * S < max 1 L) × (tail ≤ S)
 
 abbrev pub SumSits : ℕ → ℕ → Summary → Type 0
 SumSits S L σ = TopSits S L (σ .top) (σ .part .size) × EndSits S L (σ .part .end) (σ .part .tail)
@@ -188,11 +188,10 @@ module _ (b : Bounds) (S L : ℕ) (w : Within (b .least) (b .most) (b .numbers) 
   alone-passes : (end tail : ℕ) → EndSits S L end tail → all (aloneTests b end tail) ≡ true
   alone-passes zero tail e =
       true-all (nothingTests b) (let h : b .numbers * S ≤ b .numbers * sizeMost =
-      mul-le-mul-left (b .numbers) (w .high) in omega (arith, le-leb, w .long, w .short, w .enough))
+      mul-le-mul-left (b .numbers) (w .high) in omega (arith, le-leb, w .long, w .short, w .enough, w .any))
   alone-passes (suc zero) tail e = true-all (firstTests b tail) (
       let z : 0 * S ≡ 0 = zero-mul S in
-      let n : 0 < b .numbers = below S 0 (b .numbers) (omega (arith, w .enough)) in
-      omega (arith, le-leb, w .long, w .short, w .high))
+      omega (arith, le-leb, w .long, w .short, w .high, w .any))
   alone-passes (suc (suc n)) tail e = true-all (laterTests b (suc n) tail) (
       let m : S ≤ largest b (suc n) tail = largest-most b (suc n) tail S (omega arith) (w .high)
       (omega (arith, w .short)) in
@@ -232,8 +231,8 @@ alone-suits b size zero tail e =
             short = omega (arith, leb-true);
             low = omega arith;
             high = omega arith;
-            enough =
-                omega (arith, leb-true);
+            enough = omega (arith, leb-true);
+            any = omega (arith, leb-true);
           };
       full = tt;
       ended = tt;
@@ -252,6 +251,7 @@ alone-suits b size (suc zero) tail e =
             low = omega arith;
             high = omega arith;
             enough = omega (arith, leb-true, mul-le-mul-right sizeMost n);
+            any = n;
           };
       full = tt;
       ended =
@@ -272,6 +272,7 @@ alone-suits b size (suc (suc n)) tail e =
         high = h .0;
         enough =
             omega (arith, leb-true, mul-le-mul-right (largest b (suc n) tail) g);
+        any = omega arith;
       };
       full = tt;
       ended = (refl, omega (arith, leb-true), omega (arith, leb-true));
@@ -295,6 +296,7 @@ room-suits b t size zero tail h =
         high =
             omega (arith, leb-true);
         enough = omega (arith, leb-true, mul-le-mul-right size n);
+        any = omega arith;
       };
       full = (refl, omega arith);
       ended = tt;
@@ -312,6 +314,7 @@ room-suits b t size (suc n) tail h =
         low = omega (arith, leb-true);
         high = omega (arith, leb-true);
         enough = omega (arith, leb-true, mul-le-mul-right size g);
+        any = omega arith;
       };
       full = (refl, omega (arith, leb-true, mul-le-mul-right size (p .1)));
       ended = (refl, omega (arith, leb-true), omega (arith, leb-true));

@@ -7,16 +7,16 @@ use Prim.Native.Nat.{ℕ, zero, suc, _+_, _-_, _*_, _/_, _%_, _≤_, _<_}
 use native.Mathlib.Nat.{mul-le-mul-right, lt-of-mul-lt-mul-right, zero-mul, div-add-mod', mod-lt}
 use native.Mathlib.Decide.{ℕ-discrete, decLe}
 use native.Mathlib.Omega.{arith}
-use lib.ListN.{length, take, drop, drop-of-length-le}
-use lib.Seq.{take-add, take-all, take-nil}
+use lib.ListN.{length, take, drop}
+use lib.Seq.{take-add, take-all}
 use lib.Dec.{eqb, leb}
-use borrow.Author.Tests.{ne-eqb, eqb-true, eqb-false, le-leb}
+use borrow.Author.Tests.{eqb-true, eqb-false, le-leb}
 use Rattle.cut.specs.laws.Lists.{each-map, each-among}
-use Rattle.cut.specs.Requirement.{headerNumbers, bodyNumbers, IsCut, Segment, Sends, Fits, Whole, Finished, bytesOf, joined}
+use Rattle.cut.specs.Requirement.{headerNumbers, bodyNumbers, IsCut, Segment, IsSegment, Sends, Fits, Whole, Finished, bytesOf, joined}
 use Rattle.cut.specs.declared.Core.{Core}
 use Rattle.cut.specs.declared.Core.the-variants.{Unseen, Seen}
 use Rattle.cut.specs.Decision.{Summary, addPart, summary, coreOf}
-use Rattle.cut.specs.laws.Segment.{Numbered, among-numbered, numbered-among, same-is, sends-same, sends-sits}
+use Rattle.cut.specs.laws.Segment.{Numbered, among-numbered, numbered-among, same-is, sends-same, sends-sits, sent-holds, sent-ends, past-end}
 use Rattle.cut.specs.laws.Decision.{EndSits, sits-sum}
 use Rattle.cut.specs.laws.Object.{CoreIs, core-is, core-unseen}
 use Rattle.cut.specs.Lists.{pick, Each, Among}
@@ -27,17 +27,17 @@ use Rattle.cut.specs.Lists.{pick, Each, Among}
 abbrev pub segmentOf : List ℕ → ℕ → ℕ → Segment
 segmentOf xs S n = record { number = n; last = leb (length xs) (suc n * S); bytes = take S (drop (n * S) xs) }
 
-pub segment-sent : (xs : List ℕ) (S n : ℕ) → n * S < length xs → Sends xs S (segmentOf xs S n)
-segment-sent xs S n h = record { starts = h; holds = refl; ends = refl }
+pub segment-is : (xs : List ℕ) (S n : ℕ) → n * S < length xs → IsSegment xs S (segmentOf xs S n)
+segment-is xs S n h = record { starts = h; holds = refl; ends = refl }
 
 pub whole-numbers : (xs : List ℕ) (S : ℕ) (ss : List Segment) → Each (Sends xs S) ss → Whole xs S ss
     ↔ ((n : ℕ) → n * S < length xs → Numbered n ss)
 whole-numbers xs S ss t = (
-  (λ w n h. among-numbered (segmentOf xs S n) ss (w (segmentOf xs S n) (segment-sent xs S n h))),
+  (λ w n h. among-numbered (segmentOf xs S n) ss (w (segmentOf xs S n) (segment-is xs S n h))),
   (λ w s u.
       let r = numbered-among (s .number) ss (w (s .number) (u .starts)) in
-      let e : r .0 ≡ s = same-is (r .0) s (sends-same xs S (r .0) s (each-among (Sends xs S) (r .0) ss t (r .1)) u)
-      (r .2) in
+      let e : r .0 ≡ s = same-is (r .0) s
+      (sends-same xs S (r .0) s (each-among (Sends xs S) (r .0) ss t (r .1)) (inl u)) (r .2) in
       subst (λ (x : Segment). Among x ss) e (r .1)),
 )
 
@@ -76,7 +76,7 @@ module _ (xs : List ℕ) (S : ℕ) (ss : List Segment) (z : 0 < S) (t : Each (Se
       let d : (length xs - 1) / S * S + (length xs - 1) % S ≡ length xs - 1 = div-add-mod' (length xs - 1) S in
       let m : (length xs - 1) % S < S = mod-lt (length xs - 1) z in
       let e : r .0 .number * S ≡ (length xs - 1) / S * S = ap (λ (n : ℕ). n * S) (r .2) in
-      last-in (r .0) ss (r .1) (u .ends ∙ le-leb (length xs) (suc (r .0 .number) * S) (omega arith))
+      last-in (r .0) ss (r .1) (sent-ends xs S (r .0) u ∙ le-leb (length xs) (suc (r .0 .number) * S) (omega arith))
 
   counted-as : (end tail : ℕ) → summary ss .part .end ≡ end → EndSits S (length xs) end tail → 0 < length xs
       → ((n : ℕ) → n * S < length xs → Numbered n ss) ↔ Counted end ss
@@ -99,7 +99,7 @@ module _ (xs : List ℕ) (S : ℕ) (ss : List Segment) (z : 0 < S) (t : Each (Se
       let b = counted-as (summary ss .part .end) (summary ss .part .tail) refl sums h in
       ((λ w. b .0 (a .0 w)), (λ w. a .1 (b .1 w)))
 
--- a part of no bytes has no segments
+-- a part of length 0 has no segments: the empty one need not come
 pub whole-empty : (xs : List ℕ) (S : ℕ) (ss : List Segment) → length xs ≡ 0 → Whole xs S ss
 whole-empty xs S ss e s u = absurd (omega (arith, u .starts))
 
@@ -108,7 +108,8 @@ whole-empty xs S ss e s u = absurd (omega (arith, u .starts))
 bytes-step : (b : Bool) (n : ℕ) (s : Segment) (ss : List Segment) (xs : List ℕ) (S : ℕ) → eqb (s .number) n ≡ b
     → Sends xs S s → (Numbered n ss → bytesOf n ss ≡ take S (drop (n * S) xs)) → Numbered n (s ∷ ss)
     → pick b (s .bytes) (bytesOf n ss) ≡ take S (drop (n * S) xs)
-bytes-step true n s ss xs S e u r i = u .holds ∙ ap (λ (m : ℕ). take S (drop (m * S) xs)) (eqb-true (s .number) n e)
+bytes-step true n s ss xs S e u r i = sent-holds xs S s u
+    ∙ ap (λ (m : ℕ). take S (drop (m * S) xs)) (eqb-true (s .number) n e)
 bytes-step false n s ss xs S e u r (inl i) = absurd (eqb-false (s .number) n e i)
 bytes-step false n s ss xs S e u r (inr i) = r i
 
@@ -117,16 +118,16 @@ bytes-in : (n : ℕ) (ss : List Segment) (xs : List ℕ) (S : ℕ) → Each (Sen
 bytes-in n [] xs S t i = absurd i
 bytes-in n (s ∷ ss) xs S t i = bytes-step (eqb (s .number) n) n s ss xs S refl (t .0) (bytes-in n ss xs S (t .1)) i
 
-bytes-out : (n : ℕ) (ss : List Segment) → ¬ (Numbered n ss) → bytesOf n ss ≡ []
-bytes-out n [] h = refl
-bytes-out n (s ∷ ss) h = rw (ne-eqb (s .number) n (λ e. h (inl e))) (bytes-out n ss (λ i. h (inr i)))
-
-numbered-starts : (n : ℕ) (ss : List Segment) (xs : List ℕ) (S : ℕ) → Each (Sends xs S) ss → Numbered n ss
-    → n * S < length xs
-numbered-starts n ss xs S t i =
-    let r = numbered-among n ss i in
-    let u : Sends xs S (r .0) = each-among (Sends xs S) (r .0) ss t (r .1) in
-    rw (r .2) at (u .starts)
+-- past the end there are none, and an empty segment that is in adds none
+bytes-out : (n : ℕ) (ss : List Segment) (xs : List ℕ) (S : ℕ) → Each (Sends xs S) ss → length xs ≤ n * S → bytesOf n ss
+    ≡ []
+bytes-out n [] xs S t h = refl
+bytes-out n (s ∷ ss) xs S t h = go (eqb (s .number) n) refl (bytes-out n ss xs S (t .1) h)
+  where
+    go : (b : Bool) → eqb (s .number) n ≡ b → bytesOf n ss ≡ [] → pick b (s .bytes) (bytesOf n ss) ≡ []
+    go true e r = sent-holds xs S s (t .0) ∙ ap (λ (m : ℕ). take S (drop (m * S) xs)) (eqb-true (s .number) n e)
+        ∙ past-end n xs S h
+    go false e r = r
 
 module _ (xs : List ℕ) (S : ℕ) (ss : List Segment) (t : Each (Sends xs S) ss) (w : Whole xs S ss) where
   bytes-at : (n : ℕ) → bytesOf n ss ≡ take S (drop (n * S) xs)
@@ -134,8 +135,7 @@ module _ (xs : List ℕ) (S : ℕ) (ss : List Segment) (t : Each (Sends xs S) ss
     where
       go : Dec (n * S < length xs) → bytesOf n ss ≡ take S (drop (n * S) xs)
       go (yes h) = bytes-in n ss xs S t (whole-numbers xs S ss t .0 w n h)
-      go (no h) = bytes-out n ss (λ i. h (numbered-starts n ss xs S t i))
-          ∙ sym (ap (take S) (drop-of-length-le xs {i = n * S} (omega arith)) ∙ take-nil S)
+      go (no h) = bytes-out n ss xs S t (omega arith) ∙ sym (past-end n xs S (omega arith))
 
   joined-front : (n : ℕ) → joined n ss ≡ take (n * S) xs
   unfolding joined

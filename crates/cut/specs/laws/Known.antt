@@ -4,8 +4,8 @@ use mathlib.Core.Path.{_≡_, refl, subst}
 use mathlib.Core.Logic.{_≢_, _⊎_, inl, inr}
 use mathlib.Core.Bool.{true}
 use mathlib.Core.List.{List, [], _∷_}
-use Prim.Native.Nat.{ℕ, zero, suc, _+_, _*_, _≤_, _<_}
-use native.Mathlib.Nat.{div-eq-of-eq-mul-left, mul-le-mul-right, lt-of-mul-lt-mul-right}
+use Prim.Native.Nat.{ℕ, zero, suc, _+_, _*_, _≤_, _<_, max}
+use native.Mathlib.Nat.{div-eq-of-eq-mul-left, mul-le-mul-right, lt-of-mul-lt-mul-right, zero-mul}
 use native.Mathlib.Decide.{ℕ-discrete}
 use native.Mathlib.Omega.{arith}
 use lib.ListN.{length, replicate}
@@ -180,8 +180,14 @@ nothing-known kind limit hs bs z f e S l m =
       high = m;
       enough =
           numbers-reach kind limit (coreOf hs) S (length (partOf kind f)) z (w .short) (fits-core limit hs bs f) l;
+      any = w .any;
     })
     (rw e tt)
+
+-- a last one that starts within its part does so at every size
+start-again : (S T n k : ℕ) → 0 < S → n * S < max 1 (n * S + k) → n * T < max 1 (n * T + k)
+start-again S T zero k z h = omega (arith, zero-mul T)
+start-again S T (suc n) k z h = omega arith
 
 -- only the last one of a part is in, and the part's length is not known: every size that the bounds leave fits
 pub last-known : (kind : Part) (limit : ℕ) (hs bs : List Segment) → limit ≤ limitMost → Fits limit hs bs
@@ -192,16 +198,19 @@ pub last-known : (kind : Part) (limit : ℕ) (hs bs : List Segment) → limit �
 last-known kind limit hs bs z f t n k e g S l m h a b =
     let w = fits-within limit hs bs f kind in
     let s = sum kind limit hs bs f in
-    let q : (n * cutOf kind f + k ≡ length (partOf kind f)) × (0 < k) × (k ≤ cutOf kind f) = rw (e, g) at (s .1) in
+    let q : (n * cutOf kind f + k ≡ length (partOf kind f)) × (n * cutOf kind f < max 1 (length (partOf kind f)))
+    × (k ≤ cutOf kind f) = rw (e, g) at (s .1) in
     let r : n * cutOf kind f < boundsOf kind limit (coreOf hs) .numbers * cutOf kind f =
-    omega (arith, q .0, q .1, w .enough) in
+    omega (arith, q .1, w .enough, w .low, mul-le-mul-right (cutOf kind f) (w .any)) in
     let i : suc n ≤ boundsOf kind limit (coreOf hs) .numbers = lt-of-mul-lt-mul-right (cutOf kind f) r in
     size-fits kind limit hs bs z f S (n * S + k)
-    (record { long = a; short = b; low = l; high = m; enough = omega (arith, mul-le-mul-right S i) })
+    (record { long = a; short = b; low = l; high = m; enough = omega (arith, mul-le-mul-right S i); any = w .any })
     (sum-sits S (n * S + k) (those kind hs bs)
     (sits-sum (cutOf kind f) (length (partOf kind f)) (those kind hs bs) (omega (arith, w .low))
-    (fits-sits limit hs bs f kind) .0)
-    (rw t tt, rw (e, g) (refl, q .1, h)))
+    (fits-sits limit hs bs f kind) .0) (
+      rw t tt,
+      rw (e, g) (refl, start-again (cutOf kind f) S n k (omega (arith, w .low)) (omega (arith, q .0, q .1)), h),
+    ))
 
 -- and where the bounds leave one size only, the record still does not say it: header number 63, the last one, of 16
 -- bytes

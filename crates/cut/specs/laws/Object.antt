@@ -19,7 +19,7 @@ use Rattle.cut.specs.declared.Bounds.{Bounds}
 use Rattle.cut.specs.Decision.{boundsOf, coreTests, coreFits, possible, summary, coreOf, suitTests, suits, suitsBoth}
 use Rattle.cut.specs.laws.Core.{coreBytes, core-body, core-header, core-is-bytes, front-body, front-header}
 use Rattle.cut.specs.Parts.{those, partOf, cutOf}
-use Rattle.cut.specs.laws.Segment.{Sits, Agree, Within, PartFits, PartSits, sits-fits, sends-agree, sends-sits, sent-bytes, fill, fill-length, fill-bytes, fill-sends, fill-front}
+use Rattle.cut.specs.laws.Segment.{Sits, Agree, Within, PartFits, PartSits, sits-fits, sends-agree, sends-sits, sent-holds, sent-bytes, fill, fill-length, fill-bytes, fill-sends, fill-front}
 use Rattle.cut.specs.laws.Decision.{Clear, all-true, true-all, sits-possible, possible-sits}
 use Rattle.cut.specs.Lists.{pick, Each, Bytes}
 
@@ -33,8 +33,8 @@ CoreIs xs (Seen B H) = (B ≡ bodySize xs) × (H ≡ headerSize xs)
 sent-core : (xs : List ℕ) (S : ℕ) (s : Segment) → sizeLeast ≤ S → Sends xs S s → s .number ≡ 0
     → (bodySize (s .bytes) ≡ bodySize xs) × (headerSize (s .bytes) ≡ headerSize xs)
 sent-core xs S s g t e =
-    let f : s .bytes ≡ take S xs = t .holds ∙ ap (λ (n : ℕ). take S (drop n xs)) (ap (λ (n : ℕ). n * S) e ∙ zero-mul S)
-    in
+    let f : s .bytes ≡ take S xs = sent-holds xs S s t
+    ∙ ap (λ (n : ℕ). take S (drop n xs)) (ap (λ (n : ℕ). n * S) e ∙ zero-mul S) in
     (ap bodySize f ∙ front-body S xs (omega arith), ap headerSize f ∙ front-header S xs (omega arith))
 
 core-step : (xs : List ℕ) (S : ℕ) (s : Segment) (c : Core) → sizeLeast ≤ S → Sends xs S s → CoreIs xs c → (b : Bool)
@@ -72,9 +72,9 @@ pub record Passes (limit : ℕ) (hs bs : List Segment) : Type 0 where
 abbrev pub WithinOf : Bounds → ℕ → ℕ → Type 0
 WithinOf b S L = Within (b .least) (b .most) (b .numbers) S L
 
-within-of : (b : Bounds) (S : ℕ) (xs : List ℕ) → b .least ≤ length xs → length xs ≤ b .most → IsCut (b .numbers) S xs
-    → WithinOf b S (length xs)
-within-of b S xs l m c = record { long = l; short = m; low = c .low; high = c .high; enough = c .enough }
+within-of : (b : Bounds) (S : ℕ) (xs : List ℕ) → b .least ≤ length xs → length xs ≤ b .most → 1 ≤ b .numbers
+    → IsCut (b .numbers) S xs → WithinOf b S (length xs)
+within-of b S xs l m o c = record { long = l; short = m; low = c .low; high = c .high; enough = c .enough; any = o }
 
 -- the object is within the bounds of each part, whatever its header has said so far
 module _ (limit : ℕ) (hs bs : List Segment) (f : Fits limit hs bs) where
@@ -85,14 +85,15 @@ module _ (limit : ℕ) (hs bs : List Segment) (f : Fits limit hs bs) where
       (length (partOf kind f))
   unfolding boundsOf
   within-as Header Unseen i = within-of (boundsOf Header limit Unseen) (f .headerCut) (f .header) (o .headerLow)
-      (o .headerHigh) (f .headerCuts)
+      (o .headerHigh) (omega arith) (f .headerCuts)
   within-as Header (Seen B H) i = let h : H ≡ length (f .header) = i .1 ∙ o .saysHeader in
-      within-of (boundsOf Header limit (Seen B H)) (f .headerCut) (f .header) (omega arith) (omega arith)
+      within-of (boundsOf Header limit (Seen B H)) (f .headerCut) (f .header) (omega arith) (omega arith) (omega arith)
       (f .headerCuts)
   within-as Body Unseen i = within-of (boundsOf Body limit Unseen) (f .bodyCut) (f .body) (omega arith) (o .bodyHigh)
-      (f .bodyCuts)
+      (omega arith) (f .bodyCuts)
   within-as Body (Seen B H) i = let h : B ≡ length (f .body) = i .0 ∙ o .saysBody in
-      within-of (boundsOf Body limit (Seen B H)) (f .bodyCut) (f .body) (omega arith) (omega arith) (f .bodyCuts)
+      within-of (boundsOf Body limit (Seen B H)) (f .bodyCut) (f .body) (omega arith) (omega arith) (omega arith)
+      (f .bodyCuts)
 
   core-now : CoreIs (f .header) (coreOf hs)
   core-now = core-is (f .header) (f .headerCut) hs (f .headerCuts .low) (f .headerSent)

@@ -4,25 +4,25 @@ use mathlib.Core.Path.{_≡_, refl, sym, ap, _∙_}
 use mathlib.Core.Logic.{_⊎_, inl, inr}
 use mathlib.Core.Bool.{Bool, true, false}
 use mathlib.Core.List.{List, [], _∷_}
-use Prim.Native.Nat.{ℕ, suc, _+_, _-_, _*_, _≤_, _<_, min}
+use Prim.Native.Nat.{ℕ, zero, suc, _+_, _-_, _*_, _≤_, _<_, min, max}
 use native.Mathlib.Nat.{mul-le-mul-right, lt-of-mul-lt-mul-right}
 use native.Mathlib.Decide.{ℕ-discrete, decLe}
 use native.Mathlib.Omega.{arith}
-use lib.ListN.{length, take, drop, replicate, length-replicate, length-take, length-drop}
-use lib.Seq.{take-all}
+use lib.ListN.{length, take, drop, replicate, length-replicate, length-take, length-drop, drop-of-length-le}
+use lib.Seq.{take-all, take-nil}
 use lib.Dec.{leb}
 use borrow.Author.Tests.{leb-true, leb-false, le-leb, lt-leb}
 use Rattle.octets.specs.Octets.{over}
 use Rattle.octets.specs.laws.Over.{over-length, over-inside, over-after, over-before}
 use Rattle.cut.specs.laws.Lists.{each-map, each-zip, each-zip3, bytes-take, bytes-drop, bytes-zeros, over-bytes}
-use Rattle.cut.specs.Requirement.{sizeLeast, sizeMost, IsCut, Segment, Sends}
+use Rattle.cut.specs.Requirement.{sizeLeast, sizeMost, IsCut, Segment, segment, IsSegment, empty, Sends}
 use Rattle.cut.specs.Lists.{Each, Among, Bytes}
 
 -- ---- one segment, in numbers
 
--- number n with k bytes is a segment of a part of length L cut at S: the last one, or a full one
+-- number n with k bytes is what a part of length L cut at S sends: the last one, empty only as number 0, or a full one
 abbrev pub SitsAs : Bool → ℕ → ℕ → ℕ → ℕ → Type 0
-SitsAs true S L n k = (n * S + k ≡ L) × (0 < k) × (k ≤ S)
+SitsAs true S L n k = (n * S + k ≡ L) × (n * S < max 1 L) × (k ≤ S)
 SitsAs false S L n k = (k ≡ S) × (suc n * S < L)
 
 unfoldable pub Sits : ℕ → ℕ → Segment → Type 0
@@ -45,8 +45,23 @@ sits-of xs S n false k h e f =
 
 pub sends-sits : (xs : List ℕ) (S : ℕ) (s : Segment) → Sends xs S s → Sits S (length xs) s
 unfolding Sits
-sends-sits xs S s t = sits-of xs S (s .number) (s .last) (length (s .bytes)) (t .starts) (ap length (t .holds))
+sends-sits xs S s (inl t) = sits-of xs S (s .number) (s .last) (length (s .bytes)) (t .starts) (ap length (t .holds))
     (t .ends)
+sends-sits xs S s (inr t) = rw (t .1, t .0) (omega arith, omega arith, omega arith)
+
+-- past the end there are no bytes
+pub past-end : (n : ℕ) (xs : List ℕ) (S : ℕ) → length xs ≤ n * S → take S (drop (n * S) xs) ≡ []
+past-end n xs S h = ap (take S) (drop-of-length-le xs {i = n * S} h) ∙ take-nil S
+
+-- a segment has some bytes
+pub segment-some : (xs : List ℕ) (S : ℕ) (s : Segment) → sizeLeast ≤ S → IsSegment xs S s → 0 < length (s .bytes)
+segment-some xs S s z t = rw (t .holds, length-take, length-drop) (omega (arith, t .starts))
+
+-- at its number a part has the bytes of what it sends, and none where it sends the empty one
+pub sent-holds : (xs : List ℕ) (S : ℕ) (s : Segment) → Sends xs S s → s .bytes ≡ take S (drop (s .number * S) xs)
+sent-holds xs S s (inl t) = t .holds
+sent-holds xs S s (inr t) = ap (λ (x : Segment). x .bytes) (t .1)
+    ∙ sym (past-end (s .number) xs S (omega (arith, t .0)))
 
 -- the flag that a segment bears
 flag-of : (b : Bool) (S L n k : ℕ) → SitsAs b S L n k → b ≡ leb L (suc n * S)
@@ -55,10 +70,9 @@ flag-of false S L n k s = sym (lt-leb L (suc n * S) (s .1))
 
 -- where a segment starts and how long it is
 pub record Inside (S L n k : ℕ) : Type 0 where
-  pub starts : n * S < L
+  pub starts : n * S < max 1 L
   pub ends : n * S + k ≤ L
   pub most : k ≤ S
-  pub some : 0 < k
   pub long : k ≡ min S (L - n * S)
 
 inside-as : (b : Bool) (S L n k : ℕ) → 0 < S → SitsAs b S L n k → Inside S L n k
@@ -66,14 +80,12 @@ inside-as true S L n k z s = record {
   starts = omega arith;
   ends = omega arith;
   most = omega arith;
-  some = omega arith;
   long = omega arith;
 }
 inside-as false S L n k z s = record {
   starts = omega arith;
   ends = omega arith;
   most = omega arith;
-  some = omega arith;
   long = omega arith;
 }
 
@@ -88,24 +100,49 @@ take-cut n k d e = go (decLe n (length d))
     go (yes h) = let f : k ≡ n = omega arith in ap (λ (m : ℕ). take m d) f
     go (no h) = take-all k d (omega arith) ∙ sym (take-all n d (omega arith))
 
+-- in a part of length 0 there is number 0 alone
+pub none-first : (S n : ℕ) → 0 < S → n * S < 1 → n ≡ 0
+none-first S zero z h = refl
+none-first S (suc n) z h = absurd (omega arith)
+
+none-left : (xs : List ℕ) → length xs ≡ 0 → xs ≡ []
+none-left [] e = refl
+none-left (x ∷ xs) e = absurd (omega arith)
+
+-- and it is the empty one
+sits-empty : (S : ℕ) (n : ℕ) (last : Bool) (bytes : List ℕ) → 0 < S → SitsAs last S 0 n (length bytes)
+    → segment n last bytes ≡ empty
+sits-empty S n false bytes z t = absurd (omega arith)
+sits-empty S n true bytes z t =
+    let e : n ≡ 0 = none-first S n z (t .1) in
+    let f : bytes ≡ [] = none-left bytes (omega arith) in
+    λ i. segment (e i) true (f i)
+
 pub sits-sends : (xs : List ℕ) (S : ℕ) (s : Segment) → 0 < S → Sits S (length xs) s → Stands xs S s → Sends xs S s
 unfolding Sits Stands
-sits-sends xs S s z t h =
-    let b : Inside S (length xs) (s .number) (length (s .bytes)) = inside-as (s .last) S (length xs) (s .number)
-    (length (s .bytes)) z t in
-    record {
-      starts = b .starts;
+sits-sends xs S s z t h = go (ℕ-discrete (length xs) 0)
+  where
+    b : Inside S (length xs) (s .number) (length (s .bytes))
+    b = inside-as (s .last) S (length xs) (s .number) (length (s .bytes)) z t
+
+    go : Dec (length xs ≡ 0) → Sends xs S s
+    go (yes e) = inr (e, sits-empty S (s .number) (s .last) (s .bytes) z (rw e at t))
+    go (no d) = inl (record {
+      starts = omega (arith, b .starts);
       holds = sym h ∙ take-cut S (length (s .bytes)) (drop (s .number * S) xs) (rw length-drop (b .long));
       ends = flag-of (s .last) S (length xs) (s .number) (length (s .bytes)) t;
-    }
+    })
 
 pub sent-bytes : (xs : List ℕ) (S : ℕ) (s : Segment) → Bytes xs → Sends xs S s → Bytes (s .bytes)
-sent-bytes xs S s b t = rw (t .holds) (bytes-take S (drop (s .number * S) xs) (bytes-drop (s .number * S) xs b))
+sent-bytes xs S s b t =
+    rw (sent-holds xs S s t) (bytes-take S (drop (s .number * S) xs) (bytes-drop (s .number * S) xs b))
 
 -- the number is within the bounds
-pub sent-number : (numbers S : ℕ) (xs : List ℕ) (s : Segment) → IsCut numbers S xs → Sends xs S s → s .number < numbers
-sent-number numbers S xs s c t = let g : s .number * S < numbers * S = omega (arith, c .enough, t .starts) in
+pub sent-number : (numbers S : ℕ) (xs : List ℕ) (s : Segment) → 1 ≤ numbers → IsCut numbers S xs → Sends xs S s
+    → s .number < numbers
+sent-number numbers S xs s o c (inl t) = let g : s .number * S < numbers * S = omega (arith, c .enough, t .starts) in
     lt-of-mul-lt-mul-right S g
+sent-number numbers S xs s o c (inr t) = rw (t .1) o
 
 -- ---- segments of one number
 
@@ -140,12 +177,17 @@ pub same-is : (s t : Segment) → Same s t → s .number ≡ t .number → s ≡
 unfolding Same
 same-is s t h e = let r = h e in λ i. record { number = e i; last = r .0 i; bytes = r .1 i }
 
+-- of what it sends, the flag says whether any bytes are left
+pub sent-ends : (xs : List ℕ) (S : ℕ) (s : Segment) → Sends xs S s → s .last ≡ leb (length xs) (suc (s .number) * S)
+sent-ends xs S s (inl t) = t .ends
+sent-ends xs S s (inr t) = ap (λ (x : Segment). x .last) (t .1) ∙ sym (le-leb (length xs) (suc (s .number) * S)
+    (omega (arith, t .0)))
+
 pub sends-same : (xs : List ℕ) (S : ℕ) (s t : Segment) → Sends xs S s → Sends xs S t → Same s t
 unfolding Same
 sends-same xs S s t a b e = (
-  a .ends ∙ ap (λ (n : ℕ). leb (length xs) (suc n * S)) e ∙ sym (b .ends),
-  a .holds
-      ∙ ap (λ (n : ℕ). take S (drop (n * S) xs)) e ∙ sym (b .holds),
+  sent-ends xs S s a ∙ ap (λ (n : ℕ). leb (length xs) (suc n * S)) e ∙ sym (sent-ends xs S t b),
+  sent-holds xs S s a ∙ ap (λ (n : ℕ). take S (drop (n * S) xs)) e ∙ sym (sent-holds xs S t b),
 )
 
 pub sends-agree : (xs : List ℕ) (S : ℕ) (ss : List Segment) → Each (Sends xs S) ss → Agree ss
@@ -251,6 +293,7 @@ pub record Within (least most numbers S L : ℕ) : Type 0 where
   pub low : sizeLeast ≤ S
   pub high : S ≤ sizeMost
   pub enough : L ≤ numbers * S
+  pub any : 1 ≤ numbers
 
 -- some part within the bounds, cut at some size, sends every segment
 pub record PartFits (least most numbers : ℕ) (ss : List Segment) : Type 0 where

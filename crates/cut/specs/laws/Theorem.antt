@@ -134,7 +134,36 @@ fits-among limit hs hs' bs bs' i j f = record {
   bodySent = among-each bs' (λ s a. each-among (Sends (f .body) (f .bodyCut)) s bs (f .bodySent) (j s a));
 }
 
-with-one : (s : Segment) (ss : List Segment) → Among s ss → (t : Segment) → Among t (s ∷ ss) → Among t ss
+-- without the newest, by the same object and cut
+abbrev pub fits-less : (part : Part) (limit : ℕ) (s : Segment) (hs bs : List Segment)
+    → Fits limit (headersWith part s hs) (bodiesWith part s bs) → Fits limit hs bs
+fits-less Header limit s hs bs f =
+    record {
+      header = f .header;
+      body = f .body;
+      object = f .object;
+      headerCut = f .headerCut;
+      bodyCut = f .bodyCut;
+      headerCuts = f .headerCuts;
+      bodyCuts = f .bodyCuts;
+      headerSent = f .headerSent .1;
+      bodySent = f .bodySent;
+    }
+fits-less Body limit s hs bs f =
+    record {
+      header = f .header;
+      body = f .body;
+      object = f .object;
+      headerCut = f .headerCut;
+      bodyCut = f .bodyCut;
+      headerCuts = f .headerCuts;
+      bodyCuts = f .bodyCuts;
+      headerSent = f .headerSent;
+      bodySent = f .bodySent .1;
+    }
+
+-- a segment that is in brings nothing new
+pub with-one : (s : Segment) (ss : List Segment) → Among s ss → (t : Segment) → Among t (s ∷ ss) → Among t ss
 with-one s ss i t (inl e) = rw e at i
 with-one s ss i t (inr j) = j
 

@@ -44,9 +44,10 @@ Meets Repeat part limit s hs bs = Among s (those part hs bs)
 Meets Complete part limit s hs bs =
     ((f : Fits limit (headersWith part s hs) (bodiesWith part s bs)) × Finished f)
     × ((f : Fits limit hs bs) → ¬ (Finished f))
--- it is new and fits, and with it some segment is still missing
+-- it is new and fits, and with it some segment is still missing, or before it none was
 Meets Stored part limit s hs bs =
-    ((f : Fits limit (headersWith part s hs) (bodiesWith part s bs)) × (¬ (Finished f)))
+    ((f : Fits limit (headersWith part s hs) (bodiesWith part s bs))
+    × ((¬ (Finished f)) ⊎ ((g : Fits limit hs bs) × Finished g)))
     × (¬ (Among s (those part hs bs)))
 
 -- what is stored needs a slot

@@ -1,7 +1,7 @@
 -- What is answered in a state whose slots hold just what is stored, call by call; then so after any run, and so by
 -- the marks of any state that is not damaged.
 use mathlib.Core.Path.{_≡_, refl, ap, subst}
-use mathlib.Core.Logic.{_≢_, _↔_}
+use mathlib.Core.Logic.{_≢_, _⊎_, inl, inr, _↔_}
 use mathlib.Core.List.{List, [], _∷_}
 use Prim.Native.Nat.{ℕ}
 use native.Mathlib.Omega.{arith}
@@ -10,18 +10,19 @@ use Rattle.answer.specs.declared.Answer.the-variants as Answer
 use Rattle.answer.specs.declared.Reason.the-variants as Reason
 use Rattle.answer.specs.declared.Part.{Part}
 use Rattle.answer.specs.declared.Part.the-variants.{Header, Body}
-use Rattle.cut.specs.Requirement.{Segment, Fits, Finished}
+use Rattle.cut.specs.Requirement.{Segment, empty, Fits, Finished}
 use Rattle.cut.specs.Parts.{those}
-use Rattle.cut.specs.Lists.{Each}
+use Rattle.cut.specs.Lists.{Each, Among}
 use Rattle.object.specs.declared.Stage.the-variants as Stage
 use Rattle.object.specs.declared.Outcome.{Outcome}
 use Rattle.object.specs.declared.Outcome.the-variants.{Stored, Complete, Repeat, Conflict}
+use Rattle.object.specs.laws.Step.{late}
 use Rattle.slots.specs.declared.Found.{Found}
 use Rattle.slots.specs.declared.Found.the-variants.{Nothing, At}
 use Rattle.collector.specs.State.{Start, Reply, State, find}
 use Rattle.collector.specs.Calls.{answerAs, show}
 use Rattle.queries.specs.laws.Theorems.{core-shown}
-use Rattle.history.specs.Held.{Same, limitOf, stageFor, markedUnder}
+use Rattle.history.specs.Held.{SlotFor, Same, limitOf, stageFor, markedUnder}
 use Rattle.history.specs.laws.Call.{dropAnswer, unread, came, none-dropped, found-dropped, defined}
 use Rattle.history.specs.laws.Ready.{used-inside, found-used}
 use Rattle.history.specs.laws.Sound.{Intact, brought-bytes, handed-intact}
@@ -34,10 +35,10 @@ use Rattle.history.specs.History.{Question, Call, hand, drop, ask, CallB
 use Rattle.history.specs.laws.Stands.{StandsFor, came-lowest}
 use Rattle.history.specs.laws.Reached.{reached-intact, reached-stands, reached-limit, others-same}
 use Rattle.history.specs.laws.Answers.{Meets, Room, came-exactly, came-full, marked-stands}
-use Rattle.history.specs.laws.Stage.{all-finished, finished-all, finished-shown, unfinished-shown}
+use Rattle.history.specs.laws.Stage.{none-finished, all-finished, finished-all, finished-shown, unfinished-shown}
 use Rattle.history.specs.laws.Told.{not-held, unfinished, located-exactly, read-exactly, name-finished, name-missing, found-exactly, nobody-exactly}
 use Rattle.history.specs.laws.Room.{unheld-exactly}
-use Rattle.history.specs.Promise.{Run, reachedBy, stored, Passing, segmentOf, heardOf, View, since, byMarks, answerTo, FitsStored, NotState, ConflictBy, FullBy, RepeatBy, CompleteBy, StoredBy, LowestFreeBy, UnreadBy, DropBy, UnheldBy, NotHeldBy, UnfinishedBy, LocatedBy, ShownBy, CoreBy, UnshownBy, ReadBy, NamedBy, FoundBy, NotFoundBy, AnsweredBy}
+use Rattle.history.specs.Promise.{Run, reachedBy, stored, Passing, segmentOf, heardOf, View, since, byMarks, answerTo, FitsStored, NotState, ConflictBy, FullBy, RepeatBy, CompleteBy, StoredBy, LateBy, LowestFreeBy, UnreadBy, DropBy, UnheldBy, NotHeldBy, UnfinishedBy, LocatedBy, ShownBy, CoreBy, UnshownBy, ReadBy, NamedBy, FoundBy, NotFoundBy, AnsweredBy}
 use Rattle.history.specs.Taking.{take}
 
 -- ---- by what is stored
@@ -86,6 +87,33 @@ module _ (s : State) (kept : Part → ℕ → List Segment) (whole : Intact s)
     λ e. let m = exactly g Stored .0 e in (m .0 .0, (λ i. m .0 .1 (rw these i)), m .1),
     λ m. exactly g Stored .1 ((m .0, (λ i. m .1 (rw these at i))), m .2),
   )
+
+  late-by : LateBy defined (holding s kept)
+  late-by g f d w = go (late (g .arrived .part) (limitOf s) (segmentOf g) (kept Header (g .arrived .number))
+      (kept Body (g .arrived .number)) w f d)
+    where
+      slot : SlotFor (g .arrived .number) s
+      slot r = none-finished (limitOf s) (kept Header (g .arrived .number)) (kept Body (g .arrived .number)) f d
+          (unheld-exactly (g .arrived .number) s (kept Header (g .arrived .number)) (kept Body (g .arrived .number))
+          (whole .undamaged) (stands (g .arrived .number)) .0 (r .0) .0)
+
+      stored : (part : Part) → part ≡ Body → kept Body (g .arrived .number) ≡ []
+          → ¬ (Among (segmentOf g) (kept part (g .arrived .number)))
+      stored Header e n = let z : _≡_ {A = ℕ} 0 1 = cc in absurd (omega arith)
+      stored Body e n = rw n (λ i. i)
+
+      go : Among (segmentOf g) (those (g .arrived .part) (kept Header (g .arrived .number))
+          (kept Body (g .arrived .number)))
+          ⊎ ((g .arrived .part ≡ Body) × (segmentOf g ≡ empty) × (kept Body (g .arrived .number) ≡ []))
+          → (answerTo defined (holding s kept) g ≡ Answer.Repeat (heardOf g))
+          ⊎ ((answerTo defined (holding s kept) g ≡ Answer.Stored (heardOf g)) × (g .arrived .part ≡ Body)
+          × (segmentOf g ≡ empty))
+      go (inl i) = inl (repeat-by g .1 (rw these at i))
+      go (inr e) = inr (
+        stored-by g .1 ((w, inr (f, d)), stored (g .arrived .part) (e .0) (e .2), slot),
+        e .0,
+        e .1,
+      )
 
   lowest-by : LowestFreeBy defined (holding s kept)
   lowest-by g none h = came-lowest (g .arrived) s (take (g .given) s)
@@ -178,6 +206,7 @@ module _ (s : State) (kept : Part → ℕ → List Segment) (whole : Intact s)
     repeated = repeat-by;
     complete = complete-by;
     storing = stored-by;
+    late = late-by;
     lowest = lowest-by;
     unread = unread-by;
     dropping = drop-by;

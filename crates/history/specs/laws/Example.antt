@@ -1,6 +1,7 @@
 -- A history of each kind of answer, computed: document 01's example in a collector of one slot, with a group under
 -- another number, a conflict and each question. It meets all that the promises ask, and a part of it comes from one
--- cut of one object.
+-- cut of one object. And a text card with nothing in it, document 02, Item 2, its empty segment before and after its
+-- header.
 use mathlib.Core.Path.{_≡_, refl}
 use mathlib.Core.List.{List, [], _∷_}
 use Prim.Native.Nat.{ℕ}
@@ -17,7 +18,7 @@ use Rattle.header.specs.declared.Fields.{Fields}
 use Rattle.header.specs.declared.Name.the-variants as Name
 use Rattle.header.specs.declared.Priority.the-variants as Priority
 use Rattle.object.specs.declared.Stage.the-variants as Stage
-use Rattle.object.specs.Source.{SentBy}
+use Rattle.object.specs.Source.{SegmentOf}
 use Rattle.collector.specs.declared.Located.the-variants as Located
 use Rattle.queries.specs.declared.Asked.the-variants as Asked
 use Rattle.queries.specs.declared.Sought.the-variants as Sought
@@ -29,6 +30,7 @@ use Rattle.history.specs.Held.{stageFor}
 use Rattle.history.specs.Promise.{Run, reachedBy, since, StoredFrom, cameUnder}
 use Rattle.history.specs.laws.Promises.{promised}
 use Rattle.history.specs.laws.Samples.{bodyLast, bodyFirst, bodyNotLast, header, otherNumber, computing, small, allowed, object, oneCut, of-bytes-one, sent-one, all-sent}
+use Rattle.history.specs.laws.Trials.{five, emptyFive}
 
 -- ---- every kind of answer
 
@@ -114,10 +116,40 @@ pub answers : told ours small calls
 unfolding computing small
 answers = refl
 
+-- ---- a card of no text
+
+-- its header first: it is finished, and the empty segment is stored once
+pub card-first : told ours small (hand (group emptyFive) ∷ hand (group emptyFive) ∷ hand (group five) ∷ [])
+    ≡ handed (group emptyFive) (Answer.Repeat (inBody 0))
+    ∷ handed (group emptyFive) (Answer.Stored (inBody 0))
+    ∷ handed (group five) (Answer.Complete (inHeader 5))
+    ∷ []
+unfolding computing small
+card-first = refl
+
+-- the empty segment first: it takes a slot, a body segment beside it and a BodySize of 20 conflict, and the header that
+-- says 0 finishes it
+pub empty-first : told ours small
+    (hand (group emptyFive)
+    ∷ hand (group five)
+    ∷ hand (group header)
+    ∷ hand (group bodyLast)
+    ∷ hand (group emptyFive)
+    ∷ [])
+    ≡ handed (group emptyFive) (Answer.Repeat (inBody 0))
+    ∷ handed (group five) (Answer.Complete (inHeader 5))
+    ∷ handed (group header) (Answer.Conflict (inHeader 5))
+    ∷ handed (group bodyLast) (Answer.Conflict (inBody 1))
+    ∷ handed (group emptyFive) (Answer.Stored (inBody 0))
+    ∷ []
+unfolding computing small
+empty-first = refl
+
 -- ---- one cut of one object, with a group under another number between
 
 -- they came with a slot there
-pub all-come : (part : Part) (s : Segment) → SentBy object part s → Among s (cameUnder part 5 (told ours small oneCut))
+pub all-come : (part : Part) (s : Segment) → SegmentOf object part s
+    → Among s (cameUnder part 5 (told ours small oneCut))
 unfolding computing small
 all-come Header = all-sent Header
 all-come Body = all-sent Body

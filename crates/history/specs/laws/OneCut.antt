@@ -20,7 +20,7 @@ use Rattle.cut.specs.Parts.{headersWith, bodiesWith}
 use Rattle.object.specs.declared.Stage.the-variants as Stage
 use Rattle.object.specs.declared.Outcome.{Outcome}
 use Rattle.object.specs.declared.Outcome.the-variants.{Stored, Complete, Repeat, Conflict}
-use Rattle.object.specs.Source.{Source, SentBy}
+use Rattle.object.specs.Source.{Source, SegmentOf, SentBy}
 use Rattle.object.specs.laws.OffersKept.{source-fits}
 use Rattle.collector.specs.Calls.{answerAs, show}
 use Rattle.collector.specs.State.{Start}
@@ -205,10 +205,10 @@ module _ (start : Start) (allowed : Allowed start) (object : Source (start .limi
       go false d before f = before f
   came-stored (ask question ∷ calls) y f = came-stored calls (y .1) f
 
--- once every segment that it sends has come under the number, each with a slot there, it is finished and shown
+-- once every segment that it has has come under the number, each with a slot there, it is finished and shown
 pub one-cut-finishes : (r : Run) (object : Source (r .start .limit)) (number : ℕ)
     → StoredFrom object number (since defined r)
-    → ((part : Part) (s : Segment) → SentBy object part s → Among s (cameUnder part number (toldBy defined r)))
+    → ((part : Part) (s : Segment) → SegmentOf object part s → Among s (cameUnder part number (toldBy defined r)))
     → (stageFor number (reachedBy defined r) ≡ Stage.Finished (length (object .header)) (length (object .body)))
     × (show number Header (reachedBy defined r) ≡ object .header)
     × (show number Body (reachedBy defined r) ≡ object .body)
@@ -222,7 +222,8 @@ one-cut-finishes r object number f all =
 
     done : Finished fit
     done = record {
-      header = λ s u. came-stored (r .start) (r .allowed) object number Header (r .calls) (r .bytes) f s u
+      header = λ s u. came-stored (r .start) (r .allowed) object number Header (r .calls) (r .bytes) f s (inl u)
           (all Header s u);
-      body = λ s u. came-stored (r .start) (r .allowed) object number Body (r .calls) (r .bytes) f s u (all Body s u);
+      body = λ s u. came-stored (r .start) (r .allowed) object number Body (r .calls) (r .bytes) f s (inl u)
+          (all Body s u);
     }

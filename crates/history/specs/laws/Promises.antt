@@ -3,7 +3,7 @@ use mathlib.Core.Path.{refl}
 use Rattle.history.specs.laws.Refused.{refused-handed, unanswered-handed, refused-drop, repeated-handed, drop-stores, limits-exactly, opened-leaves, unopened-leaves}
 use Rattle.history.specs.laws.State.{handed-state, drop-state, ask-state}
 use Rattle.history.specs.Ours.{ours}
-use Rattle.history.specs.Promise.{RefusedLeaves, UnansweredLeaves, RepeatLeaves, StateExactly, MarkedExactly, LimitsExactly, OpenedLeaves, UnopenedLeaves, NeverState, UndroppedLeaves, StateDropExactly, DropKeepsStores, StateAskExactly, AskedLeaves, OthersLeave, ShownJoined, CoreShown, UnfinishedUnshown, CountsTold, ConflictExactly, FullExactly, RepeatExactly, CompleteExactly, StoredExactly, LowestFreeTaken, UnreadRefused, DropExactly, UnheldExactly, NoneFreeExactly, FinishedExactly, FinishedLengths, NotHeldExactly, UnfinishedExactly, LocatedExactly, ReadExactly, NamesRead, FoundExactly, NotFoundExactly, OneCutAgrees, OneCutFinishes, Promised}
+use Rattle.history.specs.Promise.{RefusedLeaves, UnansweredLeaves, RepeatLeaves, StateExactly, MarkedExactly, LimitsExactly, OpenedLeaves, UnopenedLeaves, NeverState, UndroppedLeaves, StateDropExactly, DropKeepsStores, StateAskExactly, AskedLeaves, OthersLeave, ShownJoined, CoreShown, UnfinishedUnshown, CountsTold, ConflictExactly, FullExactly, RepeatExactly, CompleteExactly, StoredExactly, LateStored, LowestFreeTaken, UnreadRefused, DropExactly, UnheldExactly, NoneFreeExactly, FinishedExactly, FinishedLengths, NotHeldExactly, UnfinishedExactly, LocatedExactly, ReadExactly, NamesRead, FoundExactly, NotFoundExactly, OneCutAgrees, OneCutFinishes, Promised}
 use Rattle.history.specs.laws.Demands.{marked-answered, never-state, others-held, run-answered, finished-exactly, finished-lengths}
 use Rattle.history.specs.laws.Room.{none-free-exactly}
 use Rattle.history.specs.laws.Tally.{reached-counts}
@@ -87,6 +87,9 @@ complete-promised r = run-answered r .complete
 pub storing-promised : StoredExactly ours
 storing-promised r = run-answered r .storing
 
+pub late-promised : LateStored ours
+late-promised r = run-answered r .late
+
 pub lowest-promised : LowestFreeTaken ours
 lowest-promised r = run-answered r .lowest
 
@@ -165,6 +168,7 @@ promised = record {
   repeated = repeated-promised;
   complete = complete-promised;
   storing = storing-promised;
+  late = late-promised;
   lowest = lowest-promised;
   unread = unread-promised;
   dropping = dropping-promised;

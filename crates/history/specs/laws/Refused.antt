@@ -3,7 +3,7 @@
 use mathlib.Core.Path.{_≡_, refl, ap, _∙_}
 use mathlib.Core.Bool.{Bool, true, false}
 use mathlib.Core.Logic.{_↔_}
-use Prim.Native.Nat.{ℕ, _≤_}
+use Prim.Native.Nat.{ℕ, zero, suc, _≤_}
 use native.Mathlib.Omega.{arith}
 use lib.ListN.{length}
 use lib.Seq.{set-getD}
@@ -59,10 +59,11 @@ Leaving Complete = ⊥
 Leaving Repeat = Unit {0}
 Leaving Conflict = Unit {0}
 
-stage-stores : (stage : Stage) → Leaving (outcomeBy stage) → ⊥
-stage-stores Stage.Free l = l
-stage-stores Stage.Gathering l = l
-stage-stores (Stage.Finished header body) l = l
+stage-stores : (count : ℕ) (stage : Stage) → Leaving (outcomeBy count stage) → ⊥
+stage-stores count Stage.Free l = l
+stage-stores count Stage.Gathering l = l
+stage-stores zero (Stage.Finished header body) l = l
+stage-stores (suc count) (Stage.Finished header body) l = l
 
 offer-leaves : (part : Part) (limit : ℕ) (segment : Segment) (slot : Slot) (lent : Lent)
     → Leaving (takeInto part limit segment slot lent .outcome)
@@ -74,7 +75,8 @@ offer-leaves part limit segment slot lent = go (decided part limit segment (part
         → takenBy d part limit segment slot lent ≡ unchanged (takenBy d part limit segment slot lent .outcome) slot lent
     go Decided.Repeat l = refl
     go Decided.Conflict l = refl
-    go (Decided.Fits core) l = absurd (stage-stores (stageOf (partsWith part limit segment (partsOf slot lent))) l)
+    go (Decided.Fits core) l =
+        absurd (stage-stores (length (segment .bytes)) (stageOf (partsWith part limit segment (partsOf slot lent))) l)
 
 -- the first segment of a number, where it fits alone, is stored
 first-stores : (part : Part) (limit number : ℕ) (segment : Segment) (lent : Lent) → fitsAlone part limit segment ≡ true
@@ -82,7 +84,8 @@ first-stores : (part : Part) (limit number : ℕ) (segment : Segment) (lent : Le
     ≡ ifNew (fitsAlone part limit segment) part limit segment (freshSlot number) lent
     → Leaving (takeInto part limit segment (freshSlot number) lent .outcome) → ⊥
 first-stores part limit number segment lent a e l =
-    stage-stores (stageOf (partsWith part limit segment (partsOf (freshSlot number) lent))) (rw (e, a) at l)
+    stage-stores (length (segment .bytes)) (stageOf (partsWith part limit segment (partsOf (freshSlot number) lent)))
+    (rw (e, a) at l)
 
 -- ---- a call that is refused, or answered REPEAT
 

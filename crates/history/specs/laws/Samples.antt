@@ -27,7 +27,7 @@ use Rattle.part.specs.Memory.{segmentAt, settled, put}
 use Rattle.object.specs.Take.{takesIn, decided, partsWith, slotWith, takeInto}
 use Rattle.part.specs.Asked.{recordWith, recordWithin, sameSegment, recordRight, soundPart}
 use Rattle.object.specs.Sound.{soundParts, soundSlot}
-use Rattle.object.specs.Source.{Source, SentBy}
+use Rattle.object.specs.Source.{Source, SegmentOf, SentBy}
 use Rattle.object.specs.Parts.{partsOf, lentOf, coreIn, stageOf}
 use Rattle.slots.specs.Alone.{fitsAlone}
 use Rattle.slots.specs.Find.{isFree, holds, firstFrom, findIn, freeIn}
@@ -195,9 +195,9 @@ bodyRest = segmentIn bodyLast (readAs 5 Body 1 true 4)
 pub sent-one : SentBy object Header headerWhole × SentBy object Body bodyHalf × SentBy object Body bodyRest
 unfolding object
 sent-one = (
-  record { starts = omega arith; holds = refl; ends = refl },
-  record { starts = omega arith; holds = refl; ends = refl },
-  record { starts = omega arith; holds = refl; ends = refl },
+  inl (record { starts = omega arith; holds = refl; ends = refl }),
+  inl (record { starts = omega arith; holds = refl; ends = refl }),
+  inl (record { starts = omega arith; holds = refl; ends = refl }),
 )
 
 -- all of them, the last body segment twice
@@ -205,19 +205,19 @@ abbrev pub allSent : Part → List Segment
 allSent Header = headerWhole ∷ []
 allSent Body = bodyHalf ∷ bodyRest ∷ bodyRest ∷ []
 
-pub all-sent : (part : Part) (s : Segment) → SentBy object part s → Among s (allSent part)
+pub all-sent : (part : Part) (s : Segment) → SegmentOf object part s → Among s (allSent part)
 unfolding object
 all-sent Header = whole-numbers (object .header) 16 (headerWhole ∷ [])
-    (record { starts = omega arith; holds = refl; ends = refl }, tt) .1 number
+    (inl (record { starts = omega arith; holds = refl; ends = refl }), tt) .1 number
   where
     number : (n : ℕ) → n * 16 < 7 → Numbered n (headerWhole ∷ [])
     number zero h = inl refl
     number (suc n) h = absurd (omega arith)
 all-sent Body = whole-numbers (object .body) 16 (bodyHalf ∷ bodyRest ∷ bodyRest ∷ []) (
-  record { starts = omega arith; holds = refl; ends = refl },
+  inl (record { starts = omega arith; holds = refl; ends = refl }),
   (
-    record { starts = omega arith; holds = refl; ends = refl },
-    (record { starts = omega arith; holds = refl; ends = refl }, tt),
+    inl (record { starts = omega arith; holds = refl; ends = refl }),
+    (inl (record { starts = omega arith; holds = refl; ends = refl }), tt),
   ),
 ) .1 number
   where

@@ -9,7 +9,7 @@ use lib.ListN.{length}
 use Rattle.answer.specs.declared.Part.{Part}
 use Rattle.answer.specs.declared.Part.the-variants.{Header, Body}
 use Rattle.cut.specs.Requirement.{headerNumbers, bodyNumbers, Segment, Fits, Finished, joined}
-use Rattle.cut.specs.laws.Finished.{segmentOf, segment-sent, finished-every, finished-one}
+use Rattle.cut.specs.laws.Finished.{segmentOf, segment-is, finished-every, finished-one}
 use Rattle.object.specs.declared.Stage.{Stage}
 use Rattle.object.specs.declared.Stage.the-variants as Stage
 use Rattle.object.specs.State.{StageFor}
@@ -27,7 +27,7 @@ use Rattle.history.specs.laws.Stands.{StandsFor}
 pub none-finished : (limit : ℕ) (hs bs : List Segment) (f : Fits limit hs bs) → Finished f → hs ≡ [] → ⊥
 none-finished limit hs bs f w e =
     absurd (rw e at (w .header (segmentOf (f .header) (f .headerCut) 0)
-    (segment-sent (f .header) (f .headerCut) 0 (omega (arith, zero-mul (f .headerCut), f .object .headerLow)))))
+    (segment-is (f .header) (f .headerCut) 0 (omega (arith, zero-mul (f .headerCut), f .object .headerLow)))))
 
 -- a stage is the one that the segments give, whichever object and cut fit them
 stage-every : (limit : ℕ) (hs bs : List Segment) (f g : Fits limit hs bs) (stage : Stage) → StageFor f stage

@@ -4,8 +4,9 @@ use mathlib.Core.Path.{_≡_, refl, sym, ap, _∙_}
 use mathlib.Core.Logic.{_≢_, _↔_}
 use mathlib.Core.Bool.{Bool, true, false}
 use mathlib.Core.List.{List, []}
-use Prim.Native.Nat.{ℕ, _≤_}
+use Prim.Native.Nat.{ℕ, zero, suc, _≤_}
 use native.Mathlib.Omega.{arith}
+use lib.ListN.{length}
 use Rattle.octets.specs.Octets.{zeros, sumOf}
 use Rattle.octets.specs.laws.Over.{zeros-length}
 use Rattle.octets.specs.laws.Marks.{zeros-sum}
@@ -89,16 +90,17 @@ module _ (part : Part) (limit number : ℕ) (segment : Segment) (lent : Lent) (z
       x : Taken
       x = takeInto part limit segment (freshSlot number) lent
 
-      never : (stage : Stage) → outcomeBy stage ≢ Conflict
-      never Stage.Free e = let d : _≡_ {A = ℕ} 0 1 = cc in absurd (omega arith)
-      never Stage.Gathering e = let d : _≡_ {A = ℕ} 0 1 = cc in absurd (omega arith)
-      never (Stage.Finished header body) e = let d : _≡_ {A = ℕ} 0 1 = cc in absurd (omega arith)
+      never : (count : ℕ) (stage : Stage) → outcomeBy count stage ≢ Conflict
+      never count Stage.Free e = let d : _≡_ {A = ℕ} 0 1 = cc in absurd (omega arith)
+      never count Stage.Gathering e = let d : _≡_ {A = ℕ} 0 1 = cc in absurd (omega arith)
+      never zero (Stage.Finished header body) e = let d : _≡_ {A = ℕ} 0 1 = cc in absurd (omega arith)
+      never (suc count) (Stage.Finished header body) e = let d : _≡_ {A = ℕ} 0 1 = cc in absurd (omega arith)
 
       taken : (o : Outcome) → x .outcome ≡ o → o ≢ Conflict
       taken o e c =
           let f : x ≡ ifNew true part limit segment (freshSlot number) lent =
           rw a at (fresh-taken part limit number segment lent none) in
-          never (stageOf (partsWith part limit segment (partsOf (freshSlot number) lent)))
+          never (length (segment .bytes)) (stageOf (partsWith part limit segment (partsOf (freshSlot number) lent)))
           (sym (ap (λ (t : Taken). t .outcome) f) ∙ e ∙ c)
 
       go : (p : Part) (o : Outcome) → Tells o p limit segment (freshSlot number) lent [] [] x → o ≢ Conflict

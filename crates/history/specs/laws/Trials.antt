@@ -17,10 +17,12 @@ use Rattle.wire.specs.declared.Carried.{Carried}
 use Rattle.wire.specs.declared.Reading.{Reading}
 use Rattle.wire.specs.declared.Reading.the-variants.{Read}
 use Rattle.wire.specs.Reading.{readingOf}
+use Rattle.cut.specs.Requirement as cut
 use Rattle.cut.specs.Requirement.{bodySize, headerSize, Segment, Fits, Finished}
 use Rattle.cut.specs.laws.Segment.{Numbered}
 use Rattle.cut.specs.laws.Decision.{true-both}
 use Rattle.cut.specs.laws.Finished.{whole-numbers, whole-empty}
+use Rattle.cut.specs.laws.Empty.{either}
 use Rattle.cut.specs.Lists.{Bytes}
 use Rattle.object.specs.Source.{Source}
 use Rattle.slots.specs.declared.Found.{Found}
@@ -78,7 +80,7 @@ fits = record {
   bodyCut = 16;
   headerCuts = record { low = omega arith; high = omega arith; enough = omega arith };
   bodyCuts = record { low = omega arith; high = omega arith; enough = omega arith };
-  headerSent = (record { starts = omega arith; holds = refl; ends = refl }, tt);
+  headerSent = (inl (record { starts = omega arith; holds = refl; ends = refl }), tt);
   bodySent = tt;
 }
 
@@ -86,7 +88,7 @@ done : Finished fits
 unfolding fits
 done = record {
   header = whole-numbers core 16 (whole ∷ [])
-      (record { starts = omega arith; holds = refl; ends = refl }, tt) .1 number;
+      (inl (record { starts = omega arith; holds = refl; ends = refl }), tt) .1 number;
   body = whole-empty [] 16 [] refl;
 }
   where
@@ -99,6 +101,11 @@ pub finished-core : (limit : ℕ) (hs bs : List Segment) → limit ≡ 1024 → 
     → (f : Fits limit hs bs) × Finished f × (f .header ≡ core)
 unfolding fits
 finished-core limit hs bs l h b = rw (l, h, b) (fits, done, refl)
+
+-- it sends the empty last segment of its body too
+pub fits-empty : Fits 1024 (whole ∷ []) (cut.empty ∷ [])
+unfolding fits
+fits-empty = either 1024 (whole ∷ []) fits refl .0
 
 -- the object and its cut
 unfoldable pub single : Source 1024
@@ -126,6 +133,10 @@ five = 0x73 ∷ 0x00 ∷ 0x80 ∷ 0x00 ∷ 0x12 ∷ 0x00 ∷ 0x05 ∷ 0x00 ∷ 0
 abbrev pub six : List ℕ
 six = 0x73 ∷ 0x00 ∷ 0x80 ∷ 0x00 ∷ 0x12 ∷ 0x00 ∷ 0x06 ∷ 0x00 ∷ 0x07 ∷ 0x00 ∷ 0x00 ∷ 0x00 ∷ 0x00 ∷ 0x03 ∷ 0x84 ∷ 0x01
     ∷ 0xD8 ∷ 0xC0 ∷ []
+
+-- the empty last segment of its body
+abbrev pub emptyFive : List ℕ
+emptyFive = 0x74 ∷ 0x00 ∷ 0x80 ∷ 0x00 ∷ 0x12 ∷ 0x00 ∷ 0x05 ∷ 0x00 ∷ 0x00 ∷ 0xD0 ∷ 0x69 ∷ []
 
 -- a header segment of 6 bytes, whole
 abbrev pub short : List ℕ
@@ -157,8 +168,9 @@ otherKind = 0x75 ∷ 0x00 ∷ 0x15 ∷ 0x5D ∷ []
 
 pub reads : (readingOf five ≡ Read (readAs 5 Header 0 true 7)) × (readingOf six ≡ Read (readAs 6 Header 0 true 7))
     × (readingOf short ≡ Read (readAs 5 Header 0 true 6)) × (readingOf bodyLast ≡ Read (readAs 5 Body 1 true 4))
+    × (readingOf emptyFive ≡ Read (readAs 5 Body 0 true 0))
 unfolding computing
-reads = (refl, refl, refl, refl)
+reads = (refl, refl, refl, refl, refl)
 
 abbrev passing : (bytes : List ℕ) (carried : Carried) → Bytes bytes → readingOf bytes ≡ Read carried → Passing
 passing bytes carried y e = record {
@@ -179,6 +191,9 @@ groupShort = passing short (readAs 5 Header 0 true 6) (omega arith) (reads .2)
 
 unfoldable pub groupLast : Passing
 groupLast = passing bodyLast (readAs 5 Body 1 true 4) (omega arith) (reads .3)
+
+unfoldable pub groupEmpty : Passing
+groupEmpty = passing emptyFive (readAs 5 Body 0 true 0) (omega arith) (reads .4)
 
 -- ---- the runs, in one slot
 

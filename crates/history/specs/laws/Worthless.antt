@@ -2,7 +2,7 @@
 -- piece that is wrong, and is proved to break the promise that shuts it out, by a run that is computed. The edits in
 -- refused/ put that piece into our collector, which is then refused at that promise.
 use mathlib.Core.Path.{_≡_, refl, sym, ap, _∙_}
-use mathlib.Core.Logic.{_≢_, inl}
+use mathlib.Core.Logic.{_≢_, _⊎_, inl, inr}
 use mathlib.Core.Bool.{Bool, true, false}
 use mathlib.Core.List.{List, [], _∷_}
 use Prim.Native.Nat.{ℕ, zero, suc, _+_, _-_, _*_, _/_, _%_, _≤_, _<_, min}
@@ -27,12 +27,13 @@ use Rattle.wire.specs.declared.Reading.the-variants.{Read, Refused}
 use Rattle.wire.specs.Wire.{typeNumber}
 use Rattle.wire.specs.Reading.{kindOf, readingOf}
 use Rattle.wire.specs.declared.Reading.{Reading}
+use Rattle.cut.specs.Requirement as cut
 use Rattle.cut.specs.Requirement.{Segment, Fits, Finished}
-use Rattle.cut.specs.laws.Segment.{sends-sits, inside}
+use Rattle.cut.specs.laws.Segment.{sends-sits, sent-ends, inside}
 use Rattle.cut.specs.Decision.{both}
 use Rattle.cut.specs.laws.Decision.{false-true}
 use Rattle.cut.specs.Lists.{Among, pick}
-use Rattle.object.specs.Source.{SentBy}
+use Rattle.object.specs.Source.{SegmentOf}
 use Rattle.object.specs.declared.Slot.{Slot}
 use Rattle.object.specs.declared.Stage.{Stage}
 use Rattle.object.specs.declared.Stage.the-variants as Stage
@@ -49,9 +50,9 @@ use Rattle.history.specs.Held.{limitOf, slotOf, stageFor}
 use Rattle.history.specs.History.{Question, drop, ask, Collecting, told, under}
 use Rattle.history.specs.laws.Stage.{none-finished}
 use Rattle.history.specs.laws.Demands.{run-answered, finished-lengths}
-use Rattle.history.specs.Promise.{Run, reachedBy, toldBy, stored, heardOf, since, StoredFrom, cameUnder, between, answersFrom, RefusedLeaves, NeverState, OthersLeave, ShownJoined, UnfinishedUnshown, CountsTold, ConflictExactly, FullExactly, RepeatExactly, CompleteExactly, StoredExactly, LowestFreeTaken, UnreadRefused, DropExactly, UnheldExactly, NoneFreeExactly, FinishedExactly, FinishedLengths, OneCutAgrees, OneCutFinishes}
+use Rattle.history.specs.Promise.{Run, reachedBy, toldBy, stored, segmentOf, heardOf, since, answerTo, StoredFrom, cameUnder, between, answersFrom, RefusedLeaves, NeverState, OthersLeave, ShownJoined, UnfinishedUnshown, CountsTold, ConflictExactly, FullExactly, RepeatExactly, CompleteExactly, StoredExactly, LateStored, LowestFreeTaken, UnreadRefused, DropExactly, UnheldExactly, NoneFreeExactly, FinishedExactly, FinishedLengths, OneCutAgrees, OneCutFinishes}
 use Rattle.history.specs.laws.Samples.{computing, small, pair, bodyLast, bodyFirst, header, readAs, object, oneCut, sent-one, all-sent}
-use Rattle.history.specs.laws.Trials.{core, whole, finished-core, single, six, otherKind, groupFive, groupSix, groupShort, groupLast, none, one, two, dropped, again, many, later, empty, twice, withCounts, foundSlot, openingBy, takingBy, droppingBy, showingBy, askingBy}
+use Rattle.history.specs.laws.Trials.{core, whole, finished-core, fits-empty, single, six, otherKind, groupFive, groupSix, groupShort, groupLast, groupEmpty, none, one, two, dropped, again, many, later, empty, twice, withCounts, foundSlot, openingBy, takingBy, droppingBy, showingBy, askingBy}
 use Rattle.history.specs.laws.Call.{defined}
 
 -- ---- what cannot be the same
@@ -231,7 +232,8 @@ too-short f =
     inside (f .headerCut) (length (f .header)) sixBytes low
     (sends-sits (f .header) (f .headerCut) sixBytes sent) .long in
     let ends : length (f .header) ≤ 1 * f .headerCut =
-    leb-true (length (f .header)) (1 * f .headerCut) (sym (sent .ends)) in
+    leb-true (length (f .header)) (1 * f .headerCut)
+    (sym (sent-ends (f .header) (f .headerCut) sixBytes sent)) in
     omega (arith, f .object .headerLow)
 
 -- LENGTH for every group
@@ -356,10 +358,10 @@ repeatConflicts bytes s = conflictAs (readingOf bytes) bytes s
 pub repeat-conflicts-breaks : ¬ (OneCutAgrees (takingBy repeatConflicts))
 unfolding computing small groupFive single
 repeat-conflicts-breaks p = p one single 5 from groupFive refl
-    (record { starts = omega arith; holds = refl; ends = refl }) refl
+    (inl (record { starts = omega arith; holds = refl; ends = refl })) refl
   where
     from : StoredFrom single 5 (since (takingBy repeatConflicts) one)
-    from Header = (record { starts = omega arith; holds = refl; ends = refl }, tt)
+    from Header = (inl (record { starts = omega arith; holds = refl; ends = refl }), tt)
     from Body = tt
 
 -- it stores the first group, and afterwards only says so
@@ -376,7 +378,7 @@ stores-first-breaks p = gathering-unfinished (length (object .header)) (length (
     from Header = (sent-one .0, tt)
     from Body = (sent-one .1, (sent-one .2, (sent-one .2, tt)))
 
-    all-come : (part : Part) (s : Segment) → SentBy object part s
+    all-come : (part : Part) (s : Segment) → SegmentOf object part s
         → Among s (cameUnder part 5 (told (takingBy storesFirst) small oneCut))
     all-come Header = all-sent Header
     all-come Body = all-sent Body
@@ -584,6 +586,51 @@ unfolding computing small groupSix
 stores-full-breaks p =
     let e : _≡_ {A = ℕ} 18 0 = ap numberOf (run-answered one .storing groupSix .1 (p one groupSix .0 refl)) in
     absurd (omega arith)
+
+-- a segment is stored though its object was finished before
+abbrev comesLate : Stage → Answer → Bool
+comesLate Stage.Free answer = false
+comesLate Stage.Gathering answer = false
+comesLate (Stage.Finished header body) answer = eqb (numberOf answer) 0
+
+-- such a one is answered as somebody likes
+abbrev lateBy : (Carried → Reply) → Reading → List ℕ → State → Reply
+lateBy say (Read carried) bytes s =
+    pick (comesLate (stageFor (carried .number) s) (takeGroup bytes s .answer)) (say carried) (takeGroup bytes s)
+lateBy say (Refused why) bytes s = takeGroup bytes s
+
+-- COMPLETE again
+abbrev pub completesTwice : List ℕ → State → Reply
+completesTwice bytes s =
+    lateBy (λ carried. renamed (Answer.Complete (heardIn carried)) bytes s) (readingOf bytes) bytes s
+
+-- CONFLICT, as for any other segment of a number that is not in
+abbrev pub refusesLate : List ℕ → State → Reply
+refusesLate bytes s = lateBy (λ carried. answering (Answer.Conflict (heardIn carried)) s) (readingOf bytes) bytes s
+
+-- an object of no body is finished, and its empty last segment comes
+late-breaks : (k : Collecting) (n : ℕ) → (stored k one Header 5 ≡ whole ∷ []) × (stored k one Body 5 ≡ [])
+    → numberOf (answerTo k (since k one) groupEmpty) ≡ n → n ≢ 0 → n ≢ 2 → ¬ (LateStored k)
+unfolding groupEmpty small
+late-breaks k n e a x y p =
+    let object = finished-core 1024 (stored k one Header 5) (stored k one Body 5) refl (e .0) (e .1) in
+    go (p one groupEmpty (object .0) (object .1) (rw (e .0, e .1) fits-empty))
+  where
+    go : (answerTo k (since k one) groupEmpty ≡ Answer.Repeat (heardOf groupEmpty))
+        ⊎ ((answerTo k (since k one) groupEmpty ≡ Answer.Stored (heardOf groupEmpty)) × (Body ≡ Body)
+        × (segmentOf groupEmpty ≡ cut.empty)) → ⊥
+    go (inl q) = y (sym a ∙ ap numberOf q)
+    go (inr q) = x (sym a ∙ ap numberOf (q .0))
+
+pub completes-twice-breaks : ¬ (LateStored (takingBy completesTwice))
+unfolding computing small groupEmpty
+completes-twice-breaks =
+    late-breaks (takingBy completesTwice) 1 (refl, refl) refl (λ e. absurd (omega arith)) (λ e. absurd (omega arith))
+
+pub refuses-late-breaks : ¬ (LateStored (takingBy refusesLate))
+unfolding computing small groupEmpty
+refuses-late-breaks =
+    late-breaks (takingBy refusesLate) 17 (refl, refl) refl (λ e. absurd (omega arith)) (λ e. absurd (omega arith))
 
 -- a group of another kind is KIND, and its check word is not asked for
 abbrev kindAs : Kind → List ℕ → State → Reply

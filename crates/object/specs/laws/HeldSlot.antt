@@ -28,6 +28,7 @@ use Rattle.cut.specs.laws.Order.{core-absent}
 use Rattle.cut.specs.laws.Marks.{Marked}
 use Rattle.cut.specs.Sums.{fullIn}
 use Rattle.cut.specs.laws.Sums.{full-kept, settle-again, settle-full, settle-last, taken}
+use Rattle.cut.specs.laws.Theorem.{fits-less}
 use Rattle.cut.specs.Lists.{pick, Each, Bytes}
 use Rattle.part.specs.Memory.{Memory, placeOf, segmentAt, settled, put}
 use Rattle.object.specs.Take.{takesIn, partsWith}
@@ -186,33 +187,6 @@ takes-fits Body limit s ps hs bs z y g a = rw (core-read limit ps hs bs g, g .he
 
 -- ---- one segment more
 
-abbrev pub fits-less : (part : Part) (limit : ℕ) (s : Segment) (hs bs : List Segment)
-    → Fits limit (headersWith part s hs) (bodiesWith part s bs) → Fits limit hs bs
-fits-less Header limit s hs bs f =
-    record {
-      header = f .header;
-      body = f .body;
-      object = f .object;
-      headerCut = f .headerCut;
-      bodyCut = f .bodyCut;
-      headerCuts = f .headerCuts;
-      bodyCuts = f .bodyCuts;
-      headerSent = f .headerSent .1;
-      bodySent = f .bodySent;
-    }
-fits-less Body limit s hs bs f =
-    record {
-      header = f .header;
-      body = f .body;
-      object = f .object;
-      headerCut = f .headerCut;
-      bodyCut = f .bodyCut;
-      headerCuts = f .headerCuts;
-      bodyCuts = f .bodyCuts;
-      headerSent = f .headerSent;
-      bodySent = f .bodySent .1;
-    }
-
 -- what was said stays said, so bounds that have met stay so
 after-unseen : (b : Bool) (c d : Core) (body header : ℕ) → pick b (Seen body header) c ≡ d → d ≡ Unseen → c ≡ Unseen
 after-unseen true c d body header e f = let z : _≡_ {A = ℕ} 0 1 = cc in absurd (omega arith)
@@ -286,8 +260,7 @@ header-next limit s ps hs bs g a f = subst (λ (x : Parts). Gathers limit x (s �
           (omega (
             arith,
             g .shape .headerMarks,
-            sent-number headerNumbers S (f .header) s (f .headerCuts)
-                (f .headerSent .0),
+            sent-number headerNumbers S (f .header) s (omega arith) (f .headerCuts) (f .headerSent .0),
           ));
       body = settled-keeps b' c' T M (ps .body) bs (g .body) room' w' (met-after Body limit s (coreOf hs));
     })
@@ -344,7 +317,11 @@ body-next limit s ps hs bs g a f = subst (λ (x : Parts). Gathers limit x hs (s 
       };
       header = g .header;
       body = put-keeps b b T M (ps .body) s bs (g .body) w room a
-          (omega (arith, g .shape .bodyMarks, sent-number bodyNumbers T (f .body) s (f .bodyCuts) (f .bodySent .0)));
+          (omega (
+            arith,
+            g .shape .bodyMarks,
+            sent-number bodyNumbers T (f .body) s (omega arith) (f .bodyCuts) (f .bodySent .0),
+          ));
     })
   where
     T : ℕ

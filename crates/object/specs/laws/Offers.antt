@@ -13,7 +13,7 @@ use Rattle.object.specs.declared.Outcome.{Outcome}
 use Rattle.object.specs.declared.Outcome.the-variants.{Stored, Complete, Repeat, Conflict}
 use Rattle.object.specs.Take.{takeInto}
 use Rattle.object.specs.Sound.{soundSlot}
-use Rattle.object.specs.Source.{Source, SentBy}
+use Rattle.object.specs.Source.{Source, SegmentOf}
 use Rattle.object.specs.laws.Held.{Holds}
 use Rattle.object.specs.Parts.{Lent}
 
@@ -56,7 +56,7 @@ pub data Standing (limit : ℕ) (slot₀ : Slot) (lent₀ : Lent) (slot : Slot) 
 
 -- ---- segments of one object and cut
 
--- every segment that it sends was offered
+-- every segment that it has was offered
 abbrev pub AllOffered : {limit : ℕ} → Source limit → List Offer → Type 0
-AllOffered c os = (part : Part) (s : Segment) → SentBy c part s → (o : Offer) × Among o os × (o .part ≡ part)
+AllOffered c os = (part : Part) (s : Segment) → SegmentOf c part s → (o : Offer) × Among o os × (o .part ≡ part)
     × (o .segment ≡ s)

@@ -12,7 +12,7 @@ use Rattle.answer.specs.declared.Part.the-variants.{Header, Body}
 use Rattle.cut.specs.Requirement.{limitMost, Segment, Fits, Finished}
 use Rattle.cut.specs.Parts.{headersWith, bodiesWith, those}
 use Rattle.cut.specs.laws.Order.{SameSet}
-use Rattle.cut.specs.laws.Finished.{segmentOf, segment-sent, finished-every, finished-one}
+use Rattle.cut.specs.laws.Finished.{segmentOf, segment-is, finished-every, finished-one}
 use Rattle.cut.specs.Lists.{Each, Among, Bytes}
 use Rattle.object.specs.declared.Slot.{Slot}
 use Rattle.object.specs.declared.Stage.{Stage}
@@ -29,7 +29,7 @@ use Rattle.object.specs.laws.Shown.{holds-shows}
 use Rattle.object.specs.State.{markedSegments}
 use Rattle.object.specs.laws.StateParts.{part-same}
 use Rattle.object.specs.laws.Offers.{Offer, ifStored, storedHeaders, storedBodies, After, Standing, none, some, AllOffered}
-use Rattle.object.specs.Source.{Source, SentBy}
+use Rattle.object.specs.Source.{Source, SegmentOf, SentBy}
 use Rattle.object.specs.Parts.{Lent, partsOf}
 
 -- ---- what it holds
@@ -219,7 +219,7 @@ source-finishes limit c slot₀ lent₀ os slot lent z v a u all = go (offers-st
     bs : List Segment
     bs = storedBodies os
 
-    in-stored : (part : Part) (s : Segment) → SentBy c part s → Among s (those part hs bs)
+    in-stored : (part : Part) (s : Segment) → SegmentOf c part s → Among s (those part hs bs)
     in-stored part s w =
         let o = all part s w in
         subst (λ (p : Part). Among s (those p hs bs)) (o .2)
@@ -234,7 +234,7 @@ source-finishes limit c slot₀ lent₀ os slot lent z v a u all = go (offers-st
 
     empty : hs ≡ [] → ⊥
     empty e =
-        let w = segment-sent (c .header) (c .headerCut) 0 (omega (arith, zero-mul (c .headerCut), c .object .headerLow))
+        let w = segment-is (c .header) (c .headerCut) 0 (omega (arith, zero-mul (c .headerCut), c .object .headerLow))
         in
         absurd (rw e at (in-stored Header (segmentOf (c .header) (c .headerCut) 0) w))
 

@@ -16,7 +16,7 @@ use Rattle.cut.specs.laws.Lists.{each-map, each-zip, each-zip3}
 use Rattle.cut.specs.Requirement.{limitMost, IsCut, Segment, Sends, Fits, Whole, Finished}
 use Rattle.cut.specs.declared.Bounds.{Bounds}
 use Rattle.cut.specs.Decision.{boundsOf, coreOf}
-use Rattle.cut.specs.laws.Segment.{Sits, Stands, inside, sits-sends, Numbered}
+use Rattle.cut.specs.laws.Segment.{Sits, Stands, inside, none-first, sits-sends, Numbered}
 use Rattle.cut.specs.Parts.{those, partOf, cutOf}
 use Rattle.cut.specs.laws.Finished.{whole-numbers, part-joined, finished-joined, finished-every, finished-one}
 use Rattle.cut.specs.Lists.{Each}
@@ -44,11 +44,11 @@ place-whole last size S width n k z (inr e) h = place-known last size width n k 
 place-whole last size S width n k z (inl e) h = let r = h e in rw (r .0, r .1, e, zero-mul) refl
 
 -- while the size is not known, the last segment of a whole part is the first
-first-only : (S L : ℕ) (s : Segment) (ss : List Segment) → Each (Sits S L) ss → Each (λ t. t .last ≡ true) ss
+first-only : (S L : ℕ) (s : Segment) (ss : List Segment) → 0 < S → Each (Sits S L) ss → Each (λ t. t .last ≡ true) ss
     → Numbered 0 ss → Sits S L s → s .last ≡ true → s .number ≡ 0
-first-only S L s [] t l i u f = absurd i
-first-only S L s (q ∷ ss) t l (inl e) u f = one-last S L s q u (t .0) f (l .0) ∙ e
-first-only S L s (q ∷ ss) t l (inr i) u f = first-only S L s ss (t .1) (l .1) i u f
+first-only S L s [] z t l i u f = absurd i
+first-only S L s (q ∷ ss) z t l (inl e) u f = one-last S L s q z u (t .0) f (l .0) ∙ e
+first-only S L s (q ∷ ss) z t l (inr i) u f = first-only S L s ss z (t .1) (l .1) i u f
 
 laid-stands : (last : Bool) (size S L n : ℕ) (share bytes : List ℕ) → placeOf last size (length share) n (length bytes)
     ≡ n * S → n * S + length bytes ≤ L → L ≤ length share → LaidAs last size share n bytes
@@ -77,6 +77,13 @@ module _ (b : Bounds) (S : ℕ) (xs : List ℕ) (m : Memory) (ss : List Segment)
   first : 0 < length xs → Numbered 0 ss
   first h = whole-numbers xs S ss t .0 w 0 (omega (arith, zero-mul S))
 
+  number-first : (s : Segment) → Sits S (length xs) s → Each (λ s. s .last ≡ true) ss → s .last ≡ true → s .number ≡ 0
+  number-first s u l f = go (ℕ-discrete (length xs) 0)
+    where
+      go : Dec (length xs ≡ 0) → s .number ≡ 0
+      go (yes z) = none-first S (s .number) some (omega (arith, inside S (length xs) s some u .starts))
+      go (no z) = first-only S (length xs) s ss some (r .sits) l (first (omega arith)) u f
+
   Facts : Segment → Type 0
   Facts s = m .kept .size ≡ 0 → (s .last ≡ true) × (s .number ≡ 0)
 
@@ -89,11 +96,7 @@ module _ (b : Bounds) (S : ℕ) (xs : List ℕ) (m : Memory) (ss : List Segment)
       go (yes z) =
           let l : Each (λ s. s .last ≡ true) ss = size-none b S (length xs) ss (r .within) (r .sits) (rw (k .kept) at z)
           in
-          each-zip (λ s u f e. (
-            f,
-            first-only S (length xs) s ss (r .sits) l
-                (first (omega (arith, inside S (length xs) s some u .starts))) u f,
-          )) ss (r .sits) l
+          each-zip (λ s u f e. (f, number-first s u l f)) ss (r .sits) l
 
   sent : Each (Sends ys S) ss
   unfolding ys Laid Stands Facts

@@ -1,6 +1,6 @@
 -- A sound slot, however it came about, is answered as if its marked segments had been stored, and stays sound.
 use mathlib.Core.Path.{_≡_, refl}
-use mathlib.Core.Logic.{_↔_}
+use mathlib.Core.Logic.{_⊎_, _↔_}
 use mathlib.Core.Bool.{true}
 use mathlib.Core.List.{List}
 use Prim.Native.Nat.{ℕ, _≤_}
@@ -57,7 +57,8 @@ module _ (part : Part) (limit : ℕ) (s : Segment) (slot : Slot) (lent : Lent) (
 
   pub stored-answered : (takeInto part limit s slot lent .outcome ≡ Stored)
       ↔ (((f : Fits limit (headersWith part s (markedSegments Header slot lent))
-      (bodiesWith part s (markedSegments Body slot lent))) × (¬ (Finished f)))
+      (bodiesWith part s (markedSegments Body slot lent))) × ((¬ (Finished f))
+      ⊎ ((g : Fits limit (markedSegments Header slot lent) (markedSegments Body slot lent)) × Finished g)))
       × (¬ (Among s (those part (markedSegments Header slot lent) (markedSegments Body slot lent)))))
   unfolding hs bs
   stored-answered = stored-exactly part limit s slot lent hs bs z y g

@@ -1,9 +1,9 @@
 -- A segment is offered to a slot that holds segments which fit: each outcome comes exactly when document 01 says, and
 -- what the slot holds afterwards.
-use mathlib.Core.Path.{_≡_, refl, sym, ap, subst}
-use mathlib.Core.Logic.{inl, inr, _↔_}
+use mathlib.Core.Path.{_≡_, refl, sym, ap, _∙_, subst}
+use mathlib.Core.Logic.{_⊎_, inl, inr, _↔_}
 use mathlib.Core.Bool.{Bool, true, false}
-use mathlib.Core.List.{List, _∷_, _++_}
+use mathlib.Core.List.{List, [], _∷_, _++_}
 use Prim.Native.Nat.{ℕ, zero, suc, _≤_, _<_}
 use native.Mathlib.Omega.{arith}
 use lib.ListN.{length, getD, take, drop}
@@ -12,13 +12,14 @@ use Rattle.octets.specs.Octets.{equal}
 use Rattle.octets.specs.laws.Marks.{equal-exactly}
 use Rattle.answer.specs.declared.Part.{Part}
 use Rattle.answer.specs.declared.Part.the-variants.{Header, Body}
-use Rattle.cut.specs.Requirement.{limitMost, headerNumbers, Segment, Fits, Finished}
-use Rattle.cut.specs.laws.Segment.{Numbered, among-numbered}
+use Rattle.cut.specs.Requirement.{limitMost, headerNumbers, Segment, empty, Sends, Fits, Finished}
+use Rattle.cut.specs.laws.Segment.{Numbered, among-numbered, segment-some}
 use Rattle.cut.specs.laws.Decision.{both-true, true-both, false-true}
 use Rattle.cut.specs.Parts.{headersWith, bodiesWith, those}
-use Rattle.cut.specs.laws.Theorem.{repeat-fits, same-fits}
+use Rattle.cut.specs.laws.Theorem.{fits-less, with-one, repeat-fits, same-fits}
 use Rattle.cut.specs.laws.Finished.{finished-every}
-use Rattle.cut.specs.Lists.{Among, Bytes}
+use Rattle.cut.specs.laws.Empty.{no-other}
+use Rattle.cut.specs.Lists.{Each, Among, Bytes}
 use Rattle.object.specs.declared.Slot.{Slot}
 use Rattle.object.specs.declared.Stage.{Stage}
 use Rattle.object.specs.declared.Stage.the-variants as Stage
@@ -31,7 +32,7 @@ use Rattle.part.specs.Asked.{sameFlag, sameSegment}
 use Rattle.object.specs.laws.Held.{Gathers, Holds, Added}
 use Rattle.object.specs.State.{StageFor}
 use Rattle.part.specs.laws.Held.{at-number, at-among}
-use Rattle.object.specs.laws.HeldSlot.{part-keeps, part-reads, takes-fits, fits-less, next-gathers}
+use Rattle.object.specs.laws.HeldSlot.{part-keeps, part-reads, takes-fits, next-gathers}
 use Rattle.object.specs.laws.StepStage.{stage-right}
 use Rattle.object.specs.Parts.{Lent, Parts, partsOf, lentOf, memoryOf, stageOf}
 
@@ -79,24 +80,84 @@ parts-hold limit number ps hs bs g =
     subst (λ (x : Parts). Gathers limit x hs bs) (sym (parts-back number ps (g .shape .headerMarks))) g in
     record { gathers = k; stage = stage-right limit ps hs bs g (k .object) }
 
+-- ---- what is finished without a segment
+
+-- an empty segment brings nothing new
+among-some : (s : Segment) (ss : List Segment) → length (s .bytes) ≡ 0 → (t : Segment) → 0 < length (t .bytes)
+    → Among t (s ∷ ss) → Among t ss
+among-some s ss e t b (inl i) = absurd (omega (arith, ap (λ (x : Segment). length (x .bytes)) i))
+among-some s ss e t b (inr j) = j
+
+finished-less : (part : Part) (limit : ℕ) (s : Segment) (hs bs : List Segment)
+    (f : Fits limit (headersWith part s hs) (bodiesWith part s bs))
+    → ((t : Segment) → 0 < length (t .bytes) → Among t (s ∷ those part hs bs) → Among t (those part hs bs)) → Finished f
+    → (g : Fits limit hs bs) × Finished g
+finished-less Header limit s hs bs f i w = (
+  fits-less Header limit s hs bs f,
+  record {
+    header = λ t u. i t (segment-some (f .header) (f .headerCut) t (f .headerCuts .low) u) (w .header t u);
+    body = w .body;
+  },
+)
+finished-less Body limit s hs bs f i w = (
+  fits-less Body limit s hs bs f,
+  record {
+    header = w .header;
+    body = λ t u. i t (segment-some (f .body) (f .bodyCut) t (f .bodyCuts .low) u) (w .body t u);
+  },
+)
+
+-- once every segment is in, what still fits is in already, or is the empty one of a body that has nothing
+pub late : (part : Part) (limit : ℕ) (s : Segment) (hs bs : List Segment)
+    → Fits limit (headersWith part s hs) (bodiesWith part s bs) → (g : Fits limit hs bs) → Finished g
+    → Among s (those part hs bs) ⊎ ((part ≡ Body) × (s ≡ empty) × (bs ≡ []))
+late Header limit s hs bs f g w = go (f .headerSent .0)
+  where
+    go : Sends (f .header) (f .headerCut) s → Among s hs ⊎ ((Header ≡ Body) × (s ≡ empty) × (bs ≡ []))
+    go (inl t) = inl (finished-every limit hs bs g (fits-less Header limit s hs bs f) w .header s t)
+    go (inr t) = absurd (omega (arith, f .object .headerLow, t .0))
+late Body limit s hs bs f g w = go (f .bodySent .0)
+  where
+    alone : (bs : List Segment) → s ≡ empty → Each (λ t. t ≡ empty) bs
+        → Among s bs ⊎ ((Body ≡ Body) × (s ≡ empty) × (bs ≡ []))
+    alone [] e q = inr (refl, e, refl)
+    alone (t ∷ ts) e q = inl (inl (q .0 ∙ sym e))
+
+    go : Sends (f .body) (f .bodyCut) s → Among s bs ⊎ ((Body ≡ Body) × (s ≡ empty) × (bs ≡ []))
+    go (inl t) = inl (finished-every limit hs bs g (fits-less Body limit s hs bs f) w .body s t)
+    go (inr t) = alone bs (t .1) (no-other limit hs (s ∷ bs) f (inl (t .1)) .1)
+
+-- so one that has bytes is in already
+finished-new : (part : Part) (limit : ℕ) (s : Segment) (hs bs : List Segment)
+    (f : Fits limit (headersWith part s hs) (bodiesWith part s bs)) (g : Fits limit hs bs) → 0 < length (s .bytes)
+    → Finished g → Among s (those part hs bs)
+finished-new part limit s hs bs f g b w = go (late part limit s hs bs f g w)
+  where
+    go : Among s (those part hs bs) ⊎ ((part ≡ Body) × (s ≡ empty) × (bs ≡ [])) → Among s (those part hs bs)
+    go (inl i) = i
+    go (inr e) = absurd (omega (arith, ap (λ (x : Segment). length (x .bytes)) (e .1)))
+
 -- ---- what an outcome tells
 
 abbrev pub Tells : Outcome → Part → ℕ → Segment → Slot → Lent → List Segment → List Segment → Taken → Type 0
 Tells Stored part limit s slot lent hs bs t = Added part limit s slot hs bs t
-    × ((f : Fits limit (headersWith part s hs) (bodiesWith part s bs)) → ¬ (Finished f))
+    × ((f : Fits limit (headersWith part s hs) (bodiesWith part s bs))
+    → (¬ (Finished f)) ⊎ ((g : Fits limit hs bs) × Finished g))
 Tells Complete part limit s slot lent hs bs t = Added part limit s slot hs bs t
-    × ((f : Fits limit (headersWith part s hs) (bodiesWith part s bs)) → Finished f)
+    × ((f : Fits limit (headersWith part s hs) (bodiesWith part s bs)) → Finished f) × (0 < length (s .bytes))
 Tells Repeat part limit s slot lent hs bs t = Among s (those part hs bs) × (t ≡ unchanged Repeat slot lent)
 Tells Conflict part limit s slot lent hs bs t = (¬ (Fits limit (headersWith part s hs) (bodiesWith part s bs)))
     × (t ≡ unchanged Conflict slot lent)
 
 by-stage : (part : Part) (limit : ℕ) (s : Segment) (slot : Slot) (lent : Lent) (hs bs : List Segment) (t : Taken)
-    (stage : Stage) → Added part limit s slot hs bs t
+    (count : ℕ) (stage : Stage) → length (s .bytes) ≡ count → Added part limit s slot hs bs t
     → ((f : Fits limit (headersWith part s hs) (bodiesWith part s bs)) → StageFor f stage)
-    → Tells (outcomeBy stage) part limit s slot lent hs bs t
-by-stage part limit s slot lent hs bs t Stage.Free w r = absurd (r (w .holds .gathers .object))
-by-stage part limit s slot lent hs bs t Stage.Gathering w r = (w, r)
-by-stage part limit s slot lent hs bs t (Stage.Finished h b) w r = (w, (λ f. r f .0))
+    → Tells (outcomeBy count stage) part limit s slot lent hs bs t
+by-stage part limit s slot lent hs bs t count Stage.Free e w r = absurd (r (w .holds .gathers .object))
+by-stage part limit s slot lent hs bs t count Stage.Gathering e w r = (w, (λ f. inl (r f)))
+by-stage part limit s slot lent hs bs t zero (Stage.Finished h b) e w r =
+    (w, (λ f. inr (finished-less part limit s hs bs f (among-some s (those part hs bs) e) (r f .0))))
+by-stage part limit s slot lent hs bs t (suc count) (Stage.Finished h b) e w r = (w, (λ f. r f .0), omega arith)
 
 module _ (part : Part) (limit : ℕ) (s : Segment) (slot : Slot) (lent : Lent) (hs bs : List Segment)
     (z : limit ≤ limitMost) (y : Bytes (s .bytes)) (g : Gathers limit (partsOf slot lent) hs bs) where
@@ -109,7 +170,8 @@ module _ (part : Part) (limit : ℕ) (s : Segment) (slot : Slot) (lent : Lent) (
       let ps : Parts = partsWith part limit s (partsOf slot lent) in
       let k : Gathers limit ps (headersWith part s hs) (bodiesWith part s bs) =
       next-gathers part limit s (partsOf slot lent) hs bs g a f in
-      by-stage part limit s slot lent hs bs (storedAs (slot .number) ps) (stageOf ps)
+      by-stage part limit s slot lent hs bs (storedAs (length (s .bytes)) (slot .number) ps) (length (s .bytes))
+      (stageOf ps) refl
       (record {
         new = a;
         holds = parts-hold limit (slot .number) ps (headersWith part s hs) (bodiesWith part s bs)
@@ -158,32 +220,6 @@ module _ (part : Part) (limit : ℕ) (s : Segment) (slot : Slot) (lent : Lent) (
 
 -- ---- each outcome comes exactly when
 
--- a segment that is in brings nothing new
-among-with : (s : Segment) (ss : List Segment) → Among s ss → (t : Segment) → Among t (s ∷ ss) → Among t ss
-among-with s ss i t (inl e) = rw e at i
-among-with s ss i t (inr j) = j
-
-finished-less : (part : Part) (limit : ℕ) (s : Segment) (hs bs : List Segment)
-    (f : Fits limit (headersWith part s hs) (bodiesWith part s bs)) → Among s (those part hs bs) → Finished f
-    → (g : Fits limit hs bs) × Finished g
-finished-less Header limit s hs bs f i w = (
-  fits-less Header limit s hs bs f,
-  record { header = λ t u. among-with s hs i t (w .header t u); body = w .body },
-)
-finished-less Body limit s hs bs f i w = (
-  fits-less Body limit s hs bs f,
-  record { header = w .header; body = λ t u. among-with s bs i t (w .body t u) },
-)
-
--- once every segment is in, one of a new number does not fit
-finished-new : (part : Part) (limit : ℕ) (s : Segment) (hs bs : List Segment)
-    (f : Fits limit (headersWith part s hs) (bodiesWith part s bs)) (g : Fits limit hs bs) → Finished g
-    → Among s (those part hs bs)
-finished-new Header limit s hs bs f g w = finished-every limit hs bs g (fits-less Header limit s hs bs f) w .header s
-    (f .headerSent .0)
-finished-new Body limit s hs bs f g w = finished-every limit hs bs g (fits-less Body limit s hs bs f) w .body s
-    (f .bodySent .0)
-
 module _ (part : Part) (limit : ℕ) (s : Segment) (slot : Slot) (lent : Lent) (hs bs : List Segment)
     (z : limit ≤ limitMost) (y : Bytes (s .bytes)) (g : Gathers limit (partsOf slot lent) hs bs) where
   tells : (o : Outcome) → takeInto part limit s slot lent .outcome ≡ o
@@ -228,7 +264,7 @@ module _ (part : Part) (limit : ℕ) (s : Segment) (slot : Slot) (lent : Lent) (
         let w = tells Complete e in
         let f = w .0 .holds .gathers .object in (
           (f, w .1 f),
-          (λ old d. w .0 .new (among-numbered s (those part hs bs) (finished-new part limit s hs bs f old d))),
+          (λ old d. w .0 .new (among-numbered s (those part hs bs) (finished-new part limit s hs bs f old (w .2) d))),
         )),
     (λ r. go (takeInto part limit s slot lent .outcome) (r .0 .0) (r .0 .1) (r .1)
         (tells (takeInto part limit s slot lent .outcome) refl)),
@@ -237,15 +273,21 @@ module _ (part : Part) (limit : ℕ) (s : Segment) (slot : Slot) (lent : Lent) (
       go : (o : Outcome) (f : Fits limit (headersWith part s hs) (bodiesWith part s bs)) → Finished f
           → ((f : Fits limit hs bs) → ¬ (Finished f))
           → Tells o part limit s slot lent hs bs (takeInto part limit s slot lent) → o ≡ Complete
-      go Stored f d n w = absurd (w .1 f d)
+      go Stored f d n w = by (w .1 f)
+        where
+          by : (¬ (Finished f)) ⊎ ((g : Fits limit hs bs) × Finished g) → Stored ≡ Complete
+          by (inl x) = absurd (x d)
+          by (inr x) = absurd (n (x .0) (x .1))
       go Complete f d n w = refl
-      go Repeat f d n w = let r = finished-less part limit s hs bs f (w .0) d in absurd (n (r .0) (r .1))
+      go Repeat f d n w = let r = finished-less part limit s hs bs f (λ t b. with-one s (those part hs bs) (w .0) t) d
+          in
+          absurd (n (r .0) (r .1))
       go Conflict f d n w = absurd (w .0 f)
 
-  -- STORED: it is new and fits, and with it some segment is still missing
+  -- STORED: it is new and fits, and with it some segment is still missing, or before it none was
   pub stored-exactly : (takeInto part limit s slot lent .outcome ≡ Stored)
-      ↔ (((f : Fits limit (headersWith part s hs) (bodiesWith part s bs)) × (¬ (Finished f)))
-      × (¬ (Among s (those part hs bs))))
+      ↔ (((f : Fits limit (headersWith part s hs) (bodiesWith part s bs))
+      × ((¬ (Finished f)) ⊎ ((g : Fits limit hs bs) × Finished g))) × (¬ (Among s (those part hs bs))))
   stored-exactly = (
     (λ e. let w = tells Stored e in let f = w .0 .holds .gathers .object in
         ((f, w .1 f), (λ i. w .0 .new (among-numbered s (those part hs bs) i)))),
@@ -253,11 +295,12 @@ module _ (part : Part) (limit : ℕ) (s : Segment) (slot : Slot) (lent : Lent) (
         (tells (takeInto part limit s slot lent .outcome) refl)),
   )
     where
-      go : (o : Outcome) (f : Fits limit (headersWith part s hs) (bodiesWith part s bs)) → ¬ (Finished f)
-          → ¬ (Among s (those part hs bs)) → Tells o part limit s slot lent hs bs (takeInto part limit s slot lent) → o
-          ≡ Stored
+      go : (o : Outcome) (f : Fits limit (headersWith part s hs) (bodiesWith part s bs))
+          → (¬ (Finished f)) ⊎ ((g : Fits limit hs bs) × Finished g) → ¬ (Among s (those part hs bs))
+          → Tells o part limit s slot lent hs bs (takeInto part limit s slot lent) → o ≡ Stored
       go Stored f d n w = refl
-      go Complete f d n w = absurd (d (w .1 f))
+      go Complete f (inl d) n w = absurd (d (w .1 f))
+      go Complete f (inr d) n w = absurd (n (finished-new part limit s hs bs f (d .0) (w .2) (d .1)))
       go Repeat f d n w = absurd (n (w .0))
       go Conflict f d n w = absurd (w .0 f)
 

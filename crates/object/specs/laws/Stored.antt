@@ -144,12 +144,13 @@ module _ (tally : Tally) (limit : ℕ) (core : Core) (s : Segment) (slot : Slot)
 -- ---- what storing leaves
 
 -- two parts, where the stage is worked out from their marks
-left-is : (number : ℕ) (stage : Stage) (h b : Memory) → length (h .marks) ≡ headerNumbers
-    → left (tookOf number (partsOf (record { number = number; stage = stage; header = h .kept; body = b .kept })
+left-is : (count number : ℕ) (stage : Stage) (h b : Memory) → length (h .marks) ≡ headerNumbers
+    → left (tookOf count number (partsOf (record { number = number; stage = stage; header = h .kept; body = b .kept })
     (shares (h .share) [] (h .marks ++ b .marks)))) (shares (h .share) (b .share) (h .marks ++ b .marks))
-    ≡ storedAs number (record { header = h; body = b })
+    ≡ storedAs count number (record { header = h; body = b })
 unfolding slotWith stageOf partsOf coreIn lentOf
-left-is number stage h b e = rw (marks-apart (h .marks) (b .marks) e .0, marks-apart (h .marks) (b .marks) e .1) refl
+left-is count number stage h b e =
+    rw (marks-apart (h .marks) (b .marks) e .0, marks-apart (h .marks) (b .marks) e .1) refl
 
 module _ (limit : ℕ) (s : Segment) (slot : Slot) (lent : Lent)
     (long : length (lent .marks) ≡ headerNumbers + bodyNumbers) where
@@ -161,10 +162,11 @@ module _ (limit : ℕ) (s : Segment) (slot : Slot) (lent : Lent)
       → memory new marks header
       ≡ put s (settled new (memory (slot .header) (marksOf Header (lent .marks)) (lent .header)))
       → body ≡ movedAs (slot .body .size) (still .size) (slot .body .end) (slot .body .tail) (lent .body)
-      → r ≡ tookOf (slot .number) (partsOf (record { number = slot .number; stage = stage; header = new; body = still })
+      → r ≡ tookOf (length (s .bytes)) (slot .number)
+      (partsOf (record { number = slot .number; stage = stage; header = new; body = still })
       (shares header [] (marks ++ marksOf Body (lent .marks))))
       → left r (shares header body (marks ++ marksOf Body (lent .marks)))
-      ≡ storedAs (slot .number) (partsWith Header limit s (partsOf slot lent))
+      ≡ storedAs (length (s .bytes)) (slot .number) (partsWith Header limit s (partsOf slot lent))
   unfolding partsWith settled partsOf
   stored-header r new still stage marks header body e f g h i =
       let b : Memory = memory still (marksOf Body (lent .marks)) body in
@@ -173,8 +175,8 @@ module _ (limit : ℕ) (s : Segment) (slot : Slot) (lent : Lent)
       ∙ put-long (settled new (memory (slot .header) (marksOf Header (lent .marks)) (lent .header)))
       ∙ simp length-take (omega arith) in
       ap (λ (x : Took). left x (shares header body (marks ++ marksOf Body (lent .marks)))) i
-      ∙ left-is (slot .number) stage m b apart
-      ∙ ap (storedAs (slot .number)) (rw (g, h, e, f) refl)
+      ∙ left-is (length (s .bytes)) (slot .number) stage m b apart
+      ∙ ap (storedAs (length (s .bytes)) (slot .number)) (rw (g, h, e, f) refl)
     where
       put-long : (x : Memory) → length (put s x .marks) ≡ length (x .marks)
       put-long x = unfold put in (length-set (x .marks) (s .number) 1)
@@ -184,19 +186,21 @@ module _ (limit : ℕ) (s : Segment) (slot : Slot) (lent : Lent)
       → new ≡ recordAfter Body limit s (partsOf slot lent)
       → memory new marks body ≡ put s (settled new (memory (slot .body) (marksOf Body (lent .marks)) (lent .body)))
       → whole ≡ marksOf Header (lent .marks) ++ marks
-      → r ≡ tookOf (slot .number)
+      → r ≡ tookOf (length (s .bytes)) (slot .number)
       (partsOf (record { number = slot .number; stage = stage; header = slot .header; body = new })
       (shares (lent .header) [] whole))
-      → left r (shares (lent .header) body whole) ≡ storedAs (slot .number) (partsWith Body limit s (partsOf slot lent))
+      → left r (shares (lent .header) body whole)
+      ≡ storedAs (length (s .bytes)) (slot .number) (partsWith Body limit s (partsOf slot lent))
   unfolding partsWith settled partsOf
   stored-body r new stage marks whole body e g h i =
       let b : Memory = memory new marks body in
       let m : Memory = memory (slot .header) (marksOf Header (lent .marks)) (lent .header) in
       let apart : length (marksOf Header (lent .marks)) ≡ headerNumbers = simp length-take (omega arith) in
       let kept : Slot = record { number = slot .number; stage = stage; header = slot .header; body = new } in
-      let put : left (tookOf (slot .number) (partsOf kept (shares (lent .header) [] whole)))
-      (shares (lent .header) body whole) ≡ storedAs (slot .number) (record { header = m; body = b }) =
-      rw h (left-is (slot .number) stage m b apart) in
+      let put : left (tookOf (length (s .bytes)) (slot .number) (partsOf kept (shares (lent .header) [] whole)))
+      (shares (lent .header) body whole)
+      ≡ storedAs (length (s .bytes)) (slot .number) (record { header = m; body = b }) =
+      rw h (left-is (length (s .bytes)) (slot .number) stage m b apart) in
       ap (λ (x : Took). left x (shares (lent .header) body whole)) i
       ∙ put
-      ∙ ap (storedAs (slot .number)) (rw (g, e) refl)
+      ∙ ap (storedAs (length (s .bytes)) (slot .number)) (rw (g, e) refl)

@@ -91,7 +91,8 @@ sits-before false S L size n k t (inl z) = rw z (omega arith)
 sits-before false S L size n k t (inr z) = rw z (omega arith)
 
 pub sits-number : (last : Bool) (b : Bounds) (S L n k : ℕ) → WithinOf b S L → SitsAs last S L n k → n < b .numbers
-sits-number true b S L n k w t = below S n (b .numbers) (omega (arith, w .enough))
+sits-number true b S L n k w t =
+    below S n (b .numbers) (omega (arith, w .enough, w .low, mul-le-mul-right S (w .any)))
 sits-number false b S L n k w t = below S n (b .numbers) (omega (arith, w .enough, w .low))
 
 -- the last one, under a size that is 0 or the cut

@@ -240,10 +240,10 @@ last-below : (S x y : ℕ) → x * S < y * S + S → x ≤ y
 last-below S x y h = let g : x * S < suc y * S = omega arith in omega (arith, lt-of-mul-lt-mul-right S g)
 
 -- a part has one last segment
-pub one-last : (S L : ℕ) (s t : Segment) → Sits S L s → Sits S L t → s .last ≡ true → t .last ≡ true → s .number
-    ≡ t .number
+pub one-last : (S L : ℕ) (s t : Segment) → 0 < S → Sits S L s → Sits S L t → s .last ≡ true → t .last ≡ true
+    → s .number ≡ t .number
 unfolding Sits
-one-last S L s t a b e f =
+one-last S L s t z a b e f =
     let a' : SitsAs true S L (s .number) (length (s .bytes)) = rw e at a in
     let b' : SitsAs true S L (t .number) (length (t .bytes)) = rw f at b in
     omega (
@@ -262,7 +262,8 @@ size-other c S L s ss w sits a = go (size-is c S L (s ∷ ss) w sits)
     go (inr e) = each-of e ss
     go (inl e) =
         let l = size-none c S L (s ∷ ss) w sits e in
-        each-zip3 (λ t u f d. absurd (d (one-last S L s t (sits .0) u (l .0) f))) ss (sits .1) (l .1) a
+        each-zip3 (λ t u f d. absurd (d (one-last S L s t (omega (arith, w .low)) (sits .0) u (l .0) f))) ss (sits .1)
+        (l .1) a
 
 set-bits : (marks : List ℕ) (i : ℕ) → Each (λ m. m ≤ 1) marks → Each (λ m. m ≤ 1) (set marks i 1)
 set-bits [] zero e = tt

@@ -97,19 +97,22 @@ cast-size c = omega arith
 word-at-requires-2 : tie.Need-word-at-requires-2
 word-at-requires-2 c κs = omega arith
 
+least-size-requires : tie.Need-least-size-requires
+least-size-requires c κs = search needs
+
 size-wrong-requires : tie.Need-size-wrong-requires
 size-wrong-requires c κs = search needs
 
 returns-7 : tie.Need-returns-7
 returns-7 c =
-    let w = c .before .before in
+    let w = c .before .before .before in
     let f = w .before .before in
     let e = f .before .before .before .before .before in
     let s = start (e .before) in
     size-refused (s .args .group .now) (s .args .part) (e .before .before .if1 .left) (e .before .if2 .left)
     (e .if3 .left) (f .before .before .if4 .left) (f .before .if5 .left) (f .if6 .left)
     (w .before .word-at .result) (w .word-at2 .result) (w .before .word-at .ensures) (w .word-at2 .ensures)
-    (sym (c .before .size-wrong .ensures) ∙ c .if7 .taken)
+    (rw (c .before .before .least-size .ensures) at (sym (c .before .size-wrong .ensures) ∙ c .if7 .taken))
 
 add-word-at-3 : tie.Need-add-word-at-3
 add-word-at-3 c = omega arith
@@ -117,25 +120,23 @@ add-word-at-3 c = omega arith
 word-at-requires-3 : tie.Need-word-at-requires-3
 word-at-requires-3 c κs = omega arith
 
-word-at-requires-4 : tie.Need-word-at-requires-4
-word-at-requires-4 c κs = omega arith
-
 returns-8 : tie.Need-returns-8
 returns-8 c =
-    let r = c .before .before in
-    let w = r .before .before in
+    let r = c .before in
+    let w = r .before .before .before in
     let f = w .before .before in
     let e = f .before .before .before .before .before in
     let s = start (e .before) in
     segment-read (s .args .group .now) (s .args .part) (e .before .before .if1 .left) (e .before .if2 .left)
     (e .if3 .left) (f .before .before .if4 .left) (f .before .if5 .left) (f .if6 .left)
     (w .before .word-at .result) (w .word-at2 .result) (w .before .word-at .ensures) (w .word-at2 .ensures)
-    (c .before .word-at3 .result) (c .word-at4 .result) (sym (r .before .size-wrong .ensures) ∙ r .if7 .left)
-    (c .before .word-at3 .ensures) (c .word-at4 .ensures)
+    (c .word-at3 .result)
+    (rw (r .before .before .least-size .ensures) at (sym (r .before .size-wrong .ensures) ∙ r .if7 .left))
+    (c .word-at3 .ensures)
 
 pub session-spec : {M : Type 1} → statement M
 session-spec =
     tie.close (tie.spec shared-slice-read-flags returns returns-2 sub-end cast-field mul-field add-field add-access
     add-if3 returns-3 shared-slice-read-indicator cast-indicator shared-slice-read-if4 returns-4 returns-5 add-start
     add-start-2 add-start-3 returns-6 add-word-at add-word-at-2 word-at-requires cast-size word-at-requires-2
-    size-wrong-requires returns-7 add-word-at-3 word-at-requires-3 word-at-requires-4 returns-8)
+    least-size-requires size-wrong-requires returns-7 add-word-at-3 word-at-requires-3 returns-8)

@@ -9,8 +9,8 @@ use Rattle.answer.specs.declared.Part.{Part}
 use Rattle.answer.specs.declared.Refusal.the-variants as Refusal
 use Rattle.wire.specs.declared.Reading.{Reading}
 use Rattle.wire.specs.declared.Reading.the-variants.{Read}
-use Rattle.wire.specs.Wire.{groupLeast, groupMost, crcFlag, segmentFlag, userAccessFlag, typeNumber, lastFlag, userAccess, transportFlag, lengthIndicator, segmentSize, segmentStart, checkStart}
-use Rattle.wire.specs.Reading.{_if_otherwise_, kindOf, checkHolds, sizeWrong, segmentOf, carriedBy, readingOf}
+use Rattle.wire.specs.Wire.{groupLeast, groupMost, crcFlag, segmentFlag, userAccessFlag, typeNumber, lastFlag, segmentNumber, userAccess, transportFlag, lengthIndicator, segmentSize, segmentStart, checkStart}
+use Rattle.wire.specs.Reading.{_if_otherwise_, kindOf, checkHolds, leastSize, sizeWrong, segmentOf, carriedBy, readingOf}
 
 unfoldable pub sessionOf : List ℕ → Part → Reading
 sessionOf group part =
@@ -18,7 +18,8 @@ sessionOf group part =
     Refusal.Length if ltb (checkStart group) (userAccess group + 1) otherwise
     Refusal.Address if eqb (transportFlag group) 0 || ltb (lengthIndicator group) 2 otherwise
     Refusal.Length if ltb (checkStart group) (segmentStart group) otherwise
-    Refusal.Size if sizeWrong (segmentSize group) (checkStart group - segmentStart group) (lastFlag group) otherwise
+    Refusal.Size if sizeWrong (leastSize part (segmentNumber group) (lastFlag group)) (segmentSize group)
+    (checkStart group - segmentStart group) otherwise
     Read (segmentOf group part)
 
 pub in-two-halves : (group : List ℕ) → readingOf group ≡ (

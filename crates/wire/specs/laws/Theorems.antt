@@ -3,12 +3,13 @@
 use mathlib.Core.Path.{_≡_, refl, ap, _∙_, subst}
 use mathlib.Core.Bool.{Bool, true, false, not, _||_, _&&_}
 use mathlib.Core.List.{List}
-use Prim.Native.Nat.{ℕ, _+_, _-_, _≤_}
+use Prim.Native.Nat.{ℕ, zero, suc, _+_, _-_, _≤_}
 use native.Mathlib.Omega.{arith}
 use lib.ListN.{length, take, drop}
 use lib.Dec.{eqb, ltb}
-use borrow.Author.Tests.{ltb-false, eqb-true, not-false}
+use borrow.Author.Tests.{ltb-false, le-ltb, eqb-true, not-false}
 use Rattle.answer.specs.declared.Part.{Part}
+use Rattle.answer.specs.declared.Part.the-variants.{Header, Body}
 use Rattle.answer.specs.declared.Refusal.{Refusal}
 use Rattle.wire.specs.declared.Kind.{Kind}
 use Rattle.wire.specs.declared.Kind.the-variants.{Carries, Other}
@@ -16,7 +17,7 @@ use Rattle.wire.specs.declared.Carried.{Carried}
 use Rattle.wire.specs.declared.Reading.{Reading}
 use Rattle.wire.specs.declared.Reading.the-variants.{Read}
 use Rattle.wire.specs.Wire.{groupLeast, groupMost, segmentLeast, segmentMost, fullLeast, checkBytes, byteAt, crcFlag, segmentFlag, userAccessFlag, typeNumber, lastFlag, segmentNumber, userAccess, transportFlag, lengthIndicator, transportNumber, segmentSize, segmentStart, checkStart}
-use Rattle.wire.specs.Reading.{bytesIn, _if_otherwise_, kindOf, checkHolds, sizeWrong, segmentOf, carriedBy, readingOf}
+use Rattle.wire.specs.Reading.{bytesIn, _if_otherwise_, kindOf, checkHolds, leastSize, sizeWrong, segmentOf, carriedBy, readingOf}
 
 -- ---- a group is read exactly when it passes every check
 
@@ -31,7 +32,8 @@ pub record Passes (group : List ℕ) (part : Part) : Type 0 where
   pub accessed : ltb (checkStart group) (userAccess group + 1) ≡ false
   pub addressed : (eqb (transportFlag group) 0 || ltb (lengthIndicator group) 2) ≡ false
   pub segmented : ltb (checkStart group) (segmentStart group) ≡ false
-  pub sized : sizeWrong (segmentSize group) (checkStart group - segmentStart group) (lastFlag group) ≡ false
+  pub sized : sizeWrong (leastSize part (segmentNumber group) (lastFlag group)) (segmentSize group)
+      (checkStart group - segmentStart group) ≡ false
 
 passed : (refusal : Refusal) (test : Bool) (next : Reading) (segment : Carried)
     → (refusal if test otherwise next) ≡ Read segment → (test ≡ false) × (next ≡ Read segment)
@@ -89,40 +91,91 @@ passes-read group part p = rw (
 
 -- ---- where the bytes lie
 
--- the segment's bytes: between the segmentation header and the check word, 1 to 8,189 of them, and at least 16 where
--- the segment is not the last one
+-- the segment's bytes: between the segmentation header and the check word, up to 8,189 of them, at least 16 where the
+-- segment is not the last one, and none only where it is number 0 of a body, and the last one
 pub record Inside (group : List ℕ) (segment : Carried) : Type 0 where
   pub ends : segment .start + segment .length + checkBytes ≡ length group
-  pub some : segmentLeast ≤ segment .length
   pub most : segment .length ≤ segmentMost
   pub enough : segment .last ≡ false → fullLeast ≤ segment .length
+  pub empty : segment .length ≡ 0 → (segment .part ≡ Body) × (segment .segment ≡ 0) × (segment .last ≡ true)
 
 either-false : (a b : Bool) → (a || b) ≡ false → (a ≡ false) × (b ≡ false)
 either-false true b e = let z : _≡_ {A = ℕ} 0 1 = cc in absurd (omega arith)
 either-false false b e = (refl, e)
 
-long-enough : (last : Bool) (size : ℕ) → (not last && ltb size fullLeast) ≡ false → last ≡ false → fullLeast ≤ size
-long-enough true size e f = let z : _≡_ {A = ℕ} 0 1 = cc in absurd (omega arith)
-long-enough false size e f = ltb-false size fullLeast e
-
-size-right : (size left : ℕ) (last : Bool) → sizeWrong size left last ≡ false → (size ≡ left) × (segmentLeast ≤ size)
-    × (size ≤ segmentMost) × (last ≡ false → fullLeast ≤ size)
+size-right : (least size left : ℕ) → sizeWrong least size left ≡ false → (size ≡ left) × (least ≤ size)
+    × (size ≤ segmentMost)
 unfolding sizeWrong
-size-right size left last e =
-    let tests = either-false _ (not last && ltb size fullLeast) e in
-    let most = either-false _ (ltb segmentMost size) (tests .0) in
-    let equal = either-false (ltb size segmentLeast) _ (most .0) in
+size-right least size left e =
+    let most = either-false _ (ltb segmentMost size) e in
+    let equal = either-false (ltb size least) _ (most .0) in
     let same : size ≡ left = eqb-true size left (not-false (eqb size left) (equal .1)) in
-    (same, ltb-false size _ (equal .0), ltb-false _ size (most .1), long-enough last size (tests .1))
+    (same, ltb-false size least (equal .0), ltb-false _ size (most .1))
+
+long-enough : (part : Part) (number : ℕ) (last : Bool) (size : ℕ) → leastSize part number last ≤ size → last ≡ false
+    → fullLeast ≤ size
+long-enough part number true size h f = let z : _≡_ {A = ℕ} 0 1 = cc in absurd (omega arith)
+long-enough Header number false size h f = h
+long-enough Body number false size h f = h
+
+empty-only : (part : Part) (number : ℕ) (last : Bool) (size : ℕ) → leastSize part number last ≤ size → size ≡ 0
+    → (part ≡ Body) × (number ≡ 0) × (last ≡ true)
+empty-only Header number true size h z = absurd (omega arith)
+empty-only Header number false size h z = absurd (omega arith)
+empty-only Body zero true size h z = (refl, refl, refl)
+empty-only Body (suc number) true size h z = absurd (omega arith)
+empty-only Body zero false size h z = absurd (omega arith)
+empty-only Body (suc number) false size h z = absurd (omega arith)
+
+-- NOTHING CHANGES for a size field that is not 0: it is wrong where document 01 says
+pub size-as-before : (part : Part) (number : ℕ) (last : Bool) (size left : ℕ) → segmentLeast ≤ size
+    → sizeWrong (leastSize part number last) size left
+    ≡ (ltb size segmentLeast || not (eqb size left) || ltb segmentMost size || (not last && ltb size fullLeast))
+unfolding sizeWrong
+size-as-before part number last size left h = go part number last
+  where
+    first : ltb size segmentLeast ≡ false
+    first = le-ltb size segmentLeast h
+
+    short : (a b c : Bool) → (c || a || b) ≡ (false || a || b || c)
+    short true true true = refl
+    short true true false = refl
+    short true false true = refl
+    short true false false = refl
+    short false true true = refl
+    short false true false = refl
+    short false false true = refl
+    short false false false = refl
+
+    full : (a b : Bool) → (false || a || b) ≡ (false || a || b || false)
+    full true true = refl
+    full true false = refl
+    full false true = refl
+    full false false = refl
+
+    go : (part : Part) (number : ℕ) (last : Bool)
+        → (ltb size (leastSize part number last) || not (eqb size left) || ltb segmentMost size)
+        ≡ (ltb size segmentLeast || not (eqb size left) || ltb segmentMost size || (not last && ltb size fullLeast))
+    go Header number false = rw first (short (not (eqb size left)) (ltb segmentMost size) (ltb size fullLeast))
+    go Body number false = rw first (short (not (eqb size left)) (ltb segmentMost size) (ltb size fullLeast))
+    go Header number true = rw first (full (not (eqb size left)) (ltb segmentMost size))
+    go Body (suc number) true = rw first (full (not (eqb size left)) (ltb segmentMost size))
+    go Body zero true = rw (first, le-ltb size 0 (omega arith)) (full (not (eqb size left)) (ltb segmentMost size))
 
 inside-passes : (group : List ℕ) (part : Part) → Passes group part → Inside group (segmentOf group part)
 unfolding segmentOf
 inside-passes group part p =
-    let size = size-right (segmentSize group) (checkStart group - segmentStart group) (lastFlag group) (p .sized) in
+    let size = size-right (leastSize part (segmentNumber group) (lastFlag group)) (segmentSize group)
+    (checkStart group - segmentStart group) (p .sized) in
     let whole : groupLeast ≤ length group = ltb-false (length group) groupLeast (either-false _ _ (p .bounded) .0) in
     let starts : segmentStart group ≤ checkStart group =
     ltb-false (checkStart group) (segmentStart group) (p .segmented) in
-    record { ends = omega (arith, size .0); some = size .1; most = size .2; enough = size .3 }
+    record {
+      ends = omega (arith, size .0);
+      most = size .2;
+      enough = long-enough part (segmentNumber group) (lastFlag group) (segmentSize group) (size .1);
+      empty = empty-only part (segmentNumber group) (lastFlag group) (segmentSize group) (size .1);
+    }
 
 pub inside : (group : List ℕ) (segment : Carried) → readingOf group ≡ Read segment → Inside group segment
 inside group segment e =

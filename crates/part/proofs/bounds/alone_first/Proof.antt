@@ -10,23 +10,20 @@ returns : tie.Need-returns
 returns c = let a = c .before .args in refused (firstTests (a .b) (a .tail)) (λ r. omega (arith, leb-true))
 
 returns-2 : tie.Need-returns-2
-returns-2 c = let a = c .before .before .args in refused (firstTests (a .b) (a .tail)) (λ r. omega (arith, leb-true))
+returns-2 c = let a = c .before .before .before .args in
+    refused (firstTests (a .b) (a .tail)) (λ r. omega (arith, leb-true))
 
 returns-3 : tie.Need-returns-3
-returns-3 c = let a = c .before .before .before .before .args in
+returns-3 c = let a = c .before .before .before .before .before .args in
     refused (firstTests (a .b) (a .tail)) (λ r. omega (arith, leb-true))
 
 returns-4 : tie.Need-returns-4
-returns-4 c = let a = c .before .before .before .before .before .before .args in
+returns-4 c = let a = c .before .before .before .before .before .before .before .args in
     refused (firstTests (a .b) (a .tail)) (λ r. omega (arith, leb-true))
 
 returns-5 : tie.Need-returns-5
-returns-5 c = let a = c .before .before .before .before .before .before .before .before .args in
-    refused (firstTests (a .b) (a .tail)) (λ r. omega (arith, leb-true))
-
-returns-6 : tie.Need-returns-6
-returns-6 c = let a = c .before .before .before .before .before .before .before .before .args in
+returns-5 c = let a = c .before .before .before .before .before .before .before .args in
     granted (firstTests (a .b) (a .tail)) (omega (arith, le-leb))
 
 pub alone-first-spec : {M : Type 1} → statement M
-alone-first-spec = tie.close (tie.spec returns returns-2 returns-3 returns-4 returns-5 returns-6)
+alone-first-spec = tie.close (tie.spec returns returns-2 returns-3 returns-4 returns-5)
