@@ -126,7 +126,7 @@ impl Held {
     }
 
     /// Whether every segment of a part is in: the last one and all before it, none of them being
-    /// held twice; or none where the core says that the body is empty.
+    /// held twice. Where the core says that the body is empty there is none to wait for.
     fn is_whole(&self, part: Part) -> bool {
         let empty = part == Part::Body && self.core().is_some_and(|core| core.body_size == 0);
         let count = self.pieces(part).len();
@@ -279,13 +279,20 @@ impl Collector {
         let answer = if held.pieces(part).contains(&piece) {
             Answer::Repeat
         } else {
+            let stage_before = held.stage();
             let sizes_before = [Part::Header, Part::Body].map(|part| held.known_size(part));
             held.pieces_mut(part).push(piece);
             if !object::fits(self.limit, &held.header, &held.body) {
                 held.pieces_mut(part).pop();
                 Answer::Conflict
             } else if let Some(slot) = held_in.or(lowest_free) {
-                return self.store_newest(slot, held, part, sizes_before);
+                let stage = held.stage();
+                self.store_newest(slot, held, part, sizes_before);
+                return if stage != Stage::Gathering && stage_before == Stage::Gathering {
+                    Answer::Complete
+                } else {
+                    Answer::Stored
+                };
             } else {
                 Answer::Full
             }
@@ -304,7 +311,7 @@ impl Collector {
         held: Held,
         part: Part,
         sizes_before: [Option<usize>; 2],
-    ) -> Answer {
+    ) {
         let (newest, older) = held.pieces(part).split_last().expect("the newest piece");
         for (each, before) in [Part::Header, Part::Body].into_iter().zip(sizes_before) {
             let there_before = if each == part {
@@ -320,13 +327,7 @@ impl Collector {
         let start = share.start + held.place(part, share.len(), newest);
         self.store(part)[start..start + newest.bytes.len()].copy_from_slice(&newest.bytes);
         self.marks(slot, part)[usize::from(newest.number)] = 1;
-
-        let answer = match held.stage() {
-            Stage::Gathering => Answer::Stored,
-            Stage::Finished { .. } => Answer::Complete,
-        };
         self.slots[slot] = Some(held);
-        answer
     }
 
     /// Copies a last segment that stands at the end of its share to where this size puts it.
@@ -488,11 +489,34 @@ mod tests {
         );
         assert_eq!(collector.show(9, Part::Header), Ok(&header[..]));
         assert_eq!(collector.show(9, Part::Body), Ok(&[][..]));
-        // No body segment belongs to it.
+        // No body segment belongs to it but the empty one, which is stored once.
+        let some = body_group(9, 0, true, &[1]);
+        let empty = body_group(9, 0, true, &[]);
+        assert_eq!(answer(&mut collector, &some), Answer::Conflict);
+        assert_eq!(answer(&mut collector, &empty), Answer::Stored);
+        assert_eq!(answer(&mut collector, &empty), Answer::Repeat);
+        assert_eq!(answer(&mut collector, &some), Answer::Conflict);
+        assert_eq!(collector.show(9, Part::Header), Ok(&header[..]));
+        assert_eq!(collector.show(9, Part::Body), Ok(&[][..]));
+        assert_eq!(collector.counts.in_order(), [2, 1, 2, 1, 0]);
+    }
+
+    /// Document 02, Item 2: the empty body segment comes before its header.
+    #[test]
+    fn empty_segment_first() {
+        let mut collector = opened(1);
+        let empty = body_group(9, 0, true, &[]);
+        assert_eq!(answer(&mut collector, &empty), Answer::Stored);
+        assert_eq!(answer(&mut collector, &empty), Answer::Repeat);
         assert_eq!(
-            answer(&mut collector, &body_group(9, 0, true, &[1])),
+            answer(&mut collector, &body_group(9, 1, true, &[1; 5])),
             Answer::Conflict
         );
+        assert_eq!(answer(&mut collector, &says(9, 1)), Answer::Conflict);
+        assert_eq!(collector.show(9, Part::Body), Err(Answer::Unfinished));
+        assert_eq!(answer(&mut collector, &says(9, 0)), Answer::Complete);
+        assert_eq!(answer(&mut collector, &empty), Answer::Repeat);
+        assert_eq!(collector.show(9, Part::Body), Ok(&[][..]));
     }
 
     /// Document 01: body last n 3, k 10 is in, then the header says B.

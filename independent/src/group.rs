@@ -128,10 +128,12 @@ pub fn read(group: &[u8]) -> Reading {
         return Err(Refusal::Length);
     }
     let last = fields[segment_field] & 0x80 != 0;
+    let number = two_bytes(fields, segment_field) & 0x7FFF;
     let size = usize::from(two_bytes(fields, segmentation_header) & 0x1FFF);
-    if size == 0
-        || size != fields.len() - start
+    let may_be_empty = part == Part::Body && last && number == 0;
+    if size != fields.len() - start
         || size > LONGEST_SEGMENT
+        || (size == 0 && !may_be_empty)
         || (size < SHORTEST_FULL_SEGMENT && !last)
     {
         return Err(Refusal::Size);
@@ -139,7 +141,7 @@ pub fn read(group: &[u8]) -> Reading {
     Ok(Segment {
         transport: two_bytes(fields, user_access + 1),
         part,
-        number: two_bytes(fields, segment_field) & 0x7FFF,
+        number,
         last,
         start,
         length: size,
@@ -422,7 +424,9 @@ mod tests {
             fields.size = size;
             read(&fields.whole()).map(|segment| segment.length)
         };
-        assert_eq!(read_of(true, 0, 0), Err(Refusal::Size));
+        assert_eq!(read_of(true, 0, 0), Ok(0));
+        assert_eq!(read_of(false, 0, 0), Err(Refusal::Size));
+        assert_eq!(read_of(true, 0, 1), Err(Refusal::Size));
         assert_eq!(read_of(true, 1, 0), Err(Refusal::Size));
         assert_eq!(read_of(true, 1, 1), Ok(1));
         assert_eq!(read_of(true, 2, 1), Err(Refusal::Size));
@@ -433,6 +437,20 @@ mod tests {
         assert_eq!(read_of(false, 8_189, 8_189), Ok(8_189));
         assert_eq!(read_of(false, 8_190, 8_190), Err(Refusal::Size));
         assert_eq!(read_of(true, 8_191, 8_191), Err(Refusal::Size));
+    }
+
+    /// Document 02, Item 2: no bytes are right for number 0 of a body, last, and for nothing else.
+    #[test]
+    fn empty_segments() {
+        for part in [Part::Header, Part::Body] {
+            for number in [0, 1, 1_023, 32_767] {
+                for last in [true, false] {
+                    let group = Fields::of_segment(9, part, number, last, &[]).whole();
+                    let right = part == Part::Body && number == 0 && last;
+                    assert_eq!(read(&group).is_ok(), right, "{part:?} {number} {last}");
+                }
+            }
+        }
     }
 
     #[test]

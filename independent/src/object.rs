@@ -77,9 +77,23 @@ pub fn cut(part: &[u8], size: usize) -> Vec<Piece> {
         .collect()
 }
 
+impl Piece {
+    /// The segment that stands for a body without bytes: number 0, last, empty.
+    pub fn empty() -> Piece {
+        Piece {
+            number: 0,
+            last: true,
+            bytes: Vec::new(),
+        }
+    }
+}
+
 /// Whether a part of this length, cut at this size, sends a segment of this number, flag and
-/// length.
+/// length. A part without bytes sends the empty one, or nothing.
 fn sends(length: usize, size: usize, piece: &Piece) -> bool {
+    if length == 0 {
+        return *piece == Piece::empty();
+    }
     let start = usize::from(piece.number) * size;
     start < length
         && piece.bytes.len() == size.min(length - start)
@@ -149,7 +163,7 @@ impl Choice {
         let start = usize::from(piece.number) * self.size;
         let end = start + piece.bytes.len();
         if piece.last {
-            if piece.bytes.is_empty() || piece.bytes.len() > self.size {
+            if piece.bytes.len() > self.size || (piece.bytes.is_empty() && piece.number != 0) {
                 return false;
             }
             self.shortest = self.shortest.max(end);
@@ -401,6 +415,35 @@ mod tests {
         assert!(!both(LIMIT, &says(4), &[piece(0, true, 5)]));
         assert!(!both(LIMIT, &says(6), &[piece(0, true, 5)]));
         assert!(!both(LIMIT, &says(0), &[piece(0, true, 5)]));
+    }
+
+    /// Document 02, Item 2: a body of length 0 has no segments or the empty one.
+    #[test]
+    fn the_empty_segment() {
+        let empty = [Piece::empty()];
+        assert!(both(LIMIT, &[], &empty));
+        assert!(both(LIMIT, &says(0), &empty));
+        assert!(both(LIMIT, &says(0), &[]));
+        assert!(both(LIMIT, &says(0), &[Piece::empty(), Piece::empty()]));
+        assert!(!both(LIMIT, &says(1), &empty));
+        assert!(!both(LIMIT, &says(LIMIT), &empty));
+        // Beside a header that hasn't said the lengths yet.
+        assert!(both(LIMIT, &[piece(1, true, 4)], &empty));
+        // Beside any other body segment, and for a header.
+        for other in [
+            piece(0, true, 1),
+            piece(0, false, 16),
+            piece(1, true, 5),
+            piece(1, false, 16),
+            piece(1_023, true, 1),
+        ] {
+            assert!(!both(LIMIT, &[], &[Piece::empty(), other.clone()]));
+            assert!(!both(LIMIT, &[], &[other, Piece::empty()]));
+        }
+        assert!(!both(LIMIT, &empty, &[]));
+        // Another number, or not last.
+        assert!(!both(LIMIT, &[], &[piece(1, true, 0)]));
+        assert!(!both(LIMIT, &[], &[piece(0, false, 0)]));
     }
 
     #[test]

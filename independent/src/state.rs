@@ -274,6 +274,40 @@ mod tests {
         );
     }
 
+    /// A mark for body number 0 with a recorded length of 0 is the empty segment: right beside a
+    /// BodySize of 0 or no core, and damage without the mark or beside any other BodySize.
+    #[test]
+    fn the_empty_segment_in_a_state() {
+        let empty = PartRecord {
+            size: 0,
+            end: 1,
+            tail: 0,
+        };
+        for (core, marked, sound) in [
+            (Some(0), true, true),
+            (Some(0), false, false),
+            (Some(20), true, false),
+            (Some(20), false, false),
+            (None, true, true),
+            (None, false, false),
+        ] {
+            let mut collector = Collector::open(LIMIT, 1, Memory::filled(LIMIT, 1, 0)).unwrap();
+            let header = match core {
+                Some(body_size) => [0, 0, body_size >> 4, body_size << 4, 3, 0x80, 0].to_vec(),
+                None => vec![0; 7],
+            };
+            let number = if core.is_some() { 0 } else { 1 };
+            let fields = Fields::of_segment(5, Part::Header, number, true, &header);
+            collector.take(&fields.whole());
+            let mut state = State::of(&collector);
+            state.slots[0].body = empty;
+            let mut memory = collector.memory.clone();
+            memory.marks[HEADER_SEGMENTS] = u8::from(marked);
+            let resumed = state.resume(memory, collector.counts);
+            assert_eq!(resumed.is_ok(), sound, "{core:?} {marked}");
+        }
+    }
+
     /// Document 01's list, one after the other.
     #[test]
     fn each_damage_of_the_list() {

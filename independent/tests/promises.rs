@@ -82,10 +82,11 @@ fn expected(held: &mut BTreeMap<u16, Stored>, slots: usize, group: &[u8]) -> Ans
     if !holds_slot && held.len() == slots {
         return Answer::Full;
     }
+    let finished_before = stored.object().is_some();
     stored.part(segment.part).insert(piece.number, piece);
     let answer = match stored.object() {
-        Some(_) => Answer::Complete,
-        None => Answer::Stored,
+        Some(_) if !finished_before => Answer::Complete,
+        _ => Answer::Stored,
     };
     held.insert(segment.transport, stored);
     answer

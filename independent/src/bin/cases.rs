@@ -1,6 +1,6 @@
-//! The worked cases of document 01, "Both sides of the line", and others at each bound, with the
-//! search's verdict on each, one case a line. Program `crates/cases` runs the same cases on the
-//! proved decision, and what it must write is what this one writes.
+//! The worked cases of document 01, "Both sides of the line", others at each bound and those of the
+//! empty last segment, with the search's verdict on each, one case a line. Program `crates/cases`
+//! runs the same cases on the proved decision, and what it must write is what this one writes.
 
 use independent::collector::{Held, Stage};
 use independent::object::{fits, fits_by_trying_all, Core, Piece};
@@ -159,10 +159,26 @@ fn cases_of_two_segments() {
     case(LIMIT, &[], &[full(2, 16), last(1, 16)]);
 }
 
+/// The empty last segment: with BodySize 0 or before it is said, and with nothing else of the body.
+fn cases_of_the_empty_segment() {
+    case(LIMIT, &[], &[last(0, 0)]);
+    case(LIMIT, &[], &[last(1, 0)]);
+    case(LIMIT, &[], &[full(0, 0)]);
+    case(LIMIT, &[last(0, 0)], &[]);
+    for (limit, body_size) in [(LIMIT, 0), (LIMIT, 1), (LIMIT, LIMIT), (MOST, MOST)] {
+        case(limit, &[says(body_size)], &[last(0, 0)]);
+    }
+    for other in [last(1, 5), full(1, 16)] {
+        case(LIMIT, &[], &[last(0, 0), other.clone()]);
+        case(LIMIT, &[], &[other, last(0, 0)]);
+    }
+}
+
 fn main() {
     cases_of_document_01();
     cases_of_headers();
     cases_of_bodies();
     cases_of_the_last_alone();
     cases_of_two_segments();
+    cases_of_the_empty_segment();
 }

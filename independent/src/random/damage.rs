@@ -5,12 +5,12 @@
 use super::Random;
 use crate::collector::{Counts, Memory, HEADER_SHARE, MARKS_SHARE, MOST_COUNTED};
 use crate::object::HEADER_SEGMENTS;
-use crate::state::{SlotRecord, StageRecord, State};
+use crate::state::{PartRecord, SlotRecord, StageRecord, State};
 
 /// Changes one thing of a state that is sound.
 pub fn one_thing(random: &mut Random, state: &mut State, memory: &mut Memory, counts: &mut Counts) {
     let slot = random.within(0, state.count - 1);
-    match random.within(0, 19) {
+    match random.within(0, 22) {
         0 => state.limit = other(random, state.limit),
         1 => state.count = random.within(0, 18),
         2 => lent_length(random, memory),
@@ -35,10 +35,27 @@ pub fn one_thing(random: &mut Random, state: &mut State, memory: &mut Memory, co
             let byte = slot * HEADER_SHARE + random.within(0, 7);
             memory.header_store[byte] ^= 1 << random.within(0, 7);
         }
+        19..=21 => empty_segment(random, slot, state, memory),
         _ => {
             let byte = random.within(0, memory.body_store.len() - 1);
             memory.body_store[byte] ^= 1 << random.within(0, 7);
         }
+    }
+}
+
+/// The empty body segment put in or taken out: its mark, its record or both.
+fn empty_segment(random: &mut Random, slot: usize, state: &mut State, memory: &mut Memory) {
+    let put_in = !random.once_in(3);
+    let kind = random.within(0, 3);
+    if kind != 0 {
+        memory.marks[slot * MARKS_SHARE + HEADER_SEGMENTS] = u8::from(put_in);
+    }
+    if kind != 1 {
+        state.slots[slot].body = PartRecord {
+            size: 0,
+            end: usize::from(put_in),
+            tail: 0,
+        };
     }
 }
 

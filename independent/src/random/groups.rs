@@ -1,5 +1,6 @@
 //! Groups to compare two readers on: valid, cut short, with bits turned over, of random bytes,
-//! with one field wrong, of every length, the ignored fields random throughout.
+//! with one field wrong, of every length, without bytes where they may be and where they may not,
+//! the ignored fields random throughout.
 
 use super::Random;
 use crate::group::{with_check, Fields, Part, SegmentField, LONGEST_SEGMENT};
@@ -41,6 +42,10 @@ pub fn any_group(random: &mut Random) -> Vec<u8> {
 
 /// A segment's fields that pass the reading checks, everything ignored random.
 pub fn valid(random: &mut Random) -> Fields {
+    if random.once_in(12) {
+        let empty = Fields::of_segment(random.word() as u16, Part::Body, 0, true, &[]);
+        return with_ignored_fields(random, empty);
+    }
     let last = random.coin();
     let least = if last { 1 } else { 16 };
     let length = match random.within(0, 9) {
@@ -125,10 +130,22 @@ fn bits_turned(random: &mut Random) -> Vec<u8> {
     group
 }
 
+/// A segment that may be the empty one but for its part, number, flag or size, or a byte left.
+fn nearly_empty(random: &mut Random) -> Fields {
+    let part = random.one_of(&[Part::Header, Part::Body, Part::Body]);
+    let number = random.one_of(&[0, 0, 0, 1, 63, 1_023, 32_767]);
+    let last = !random.once_in(3);
+    let left = if random.once_in(4) { 1 } else { 0 };
+    let transport = random.word() as u16;
+    let mut fields = Fields::of_segment(transport, part, number, last, &random.bytes(left));
+    fields.size = random.one_of(&[0, 0, 0, 1]);
+    with_ignored_fields(random, fields)
+}
+
 /// A group with one field wrong or at its bound and a right check word.
 pub fn one_field_wrong(random: &mut Random) -> Vec<u8> {
     let mut fields = valid(random);
-    match random.within(0, 7) {
+    match random.within(0, 8) {
         0 => fields.check_flag = false,
         1 => fields.kind = random.byte() & 0x0F,
         2 => fields.segment = None,
@@ -142,7 +159,7 @@ pub fn one_field_wrong(random: &mut Random) -> Vec<u8> {
                 1,
                 15,
                 16,
-                right - 1,
+                right.wrapping_sub(1),
                 right + 1,
                 8_189,
                 8_190,
@@ -150,6 +167,7 @@ pub fn one_field_wrong(random: &mut Random) -> Vec<u8> {
                 right ^ 0x1000,
             ]);
         }
+        7 => fields = nearly_empty(random),
         _ => {
             let length = random.one_of(&[0, 1, 15, 16, 8_189, 8_190, 8_191]);
             fields.bytes = random.bytes(length);

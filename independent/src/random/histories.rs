@@ -1,7 +1,8 @@
 //! Histories of calls, and of listing lines, to compare two collectors on. Objects are cut and
 //! sent, several numbers at a time and more of them than there are slots; segments come shuffled
-//! and repeated, spoilt in every field, or never; numbers are dropped and sent anew; and between
-//! them come damaged groups, questions and malformed lines.
+//! and repeated, spoilt in every field, or never; the empty segment comes with bodies without
+//! bytes and at any time beside others; numbers are dropped and sent anew; and between them come
+//! damaged groups, questions and malformed lines.
 
 use super::{groups, headers, segments, Random};
 use crate::group::{Fields, Part};
@@ -35,7 +36,11 @@ impl Station {
             let (header, body) = object(random, limit);
             let header_size = cut_size(random, header.len(), 64);
             let body_size = cut_size(random, body.len(), BODY_SEGMENTS);
-            of_both_parts(cut(&header, header_size), cut(&body, body_size))
+            let mut body = cut(&body, body_size);
+            if body.is_empty() && random.coin() {
+                body.push(Piece::empty());
+            }
+            of_both_parts(cut(&header, header_size), body)
         };
         if !random.once_in(4) {
             random.shuffle(&mut segments);
@@ -82,10 +87,10 @@ fn of_both_parts(header: Vec<Piece>, body: Vec<Piece>) -> Vec<(Part, Piece)> {
 /// A header and a body; in one of eight the core tells something else than the lengths.
 fn object(random: &mut Random, limit: usize) -> (Vec<u8>, Vec<u8>) {
     let body_length = match random.within(0, 11) {
-        0 => 0,
-        1 => limit,
-        2 => random.within(0, limit),
-        3 => limit + 1,
+        0 | 1 => 0,
+        2 => limit,
+        3 => random.within(0, limit),
+        4 => limit + 1,
         _ => random.within(1, 300),
     };
     let mut header = headers::well_formed(random, body_length);
@@ -139,7 +144,7 @@ fn spoilt(random: &mut Random, (mut part, mut piece): (Part, Piece)) -> (Part, P
         0 => piece.number = (piece.number + 1) & 0x7FFF,
         1 => piece.number = piece.number.saturating_sub(1),
         2 => piece.number = random.one_of(&[63, 64, 1_023, 1_024, 32_767]),
-        3 if piece.bytes.len() >= 16 => piece.last = !piece.last,
+        3 if piece.bytes.is_empty() || piece.bytes.len() >= 16 => piece.last = !piece.last,
         4 if piece.bytes.len() < 8_189 => piece.bytes.push(0),
         5 if piece.bytes.len() > 16 => {
             piece.bytes.pop();
@@ -150,6 +155,7 @@ fn spoilt(random: &mut Random, (mut part, mut piece): (Part, Piece)) -> (Part, P
                 Part::Body => Part::Header,
             };
         }
+        _ if piece.bytes.is_empty() => piece.bytes.push(random.byte()),
         7 if part == Part::Header => piece.bytes[0] ^= 1 << random.within(0, 7),
         _ => {
             let place = random.within(0, piece.bytes.len() - 1);
@@ -193,7 +199,8 @@ fn call(random: &mut Random, station: &mut Station, limit: usize) -> Call {
     let segment = match random.within(0, 99) {
         0..=59 => station.next(),
         60..=66 => station.again(random),
-        67..=74 => station.again(random).map(|segment| spoilt(random, segment)),
+        67..=72 => station.again(random).map(|segment| spoilt(random, segment)),
+        73..=74 => Some((Part::Body, Piece::empty())),
         75..=78 => return Call::Take(groups::any_group(random)),
         79..=83 => return Call::Take(groups::one_field_wrong(random)),
         84..=86 => {
@@ -287,7 +294,8 @@ pub fn listing(random: &mut Random, lines: usize) -> Vec<u8> {
 mod tests {
     use super::*;
     use crate::answer::Answer;
-    use crate::collector::{Collector, Memory};
+    use crate::collector::{Collector, Memory, Stage};
+    use crate::group::read;
     use std::collections::{HashMap, HashSet};
 
     #[test]
@@ -341,6 +349,80 @@ mod tests {
         }
     }
 
+    /// The empty segment comes before anything else, beside every kind and after the end, and
+    /// everything comes where it is in.
+    #[test]
+    fn the_empty_segment_comes_at_every_stage() {
+        let mut tally: HashMap<(&str, &str, Answer), usize> = HashMap::new();
+        for (seed, limit) in [(17, 1_024), (18, 12_288), (19, 1_048_576)] {
+            let mut random = Random::from_seed(seed);
+            for slots in [1, 2, 5, 16] {
+                let memory = Memory::filled(limit, slots, 0);
+                let mut collector = Collector::open(limit, slots, memory).unwrap();
+                for call in calls(&mut random, limit, slots, 6_000) {
+                    let (group, segment) = match call {
+                        Call::Take(group) => match read(&group) {
+                            Ok(segment) => (group, segment),
+                            Err(_) => continue,
+                        },
+                        Call::Drop(transport) => {
+                            collector.drop_number(transport);
+                            continue;
+                        }
+                        _ => continue,
+                    };
+                    let mut held = collector.slots().iter().flatten();
+                    let held = held.find(|held| held.transport == segment.transport);
+                    let stage = match held {
+                        None => "none",
+                        Some(held) if held.stage() != Stage::Gathering => "finished",
+                        Some(held) if held.core().is_some() => "core in",
+                        Some(_) => "gathering",
+                    };
+                    let empty_in = held.is_some_and(|held| held.body.contains(&Piece::empty()));
+                    let kind = match segment.part {
+                        Part::Body if segment.length == 0 => "empty",
+                        Part::Body if empty_in => "body, the empty one in",
+                        Part::Header if empty_in => "header, the empty one in",
+                        _ => "another",
+                    };
+                    let answer = collector.take(&group).answer;
+                    *tally.entry((kind, stage, answer)).or_default() += 1;
+                }
+            }
+        }
+        use Answer::*;
+        for expected in [
+            ("empty", "none", Stored),
+            ("empty", "none", Full),
+            ("empty", "gathering", Stored),
+            ("empty", "gathering", Repeat),
+            ("empty", "gathering", Conflict),
+            ("empty", "core in", Stored),
+            ("empty", "core in", Repeat),
+            ("empty", "core in", Conflict),
+            ("empty", "finished", Stored),
+            ("empty", "finished", Repeat),
+            ("empty", "finished", Conflict),
+            ("body, the empty one in", "gathering", Conflict),
+            ("body, the empty one in", "core in", Conflict),
+            ("body, the empty one in", "finished", Conflict),
+            ("header, the empty one in", "gathering", Stored),
+            ("header, the empty one in", "gathering", Complete),
+            ("header, the empty one in", "gathering", Conflict),
+            ("header, the empty one in", "core in", Stored),
+            ("header, the empty one in", "core in", Complete),
+            ("header, the empty one in", "finished", Repeat),
+        ] {
+            assert!(tally.get(&expected) > Some(&3), "{expected:?}: {tally:?}");
+        }
+        let never = |(kind, _, answer): &&(&str, &str, Answer)| {
+            (*kind == "empty" && *answer == Complete)
+                || (*kind == "body, the empty one in" && *answer != Conflict)
+        };
+        assert_eq!(tally.keys().find(never), None);
+    }
+
     /// Objects that are what their cores say never conflict, in whatever order they come, and
     /// are shown as they were sent.
     #[test]
@@ -353,7 +435,11 @@ mod tests {
             let mut collector = Collector::open(limit, slots, memory).unwrap();
             let objects: Vec<(Vec<u8>, Vec<u8>)> = (0..slots)
                 .map(|_| {
-                    let body_length = random.within(0, limit);
+                    let body_length = if random.once_in(4) {
+                        0
+                    } else {
+                        random.within(0, limit)
+                    };
                     let body = random.bytes(body_length);
                     (headers::well_formed(&mut random, body_length), body)
                 })

@@ -83,7 +83,7 @@ fn segment_size(random: &mut Random, length: usize, segments: usize) -> usize {
 fn some_of_a_cut(random: &mut Random, length: usize, size: usize) -> Vec<Piece> {
     let count = length.div_ceil(size).min(32_768);
     if count == 0 {
-        return Vec::new();
+        return vec![Piece::empty(); random.within(0, 2)];
     }
     (0..random.within(0, 5))
         .map(|_| {
@@ -131,7 +131,7 @@ fn write_core(header: &mut [Piece], core: Core) {
     }
 }
 
-/// Makes one thing wrong, by as little as there is.
+/// Makes one thing wrong, by as little as there is, so that a group can still carry it.
 fn spoil(random: &mut Random, set: &mut Set, mut core: Core) {
     let body_sized = [
         core.body_size.saturating_sub(1),
@@ -141,7 +141,7 @@ fn spoil(random: &mut Random, set: &mut Set, mut core: Core) {
         core.body_size / 2,
         0x0FFF_FFFF,
     ];
-    match random.within(0, 9) {
+    match random.within(0, 11) {
         0 | 1 => {
             core.body_size = random.one_of(&body_sized);
             write_core(&mut set.header, core);
@@ -150,6 +150,11 @@ fn spoil(random: &mut Random, set: &mut Set, mut core: Core) {
         2 => {
             core.header_size = beside(random, core.header_size);
             write_core(&mut set.header, core);
+            return;
+        }
+        3 => {
+            let place = random.within(0, set.body.len());
+            set.body.insert(place, Piece::empty());
             return;
         }
         _ => (),
@@ -164,6 +169,10 @@ fn spoil(random: &mut Random, set: &mut Set, mut core: Core) {
     }
     let place = random.within(0, pieces.len() - 1);
     let piece = &mut pieces[place];
+    if piece.bytes.is_empty() {
+        piece.bytes.push(0);
+        return;
+    }
     match random.within(0, 6) {
         0 => piece.number = (piece.number + 1).min(32_767),
         1 => piece.number = piece.number.saturating_sub(1),
@@ -212,9 +221,22 @@ mod tests {
         for _ in 0..2_000 {
             let set = near_the_bounds(&mut random, 12_288);
             for piece in set.header.iter().chain(&set.body) {
-                assert!((1..=8_189).contains(&piece.bytes.len()));
+                assert!((1..=8_189).contains(&piece.bytes.len()) || *piece == Piece::empty());
                 assert!(piece.number <= 32_767);
             }
+            assert!(!set.header.contains(&Piece::empty()));
         }
+    }
+
+    /// With the empty segment, sets that fit and sets that don't.
+    #[test]
+    fn the_empty_segment_comes_up_both_ways() {
+        let mut random = Random::from_seed(9);
+        let sets = (0..4_000).map(|_| near_the_bounds(&mut random, 12_288));
+        let (fitting, others): (Vec<Set>, Vec<Set>) = sets
+            .filter(|set| set.body.contains(&Piece::empty()))
+            .partition(|set| fits(set.limit, &set.header, &set.body));
+        let counts = (fitting.len(), others.len());
+        assert!(counts.0 > 40 && counts.1 > 40, "{counts:?}");
     }
 }
