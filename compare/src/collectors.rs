@@ -5,9 +5,9 @@
 
 use crate::lent::Lent;
 use independent::answer::Answer;
-use independent::collector::{Collector, Counts, Memory, MOST_COUNTED};
-use independent::group::Part;
-use independent::object::CORE_LENGTH;
+use independent::collector::{Collector, Counts, Memory, Stage, MOST_COUNTED};
+use independent::group::{self, Part};
+use independent::object::{Piece, CORE_LENGTH};
 use independent::random::histories::{calls, Call};
 use independent::random::Random;
 use independent::state::Handed;
@@ -23,6 +23,16 @@ const SMALL: usize = 40_000;
 
 /// What no call of a collector that is open and sound is answered: `states` has STATE, the openings here LIMITS.
 const OTHERS: [Answer; 2] = [Answer::Limits, Answer::State];
+
+/// What the empty segment of a body is answered (document 02, Item 2), and what comes where it is in.
+const EMPTIES: [&str; 6] = [
+    "STORED, the empty segment",
+    "STORED, the empty segment of a finished object",
+    "REPEAT, the empty segment",
+    "CONFLICT, the empty segment",
+    "COMPLETE, the empty segment in",
+    "CONFLICT, the empty segment in",
+];
 
 /// How often each answer was given.
 pub type Tally = BTreeMap<&'static str, usize>;
@@ -47,6 +57,43 @@ fn told(tally: &mut Tally, what: &'static str) -> Result<(), String> {
     Ok(())
 }
 
+/// What there is of the empty segment in a group and in what is held under its number.
+#[derive(Default)]
+struct Empty {
+    comes: bool,
+    is_in: bool,
+    finished: bool,
+}
+
+impl Empty {
+    fn before(handed: &Handed, group: &[u8]) -> Empty {
+        let (Some(collector), Ok(segment)) = (handed.collector(), group::read(group)) else {
+            return Empty::default();
+        };
+        let mut slots = collector.slots().iter().flatten();
+        let held = slots.find(|held| held.transport == segment.transport);
+        Empty {
+            comes: segment.length == 0,
+            is_in: held.is_some_and(|held| held.body.contains(&Piece::empty())),
+            finished: held.is_some_and(|held| held.stage() != Stage::Gathering),
+        }
+    }
+
+    /// How an answer is counted: among those of the empty segment, or by its name.
+    fn counted(&self, answer: Answer) -> &'static str {
+        let [stored, late, repeated, refused, completed, beside] = EMPTIES;
+        match answer {
+            Answer::Stored if self.comes && self.finished => late,
+            Answer::Stored if self.comes => stored,
+            Answer::Repeat if self.comes => repeated,
+            Answer::Conflict if self.comes => refused,
+            Answer::Complete if self.is_in => completed,
+            Answer::Conflict if self.is_in => beside,
+            _ => answer.name(),
+        }
+    }
+}
+
 /// One call of both.
 pub fn call(
     lent: &mut Lent,
@@ -56,11 +103,12 @@ pub fn call(
 ) -> Result<(), String> {
     let answer = match call {
         Call::Take(group) => {
+            let empty = Empty::before(handed, group);
             let (ours, theirs) = (lent.take(group), handed.take(group));
             if ours != theirs {
                 return Err(differ("a group", ours, theirs));
             }
-            theirs.answer
+            return told(tally, empty.counted(theirs.answer));
         }
         Call::Drop(transport) => {
             let (ours, theirs) = (lent.drop(*transport), handed.drop_number(*transport));
@@ -210,6 +258,10 @@ pub fn run(few: Option<u64>) -> Result<String, String> {
         .collect();
     if few.is_none() && !missing.is_empty() {
         return Err(format!("never given: {missing:?}"));
+    }
+    let rare = |empty: &&str| tally.get(empty) < Some(&100);
+    if few.is_none() && EMPTIES.iter().any(rare) {
+        return Err(format!("the empty segment is rare: {tally:?}"));
     }
     let calls: usize = tally.values().sum();
     let refused = openings()?;

@@ -60,15 +60,19 @@ struct Tally {
     conflicted_with_held: usize,
     same: usize,
     other: usize,
+    /// The decisions on the empty segment, and on others beside it.
+    empty_fitted: usize,
+    empty_conflicted: usize,
 }
 
 impl Tally {
     /// Where a verdict is rare, agreeing on it says little.
     fn rare(&self) -> bool {
         let decisions = self.fitted + self.conflicted;
-        [self.fitted, self.conflicted, self.conflicted_with_held]
+        let seldom = [self.fitted, self.conflicted, self.conflicted_with_held]
             .into_iter()
-            .any(|times| times * 100 <= decisions)
+            .any(|times| times * 100 <= decisions);
+        seldom || self.empty_fitted.min(self.empty_conflicted) < 500
     }
 }
 
@@ -100,6 +104,10 @@ fn offer(
              {theirs}; kept: {:?}",
             held.numbers
         ));
+    }
+    if there.is_none() && (piece == Piece::empty() || held.body.contains(&Piece::empty())) {
+        tally.empty_fitted += usize::from(ours);
+        tally.empty_conflicted += usize::from(!ours);
     }
     match (there, ours) {
         (Some(true), _) => tally.same += 1,
@@ -137,13 +145,16 @@ pub fn run() -> Result<String, String> {
         let tally = compare_sets(&mut random, limit)?;
         let line = format!(
             "limit {limit}: {SETS_FOR_EACH} sets, {} decisions: {} fitted, {} conflicted, {} of \
-             these only with what was held; of a held number: {} the same, {} not",
+             these only with what was held; of a held number: {} the same, {} not; of the empty \
+             segment or beside it {} fitted, {} conflicted",
             tally.fitted + tally.conflicted,
             tally.fitted,
             tally.conflicted,
             tally.conflicted_with_held,
             tally.same,
             tally.other,
+            tally.empty_fitted,
+            tally.empty_conflicted,
         );
         if tally.rare() {
             return Err(format!("a verdict is rare: {line}"));

@@ -12,7 +12,7 @@ use independent::group::{Fields, Part};
 use independent::object::{Core, CORE_LENGTH, HEADER_LENGTHS};
 use independent::random::histories::{calls, Call};
 use independent::random::{damage, headers, Random};
-use independent::state::{Handed, StageRecord, State};
+use independent::state::{Handed, PartRecord, StageRecord, State};
 use yovtirak::lent::{FIELD_WORDS, PLACE_WORDS};
 
 const SEED: u64 = 301_234_000;
@@ -28,6 +28,20 @@ struct Seen {
     asked: usize,
     words: usize,
     each: usize,
+    /// Of the sound and of the damaged, those whose records have the empty segment in.
+    sound_with_empty: usize,
+    damaged_with_empty: usize,
+}
+
+/// The records have the empty segment of a body in: the last one, number 0, of length 0.
+fn has_empty(state: &State) -> bool {
+    let empty = PartRecord {
+        size: 0,
+        end: 1,
+        tail: 0,
+    };
+    let mut slots = state.slots.iter().take(state.count);
+    slots.any(|slot| slot.stage != StageRecord::Free && slot.body == empty)
 }
 
 /// A collector after a history of calls.
@@ -105,6 +119,7 @@ fn one_damage(
     match handed.collector() {
         None => {
             seen.damaged += 1;
+            seen.damaged_with_empty += usize::from(has_empty(&state));
             if lent.state != words(&state) || lent.counts != counts.in_order() {
                 return Err("STATE changed a word or a count".to_string());
             }
@@ -115,6 +130,7 @@ fn one_damage(
         }
         Some(resumed) => {
             seen.sound += 1;
+            seen.sound_with_empty += usize::from(has_empty(&state));
             same_after(&lent, resumed, &state)
         }
     }
@@ -237,6 +253,23 @@ fn two_slots() -> Collector {
     collector
 }
 
+/// A collector of two cards without text: 5 finished and named `a` and its empty segment in, 9 with its empty segment
+/// alone.
+fn two_cards() -> Collector {
+    let limit = 1_024;
+    let memory = Memory::filled(limit, 2, 0);
+    let mut collector = Collector::open(limit, 2, memory).expect("the limits are in bounds");
+    let named = [0, 0, 0, 0, 0x05, 0x84, 0x01, 0xCC, 2, 0x40, b'a'];
+    for (transport, part, bytes) in [
+        (5, Part::Header, &named[..]),
+        (5, Part::Body, &[]),
+        (9, Part::Body, &[]),
+    ] {
+        collector.take(&Fields::of_segment(transport, part, 0, true, bytes).whole());
+    }
+    collector
+}
+
 /// The independent verdict on words, and the proved one, to questions and to a group.
 fn verdict(lent: &mut Lent, seen: &mut Seen) -> Result<(), String> {
     let state = state_of(&lent.state);
@@ -326,9 +359,8 @@ fn told_elsewhere() -> Result<usize, String> {
 }
 
 /// Every word, count, mark and byte of a state in turn, each made several others.
-fn everything(seen: &mut Seen) -> Result<(), String> {
-    let collector = two_slots();
-    let state = State::of(&collector);
+fn everything(collector: &Collector, seen: &mut Seen) -> Result<(), String> {
+    let state = State::of(collector);
     let fresh = || lent_of(&state, &collector.memory, &collector.counts);
     let mut lent = fresh();
     for word in 0..lent.state.len() {
@@ -392,7 +424,8 @@ fn everything(seen: &mut Seen) -> Result<(), String> {
 
 pub fn run() -> Result<String, String> {
     let mut seen = Seen::default();
-    everything(&mut seen)?;
+    everything(&two_slots(), &mut seen)?;
+    everything(&two_cards(), &mut seen).map_err(|said| format!("cards: {said}"))?;
     let lengths = header_lengths(&mut seen)?;
     let told = told_elsewhere()?;
     let mut tally = Tally::new();
@@ -414,15 +447,20 @@ pub fn run() -> Result<String, String> {
         asked,
         words,
         each,
+        sound_with_empty,
+        damaged_with_empty,
     } = seen;
-    if sound < 5_000 || damaged < 10_000 {
-        return Err(format!("only {sound} sound and {damaged} damaged"));
+    if sound < 5_000 || damaged < 10_000 || sound_with_empty.min(damaged_with_empty) < 500 {
+        return Err(format!(
+            "only {sound} sound and {damaged} damaged, with the empty segment {sound_with_empty} and \
+             {damaged_with_empty}"
+        ));
     }
     Ok(format!(
-        "{} states with one thing changed, {damaged} damaged and {sound} sound, {asked} questions \
-         asked of them, {words} with a word that holds nothing of its kind, every word, count, mark \
-         and byte of one in turn and {lengths} lengths of a finished header, {each} states, and {told} lengths of \
-         what is told; answers {tally:?}",
+        "{} states with one thing changed, {damaged} damaged and {sound} sound, of these {damaged_with_empty} and \
+         {sound_with_empty} with the empty segment in, {asked} questions asked of them, {words} with a word that holds \
+         nothing of its kind, every word, count, mark and byte of two in turn and {lengths} lengths of a finished \
+         header, {each} states, and {told} lengths of what is told; answers {tally:?}",
         sound + damaged
     ))
 }

@@ -3,7 +3,7 @@
 
 use super::record::{Aired, CONFLICTS, SLOTS};
 use independent::group::{self, Fields, Part};
-use independent::object::{cut, Core, CORE_LENGTH};
+use independent::object::{cut, Core, Piece, CORE_LENGTH};
 use independent::random::{groups, Random};
 use std::collections::{BTreeMap, BTreeSet};
 
@@ -85,7 +85,7 @@ fn any_parameters(random: &mut Random) -> (Vec<u8>, String) {
 
 fn any_body(random: &mut Random) -> Vec<u8> {
     let any = random.within(17, 3_000);
-    let length = random.one_of(&[0, 1, 16, any, any, any, any, 20_000, 65_536]);
+    let length = random.one_of(&[0, 0, 1, 16, any, any, any, any, 20_000, 65_536]);
     random.bytes(length)
 }
 
@@ -120,13 +120,17 @@ fn like(random: &mut Random, object: &Object) -> Object {
 }
 
 /// One round of an object's groups in any order, at this size of its body's segments; some groups
-/// come twice, some with a bit turned over before they come right, and some that are no groups.
+/// come twice, some with a bit turned over before they come right, and some that are no groups. Some
+/// encoders send the empty segment for a body without bytes, and some send nothing.
 fn round(random: &mut Random, number: u16, object: &Object, size: usize) -> Vec<Vec<u8>> {
     let header = cut(&object.header, 16).into_iter();
-    let body = cut(&object.body, size).into_iter();
+    let mut body = cut(&object.body, size);
+    if body.is_empty() && random.coin() {
+        body.push(Piece::empty());
+    }
     let mut pieces: Vec<_> = header
         .map(|piece| (Part::Header, piece))
-        .chain(body.map(|piece| (Part::Body, piece)))
+        .chain(body.into_iter().map(|piece| (Part::Body, piece)))
         .collect();
     random.shuffle(&mut pieces);
     let mut sent = Vec::new();
@@ -198,8 +202,12 @@ pub fn fresh(random: &mut Random) -> (Stream, Vec<usize>) {
     let mut seen = BTreeSet::new();
     let mut newest = BTreeMap::new();
     for (place, group) in groups.iter().enumerate() {
-        if let (Ok(segment), true) = (group::read(group), seen.insert(group)) {
-            newest.insert(segment.transport, place);
+        match group::read(group) {
+            // No object waits for the empty segment.
+            Ok(segment) if segment.length > 0 && seen.insert(group) => {
+                newest.insert(segment.transport, place);
+            }
+            _ => (),
         }
     }
     let complete = aired.iter().map(|each| newest[&each.number]).collect();
