@@ -71,8 +71,8 @@ extern "C" {
 /* Words of 64 bits of a state: the limit, the number of slots, and for each of 16 slots its
  * transport number, its stage (0 free, 1 gathering, 2 finished), the lengths of a finished header
  * and body, and for the header and then the body the segment size, 1 + the number of the last
- * segment and its length, 0 where that is not known. They may be saved, and lent again with the
- * counts, stores and marks as they were saved. */
+ * segment and its length, 0 where that is not known; the empty segment of a body has length 0. They
+ * may be saved, and lent again with the counts, stores and marks as they were saved. */
 #define YOVTIRAK_STATE_WORDS 162u
 
 /* The five counts, words of 32 bits, which the caller reads where they are. Each is the number of
@@ -113,8 +113,8 @@ struct yovtirak_lent {
 
 /* No answer has number 23, and none will. */
 enum yovtirak_answer {
-    YOVTIRAK_STORED = 0,      /* new segment, the object is not finished */
-    YOVTIRAK_COMPLETE = 1,    /* new segment, the object is now finished */
+    YOVTIRAK_STORED = 0,      /* new segment, and it does not finish the object */
+    YOVTIRAK_COMPLETE = 1,    /* new segment, the object is now finished: once for an object */
     YOVTIRAK_REPEAT = 2,      /* the segment is in already */
     YOVTIRAK_DROPPED = 3,     /* a held number is dropped */
     YOVTIRAK_LENGTH = 10,     /* a size out of bounds, or a field missing */
@@ -242,7 +242,10 @@ static inline enum yovtirak_answer yovtirak_open_collector(const struct yovtirak
 }
 
 /* Takes one group, of any bytes and any length. STORED, COMPLETE or REPEAT; LENGTH, NOCHECK,
- * BADCHECK, KIND, NOSEGMENT, ADDRESS, SIZE, CONFLICT or FULL; or STATE. */
+ * BADCHECK, KIND, NOSEGMENT, ADDRESS, SIZE, CONFLICT or FULL; or STATE.
+ *
+ * For a body of length 0 a station sends no segment, or one: number 0, last, of no bytes. The
+ * object is finished without it; where it comes after that it is STORED once, then a REPEAT. */
 static inline struct yovtirak_reply yovtirak_take_group(const struct yovtirak_lent *lent,
                                                         const uint8_t *group, size_t group_bytes) {
     return yovtirak_reply_of(yovtirak_take(lent->state, lent->state_words, lent->counts,

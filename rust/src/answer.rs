@@ -4,9 +4,9 @@
 #[derive(Clone, Copy, Debug, PartialEq, Eq, Hash)]
 #[repr(u8)]
 pub enum Answer {
-    /// A new segment; the object is not finished.
+    /// A new segment, and it does not finish the object.
     Stored = 0,
-    /// A new segment; the object is now finished.
+    /// A new segment; the object is now finished. Once for an object.
     Complete = 1,
     /// A segment that is in already.
     Repeat = 2,

@@ -18,6 +18,16 @@
 //! assert_eq!(reply.segment.unwrap().number, 5);
 //! assert_eq!(collector.header(5).unwrap(), &group[9..16]);
 //! assert_eq!(collector.body(5).unwrap(), &[]);
+//!
+//! // Some encoders send an empty body segment too: it is stored once, and the object is the same.
+//! let empty = [
+//!     0x74, 0x00, 0x80, 0x00, 0x12, 0x00, 0x05, 0x00, 0x00, // data group and segment headers
+//!     0xD0, 0x69, // the check word
+//! ];
+//! assert_eq!(collector.take(&empty).answer, Answer::Stored);
+//! assert_eq!(collector.take(&empty).answer, Answer::Repeat);
+//! assert_eq!(collector.body(5).unwrap(), &[]);
+//!
 //! assert_eq!(collector.find(b"logo.png"), Err(Answer::NotFound));
 //! assert_eq!(collector.counts().completed, 1);
 //! ```
