@@ -14,7 +14,7 @@ use Rattle.cut.specs.declared.Core.the-variants.{Seen}
 use Rattle.cut.specs.Decision.{coreOf}
 use Rattle.cut.specs.laws.Segment.{segment-some}
 use Rattle.cut.specs.laws.Object.{core-is}
-use Rattle.cut.specs.laws.Theorem.{fits-less}
+use Rattle.cut.specs.laws.Theorem.{fits-sent, fits-less}
 use Rattle.cut.specs.laws.Finished.{whole-empty, finished-every}
 
 -- ---- one part
@@ -71,21 +71,7 @@ module _ (limit : ℕ) (hs bs : List Segment) (f : Fits limit hs bs) (i : Among 
 -- a body of length 0 has no segments, or that one, and both belong to the same object
 pub either : (limit : ℕ) (hs : List Segment) (f : Fits limit hs []) → length (f .body) ≡ 0
     → (g : Fits limit hs (empty ∷ [])) × (g .header ≡ f .header) × (g .body ≡ f .body)
-either limit hs f e = (
-  record {
-    header = f .header;
-    body = f .body;
-    object = f .object;
-    headerCut = f .headerCut;
-    bodyCut = f .bodyCut;
-    headerCuts = f .headerCuts;
-    bodyCuts = f .bodyCuts;
-    headerSent = f .headerSent;
-    bodySent = (inr (e, refl), tt);
-  },
-  refl,
-  refl,
-)
+either limit hs f e = (fits-sent f hs (empty ∷ []) (f .headerSent) (inr (e, refl), tt), refl, refl)
 
 -- the object is finished without it: with it exactly when it is without
 pub finished-either : (limit : ℕ) (hs : List Segment) (f : Fits limit hs []) (g : Fits limit hs (empty ∷ []))

@@ -19,7 +19,7 @@ use Rattle.cut.specs.laws.Segment.{Numbered, same-is, sends-same, agree-
 use Rattle.cut.specs.laws.Decision.{JoinsAs, SizeIs, EndIs, both-true, true-both}
 use Rattle.cut.specs.laws.Object.{Passes, fits-passes, passes-fits, header-bytes, body-bytes}
 use Rattle.cut.specs.Parts.{headersWith, bodiesWith, those}
-use Rattle.cut.specs.Lists.{Among, Bytes}
+use Rattle.cut.specs.Lists.{Each, Among, Bytes}
 
 -- nothing at all always fits: a first segment is looked at alone
 pub nothing-fits : (limit : ℕ) → limit ≤ limitMost → Fits limit [] []
@@ -119,48 +119,34 @@ accepted Body limit s hs bs z y f a = accepted-body limit s hs bs z y f a
 
 -- ---- order and repeats play no part
 
+-- the same object and cut, of other segments that they send
+abbrev pub fits-sent : {limit : ℕ} {hs bs : List Segment} (f : Fits limit hs bs) (hs' bs' : List Segment)
+    → Each (Sends (f .header) (f .headerCut)) hs' → Each (Sends (f .body) (f .bodyCut)) bs' → Fits limit hs' bs'
+fits-sent f hs' bs' h b =
+    record {
+      header = f .header;
+      body = f .body;
+      object = f .object;
+      headerCut = f .headerCut;
+      bodyCut = f .bodyCut;
+      headerCuts = f .headerCuts;
+      bodyCuts = f .bodyCuts;
+      headerSent = h;
+      bodySent = b;
+    }
+
 -- what fits, fits in any order, with repeats, and in part
 pub fits-among : (limit : ℕ) (hs hs' bs bs' : List Segment) → ((s : Segment) → Among s hs' → Among s hs)
     → ((s : Segment) → Among s bs' → Among s bs) → Fits limit hs bs → Fits limit hs' bs'
-fits-among limit hs hs' bs bs' i j f = record {
-  header = f .header;
-  body = f .body;
-  object = f .object;
-  headerCut = f .headerCut;
-  bodyCut = f .bodyCut;
-  headerCuts = f .headerCuts;
-  bodyCuts = f .bodyCuts;
-  headerSent = among-each hs' (λ s a. each-among (Sends (f .header) (f .headerCut)) s hs (f .headerSent) (i s a));
-  bodySent = among-each bs' (λ s a. each-among (Sends (f .body) (f .bodyCut)) s bs (f .bodySent) (j s a));
-}
+fits-among limit hs hs' bs bs' i j f = fits-sent f hs' bs'
+    (among-each hs' (λ s a. each-among (Sends (f .header) (f .headerCut)) s hs (f .headerSent) (i s a)))
+    (among-each bs' (λ s a. each-among (Sends (f .body) (f .bodyCut)) s bs (f .bodySent) (j s a)))
 
--- without the newest, by the same object and cut
+-- without the newest
 abbrev pub fits-less : (part : Part) (limit : ℕ) (s : Segment) (hs bs : List Segment)
     → Fits limit (headersWith part s hs) (bodiesWith part s bs) → Fits limit hs bs
-fits-less Header limit s hs bs f =
-    record {
-      header = f .header;
-      body = f .body;
-      object = f .object;
-      headerCut = f .headerCut;
-      bodyCut = f .bodyCut;
-      headerCuts = f .headerCuts;
-      bodyCuts = f .bodyCuts;
-      headerSent = f .headerSent .1;
-      bodySent = f .bodySent;
-    }
-fits-less Body limit s hs bs f =
-    record {
-      header = f .header;
-      body = f .body;
-      object = f .object;
-      headerCut = f .headerCut;
-      bodyCut = f .bodyCut;
-      headerCuts = f .headerCuts;
-      bodyCuts = f .bodyCuts;
-      headerSent = f .headerSent;
-      bodySent = f .bodySent .1;
-    }
+fits-less Header limit s hs bs f = fits-sent f hs bs (f .headerSent .1) (f .bodySent)
+fits-less Body limit s hs bs f = fits-sent f hs bs (f .headerSent) (f .bodySent .1)
 
 -- a segment that is in brings nothing new
 pub with-one : (s : Segment) (ss : List Segment) → Among s ss → (t : Segment) → Among t (s ∷ ss) → Among t ss

@@ -17,11 +17,11 @@ use Rattle.answer.specs.declared.Part.the-variants.{Header, Body}
 use Rattle.cut.specs.Lists.{pick, Each, Among}
 use Rattle.cut.specs.Requirement.{Segment, Fits, Finished}
 use Rattle.cut.specs.Parts.{headersWith, bodiesWith}
+use Rattle.cut.specs.laws.Theorem.{fits-sent}
 use Rattle.object.specs.declared.Stage.the-variants as Stage
 use Rattle.object.specs.declared.Outcome.{Outcome}
 use Rattle.object.specs.declared.Outcome.the-variants.{Stored, Complete, Repeat, Conflict}
 use Rattle.object.specs.Source.{Source, SegmentOf, SentBy}
-use Rattle.object.specs.laws.OffersKept.{source-fits}
 use Rattle.collector.specs.Calls.{answerAs, show}
 use Rattle.collector.specs.State.{Start}
 use Rattle.collector.specs.Arrival.{heardAs, Arrival}
@@ -39,8 +39,8 @@ use Rattle.history.specs.Taking.{take}
 more-fits : (limit : ℕ) (object : Source limit) (part : Part) (segment : Segment) (hs bs : List Segment)
     → SentBy object part segment → Each (SentBy object Header) hs → Each (SentBy object Body) bs
     → Fits limit (headersWith part segment hs) (bodiesWith part segment bs)
-more-fits limit object Header segment hs bs u h b = source-fits limit object (segment ∷ hs) bs (u, h) b
-more-fits limit object Body segment hs bs u h b = source-fits limit object hs (segment ∷ bs) h (u, b)
+more-fits limit object Header segment hs bs u h b = fits-sent object (segment ∷ hs) bs (u, h) b
+more-fits limit object Body segment hs bs u h b = fits-sent object hs (segment ∷ bs) h (u, b)
 
 -- where all that is stored under a number comes from one cut of one object, a group of that cut does not conflict
 pub one-cut-agrees : (r : Run) (object : Source (r .start .limit)) (number : ℕ)
@@ -217,7 +217,7 @@ one-cut-finishes r object number f all =
     (finished-lengths r number fit done, shows .0, shows .1)
   where
     fit : FitsStored (since defined r) number
-    fit = source-fits (r .start .limit) object (stored defined r Header number) (stored defined r Body number)
+    fit = fits-sent object (stored defined r Header number) (stored defined r Body number)
         (f Header) (f Body)
 
     done : Finished fit

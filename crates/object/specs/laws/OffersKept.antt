@@ -11,6 +11,7 @@ use Rattle.answer.specs.declared.Part.{Part}
 use Rattle.answer.specs.declared.Part.the-variants.{Header, Body}
 use Rattle.cut.specs.Requirement.{limitMost, Segment, Fits, Finished}
 use Rattle.cut.specs.Parts.{headersWith, bodiesWith, those}
+use Rattle.cut.specs.laws.Theorem.{fits-sent}
 use Rattle.cut.specs.laws.Order.{SameSet}
 use Rattle.cut.specs.laws.Finished.{segmentOf, segment-is, finished-every, finished-one}
 use Rattle.cut.specs.Lists.{Each, Among, Bytes}
@@ -107,21 +108,6 @@ offers-marked part limit slot₀ lent₀ os slot lent z v a = part-same part lim
 
 -- ---- segments of one object and cut
 
-abbrev pub source-fits : (limit : ℕ) (o : Source limit) (hs bs : List Segment) → Each (SentBy o Header) hs
-    → Each (SentBy o Body) bs → Fits limit hs bs
-source-fits limit o hs bs h b =
-    record {
-      header = o .header;
-      body = o .body;
-      object = o .object;
-      headerCut = o .headerCut;
-      bodyCut = o .bodyCut;
-      headerCuts = o .headerCuts;
-      bodyCuts = o .bodyCuts;
-      headerSent = h;
-      bodySent = b;
-    }
-
 -- what was stored of segments that it sends is sent by it
 stored-sent : (limit : ℕ) (o : Source limit) (part : Part) (s : Segment) (outcome : Outcome) (hs bs : List Segment)
     → SentBy o part s → Each (SentBy o Header) hs → Each (SentBy o Body) bs
@@ -152,8 +138,8 @@ source-agrees limit o slot₀ lent₀ os slot lent z v a u part s y w e =
   where
     with : (part : Part) → Each (SentBy o Header) (storedHeaders os) → Each (SentBy o Body) (storedBodies os)
         → SentBy o part s → Fits limit (headersWith part s (storedHeaders os)) (bodiesWith part s (storedBodies os))
-    with Header h b w = source-fits limit o (s ∷ storedHeaders os) (storedBodies os) (w, h) b
-    with Body h b w = source-fits limit o (storedHeaders os) (s ∷ storedBodies os) h (w, b)
+    with Header h b w = fits-sent o (s ∷ storedHeaders os) (storedBodies os) (w, h) b
+    with Body h b w = fits-sent o (storedHeaders os) (s ∷ storedBodies os) h (w, b)
 
 -- what was stored stays stored, and a segment that did not conflict is stored
 more-among : (o : Outcome) (p part : Part) (s t : Segment) (hs bs : List Segment) → Among t (those part hs bs)
@@ -227,7 +213,7 @@ source-finishes limit c slot₀ lent₀ os slot lent z v a u all = go (offers-st
         (offered-among limit c slot₀ lent₀ os slot lent z v a u (o .0) (o .1)))
 
     fit : Fits limit hs bs
-    fit = let r = offers-sent limit c os u in source-fits limit c hs bs (r .0) (r .1)
+    fit = let r = offers-sent limit c os u in fits-sent c hs bs (r .0) (r .1)
 
     done : Finished fit
     done = record { header = in-stored Header; body = in-stored Body }
