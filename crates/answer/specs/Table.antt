@@ -10,7 +10,7 @@ use Rattle.answer.specs.declared.Reason.the-variants.{NotHeld, Unfinishe
 use Rattle.answer.specs.declared.Answer.{Answer}
 use Rattle.answer.specs.declared.Answer.the-variants.{Stored, Complete, Repeat, Dropped, Refused, Conflict, Full, Denied}
 use Rattle.answer.specs.declared.Returned.{Returned}
-use Rattle.answer.specs.declared.Returned.the-variants.{Segment, Number, Nothing}
+use Rattle.answer.specs.declared.Returned.the-variants.{Sent, Segment, Number, Nothing}
 use Rattle.answer.specs.declared.Row.{Row as Kept}
 use Rattle.answer.specs.Letters.{Spells}
 
@@ -43,9 +43,9 @@ reasonRow Limits = row 25 "LIMITS" Nothing
 reasonRow State = row 26 "STATE" Nothing
 
 abbrev pub rowOf : Answer → Row
-rowOf (Stored heard) = row 0 "STORED" (Segment heard)
-rowOf (Complete heard) = row 1 "COMPLETE" (Segment heard)
-rowOf (Repeat heard) = row 2 "REPEAT" (Segment heard)
+rowOf (Stored heard repetition) = row 0 "STORED" (Sent heard repetition)
+rowOf (Complete heard repetition) = row 1 "COMPLETE" (Sent heard repetition)
+rowOf (Repeat heard repetition) = row 2 "REPEAT" (Sent heard repetition)
 rowOf (Dropped number) = row 3 "DROPPED" (Number number)
 rowOf (Refused refusal) = refusalRow refusal
 rowOf (Conflict heard) = row 17 "CONFLICT" (Segment heard)

@@ -18,6 +18,14 @@ pub struct Heard {
     pub segment: u16,
 }
 
+// What the sender of a group meant by a repeat: its repetition index, its continuity index and its
+// repetition count. All three are 0 for a segment that came without a group.
+pub struct Repetition {
+    pub index: u8,
+    pub continuity: u8,
+    pub count: u8,
+}
+
 // Why a group is not read: numbers 10 to 16.
 pub enum Refusal {
     Length,
@@ -41,9 +49,9 @@ pub enum Reason {
 }
 
 pub enum Answer {
-    Stored(Heard),
-    Complete(Heard),
-    Repeat(Heard),
+    Stored(Heard, Repetition),
+    Complete(Heard, Repetition),
+    Repeat(Heard, Repetition),
     Dropped(u16),
     Refused(Refusal),
     Conflict(Heard),
@@ -51,8 +59,10 @@ pub enum Answer {
     Denied(Reason),
 }
 
-// The values that come with an answer: a segment's, a transport number alone, or none.
+// The values that come with an answer: a segment's with what its sender meant by a repeat, a segment's alone, a
+// transport number alone, or none.
 pub enum Returned {
+    Sent(Heard, Repetition),
     Segment(Heard),
     Number(u16),
     Nothing,
@@ -120,9 +130,24 @@ fn row_of(answer: Answer) -> Row
     ensures { λ r. ⌜ Reads r (rowOf answer) ⌝ }
 {
     match answer {
-        Answer::Stored(heard) => entry(0, *b"STORED    ", 6, Returned::Segment(heard)),
-        Answer::Complete(heard) => entry(1, *b"COMPLETE  ", 8, Returned::Segment(heard)),
-        Answer::Repeat(heard) => entry(2, *b"REPEAT    ", 6, Returned::Segment(heard)),
+        Answer::Stored(heard, repetition) => entry(
+            0,
+            *b"STORED    ",
+            6,
+            Returned::Sent(heard, repetition),
+        ),
+        Answer::Complete(heard, repetition) => entry(
+            1,
+            *b"COMPLETE  ",
+            8,
+            Returned::Sent(heard, repetition),
+        ),
+        Answer::Repeat(heard, repetition) => entry(
+            2,
+            *b"REPEAT    ",
+            6,
+            Returned::Sent(heard, repetition),
+        ),
         Answer::Dropped(number) => entry(3, *b"DROPPED   ", 7, Returned::Number(number)),
         Answer::Refused(refusal) => refusal_row(refusal),
         Answer::Conflict(heard) => entry(17, *b"CONFLICT  ", 8, Returned::Segment(heard)),

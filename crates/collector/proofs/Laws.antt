@@ -11,14 +11,14 @@ use Rattle.collector.specs.declared.Collector.{Collector}
 use Rattle.collector.specs.State.{state}
 use Rattle.collector.specs.Calls.{takenBy}
 use Rattle.collector.specs.Changes.{placeOf, Came, offeredAt, leftBy}
-use Rattle.collector.specs.Arrival.{Arrival, heardAs}
+use Rattle.collector.specs.Arrival.{Arrival}
 
 -- a segment was offered to a slot, and that is put among the others
 pub put-as : (c : Collector) (i : ℕ) (a : Arrival) (lent : Stores) {came : Came} (slot other : Slot)
     → came ≡ offeredAt (c .limit) i a slot lent → slot ≡ other → i < slotsMost
     → (placeOf (came .change) < slotsMost)
     × ((counts : Counts) → leftBy (came .change) (state c counts (came .stores))
-    ≡ takenBy (heardAs a) (state c counts lent)
+    ≡ takenBy a (state c counts lent)
     (among i (c .slots) (placedAt (c .limit) i lent
     (takeInto (a .part) (c .limit) (a .segment) other (lentAt (c .limit) i lent)))))
 put-as c i a lent slot other e f h =

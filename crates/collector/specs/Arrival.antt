@@ -4,22 +4,30 @@ use mathlib.Core.List.{List}
 use Prim.Native.Nat.{ℕ}
 use Rattle.answer.specs.declared.Heard.{Heard}
 use Rattle.answer.specs.declared.Part.{Part}
+use Rattle.answer.specs.declared.Repetition.{Repetition}
 use Rattle.wire.specs.declared.Carried.{Carried}
 use Rattle.wire.specs.Reading.{bytesIn}
 use Rattle.cut.specs.Requirement.{Segment}
 
--- a segment as it comes in: its transport number and its part, and the segment itself
+-- a segment as it comes in: its transport number and its part, the segment itself, and what its sender meant by a
+-- repeat
 pub record Arrival : Type 0 where
   pub number : ℕ
   pub part : Part
   pub segment : Segment
+  pub repetition : Repetition
+
+-- of a segment that came without a group
+abbrev pub noRepetition : Repetition
+noRepetition = record { index = 0; continuity = 0; count = 0 }
 
 -- as a contract has it
-abbrev pub arrival : Heard → Bool → List ℕ → Arrival
-arrival heard last bytes = record {
+abbrev pub arrival : Heard → Repetition → Bool → List ℕ → Arrival
+arrival heard repetition last bytes = record {
   number = heard .number;
   part = heard .part;
   segment = record { number = heard .segment; last = last; bytes = bytes };
+  repetition = repetition;
 }
 
 abbrev pub heardAs : Arrival → Heard
@@ -34,6 +42,7 @@ arrivalIn group carried = record {
   number = carried .number;
   part = carried .part;
   segment = segmentIn group carried;
+  repetition = carried .repetition;
 }
 
 abbrev pub heardIn : Carried → Heard

@@ -11,6 +11,7 @@ use Rattle.answer.specs.declared.Heard.{Heard}
 use Rattle.answer.specs.declared.Part.{Part}
 use Rattle.answer.specs.declared.Refusal.{Refusal}
 use Rattle.answer.specs.declared.Refusal.the-variants as Refusal
+use Rattle.answer.specs.declared.Repetition.{Repetition}
 use Rattle.counts.specs.Counted.{noneYet, counted, within}
 use Rattle.wire.specs.declared.Reading.{Reading}
 use Rattle.wire.specs.declared.Reading.the-variants.{Read, Refused}
@@ -53,23 +54,27 @@ withSlots slots c = record { limit = c .limit; count = c .count; slots = slots }
 
 -- ---- a segment
 
-abbrev pub answerAs : Outcome → Heard → Answer
-answerAs Stored heard = Answer.Stored heard
-answerAs Complete heard = Answer.Complete heard
-answerAs Repeat heard = Answer.Repeat heard
-answerAs Conflict heard = Answer.Conflict heard
+-- what the sender meant by a repeat is passed up with STORED, COMPLETE and REPEAT
+abbrev pub answerAs : Outcome → Heard → Repetition → Answer
+answerAs Stored heard repetition = Answer.Stored heard repetition
+answerAs Complete heard repetition = Answer.Complete heard repetition
+answerAs Repeat heard repetition = Answer.Repeat heard repetition
+answerAs Conflict heard repetition = Answer.Conflict heard
+
+abbrev pub answerFor : Outcome → Arrival → Answer
+answerFor outcome a = answerAs outcome (heardAs a) (a .repetition)
 
 -- a slot was offered the segment
-abbrev pub takenBy : Heard → State → TakenAt → Reply
-takenBy heard s taken =
-    answering (answerAs (taken .outcome) heard)
+abbrev pub takenBy : Arrival → State → TakenAt → Reply
+takenBy a s taken =
+    answering (answerFor (taken .outcome) a)
     (state (withSlots (taken .slots) (s .collector)) (s .counts) (taken .stores))
 
 -- no slot holds the number: the segment takes the lowest free one
 abbrev pub intoFree : Found → Arrival → State → Reply
 intoFree Nothing a s = answering (Answer.Full (heardAs a)) s
 intoFree (At i) a s =
-    takenBy (heardAs a) s
+    takenBy a s
     (takeNew (a .number) (a .part) (s .collector .limit) i (a .segment) (s .collector .slots) (s .stores))
 
 -- a first segment's CONFLICT looks at it alone, and FULL comes after it
@@ -79,7 +84,7 @@ ifAlone false a s = answering (Answer.Conflict (heardAs a)) s
 
 abbrev pub intoHeld : Found → Arrival → State → Reply
 intoHeld (At i) a s =
-    takenBy (heardAs a) s (takeAt (a .part) (s .collector .limit) i (a .segment) (s .collector .slots) (s .stores))
+    takenBy a s (takeAt (a .part) (s .collector .limit) i (a .segment) (s .collector .slots) (s .stores))
 intoHeld Nothing a s = ifAlone (fitsAlone (a .part) (s .collector .limit) (a .segment)) a s
 
 -- STATE, then CONFLICT, then FULL

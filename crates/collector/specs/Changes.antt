@@ -3,16 +3,15 @@ use mathlib.Core.List.{List}
 use Prim.Native.Nat.{ℕ}
 use lib.ListN.{set}
 use Rattle.answer.specs.declared.Answer.{Answer}
-use Rattle.answer.specs.declared.Heard.{Heard}
 use Rattle.object.specs.declared.Slot.{Slot}
 use Rattle.object.specs.Take.{takeInto}
 use Rattle.slots.specs.Stores.{Stores, lentAt}
 use Rattle.slots.specs.Take.{Placed, placedAt}
 use Rattle.collector.specs.declared.Change.{Change}
 use Rattle.collector.specs.declared.Change.the-variants.{Nothing, At}
-use Rattle.collector.specs.Calls.{answerAs, answering, withSlots}
+use Rattle.collector.specs.Calls.{answerFor, answering, withSlots}
 use Rattle.collector.specs.State.{State, Reply, state}
-use Rattle.collector.specs.Arrival.{Arrival, heardAs}
+use Rattle.collector.specs.Arrival.{Arrival}
 
 abbrev pub answerOf : Change → Answer
 answerOf (Nothing answer) = answer
@@ -32,16 +31,16 @@ pub record Came : Type 0 where
   pub change : Change
   pub stores : Stores
 
-abbrev pub cameTo : ℕ → Heard → Placed → Came
-cameTo i heard placed = record {
-  change = At i (placed .slot) (answerAs (placed .outcome) heard);
+abbrev pub cameTo : ℕ → Arrival → Placed → Came
+cameTo i a placed = record {
+  change = At i (placed .slot) (answerFor (placed .outcome) a);
   stores = placed .stores;
 }
 
 -- a segment is offered to a slot that stands, or is to stand, at i
 abbrev pub offeredAt : ℕ → ℕ → Arrival → Slot → Stores → Came
 offeredAt limit i a slot lent =
-    cameTo i (heardAs a) (placedAt limit i lent (takeInto (a .part) limit (a .segment) slot (lentAt limit i lent)))
+    cameTo i a (placedAt limit i lent (takeInto (a .part) limit (a .segment) slot (lentAt limit i lent)))
 
 -- the change is made, over what is lent as it stands then, and its answer counted
 abbrev pub leftBy : Change → State → Reply

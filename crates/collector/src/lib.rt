@@ -7,6 +7,7 @@ use answer::Heard;
 use answer::Part;
 use answer::Reason;
 use answer::Refusal;
+use answer::Repetition;
 use counts::Counts;
 use object::Outcome;
 use object::Slot;
@@ -27,7 +28,7 @@ ghost use Rattle.collector.specs.Bounds.{bounds};
 ghost use Rattle.collector.specs.State.{stores, state, reply, start, opened};
 ghost use Rattle.collector.specs.Calls.{answerAs, intoHeld, takeSegment, refusalOf, takeGroup, dropNumber, openWith, locatedAs, locate, show, sound, answering};
 ghost use Rattle.collector.specs.Changes.{placeOf, leftBy, offeredAt};
-ghost use Rattle.collector.specs.Arrival.{heardIn, arrival};
+ghost use Rattle.collector.specs.Arrival.{heardIn, noRepetition, arrival};
 
 // A collector: the limit on a body, how many slots it has, and the slots.
 pub struct Collector {
@@ -98,13 +99,13 @@ enum Change {
     At(usize, Slot, Answer),
 }
 
-fn answer_as(outcome: Outcome, heard: Heard) -> Answer
-    ensures { λ r. ⌜ r ≡ answerAs outcome heard ⌝ }
+fn answer_as(outcome: Outcome, heard: Heard, repetition: Repetition) -> Answer
+    ensures { λ r. ⌜ r ≡ answerAs outcome heard repetition ⌝ }
 {
     match outcome {
-        Outcome::Stored => Answer::Stored(heard),
-        Outcome::Complete => Answer::Complete(heard),
-        Outcome::Repeat => Answer::Repeat(heard),
+        Outcome::Stored => Answer::Stored(heard, repetition),
+        Outcome::Complete => Answer::Complete(heard, repetition),
+        Outcome::Repeat => Answer::Repeat(heard, repetition),
         Outcome::Conflict => Answer::Conflict(heard),
     }
 }
@@ -127,6 +128,7 @@ fn take_at(
     limit: usize,
     i: usize,
     heard: Heard,
+    repetition: Repetition,
     last: bool,
     bytes: &[u8],
     header: &mut [u8],
@@ -136,7 +138,7 @@ fn take_at(
     requires { ⌜ Inside limit i (stores header body marks) ⌝ }
     requires { ⌜ Offered limit slot (lentAt limit i (stores header body marks)) ⌝ }
     ensures { λ r. ⌜ record { change = r; stores = stores (header .exit) (body .exit) (marks .exit) }
-        ≡ offeredAt limit i (arrival heard last (now (bytes .entry))) slot
+        ≡ offeredAt limit i (arrival heard repetition last (now (bytes .entry))) slot
         (stores (header .entry) (body .entry) (marks .entry)) ⌝ }
 {
     let part = heard.part;
@@ -155,7 +157,7 @@ fn take_at(
     );
     let outcome = took.outcome;
     let after = took.slot;
-    Change::At(i, after, answer_as(outcome, heard))
+    Change::At(i, after, answer_as(outcome, heard, repetition))
 }
 
 fn refusal_of(reading: Reading) -> Refusal
@@ -358,6 +360,7 @@ impl Collector {
     fn take_first(
         self,
         heard: Heard,
+        repetition: Repetition,
         last: bool,
         bytes: &[u8],
         header: &mut [u8],
@@ -367,7 +370,7 @@ impl Collector {
         requires { ⌜ soundSlots (self .limit) (self .count) (self .slots) (stores header body marks) ≡ true ⌝ }
         ensures { λ r. ⌜ (placeOf r < slotsMost) × ((counts : Counts)
             → leftBy r (state self counts (stores (header .exit) (body .exit) (marks .exit)))
-            ≡ intoHeld Found.Nothing (arrival heard last (now (bytes .entry)))
+            ≡ intoHeld Found.Nothing (arrival heard repetition last (now (bytes .entry)))
             (state self counts (stores (header .entry) (body .entry) (marks .entry)))) ⌝ }
     {
         let part = heard.part;
@@ -385,6 +388,7 @@ impl Collector {
             self.limit,
             i,
             heard,
+            repetition,
             last,
             bytes,
             header,
@@ -397,6 +401,7 @@ impl Collector {
     fn take_segment(
         self,
         heard: Heard,
+        repetition: Repetition,
         last: bool,
         bytes: &[u8],
         header: &mut [u8],
@@ -406,18 +411,30 @@ impl Collector {
         requires { ⌜ soundSlots (self .limit) (self .count) (self .slots) (stores header body marks) ≡ true ⌝ }
         ensures { λ r. ⌜ (placeOf r < slotsMost) × ((counts : Counts)
             → leftBy r (state self counts (stores (header .exit) (body .exit) (marks .exit)))
-            ≡ intoHeld (findIn (heard .number) (self .count) (self .slots)) (arrival heard last (now (bytes .entry)))
+            ≡ intoHeld (findIn (heard .number) (self .count) (self .slots))
+            (arrival heard repetition last (now (bytes .entry)))
             (state self counts (stores (header .entry) (body .entry) (marks .entry)))) ⌝ }
     {
         let slots = self.slots;
         let Found::At(i) = slots::find(heard.number, self.count, slots) else {
-            return self.take_first(heard, last, bytes, header, body, marks);
+            return self.take_first(heard, repetition, last, bytes, header, body, marks);
         };
         let old = self.slots[i];
-        take_at(old, self.limit, i, heard, last, bytes, header, body, marks)
+        take_at(
+            old,
+            self.limit,
+            i,
+            heard,
+            repetition,
+            last,
+            bytes,
+            header,
+            body,
+            marks,
+        )
     }
 
-    // Takes a segment, by value, whatever brought it: its transport number, part and segment number,
+    // Takes a segment that came without a group, by value: its transport number, part and segment number,
     // whether it is the last one, and its bytes.
     pub fn segment_taken(
         self,
@@ -430,13 +447,18 @@ impl Collector {
         marks: &mut [u8],
     ) -> Reply
         ensures { λ r. ⌜ reply r (stores (header .exit) (body .exit) (marks .exit))
-            ≡ takeSegment (arrival heard last (now (bytes .entry)))
+            ≡ takeSegment (arrival heard noRepetition last (now (bytes .entry)))
             (state self counts (stores (header .entry) (body .entry) (marks .entry))) ⌝ }
     {
         if !self.is_sound(counts, header, body, marks) {
             return self.answered(counts, Answer::Denied(Reason::State));
         }
-        let change = self.take_segment(heard, last, bytes, header, body, marks);
+        let repetition = Repetition {
+            index: 0,
+            continuity: 0,
+            count: 0,
+        };
+        let change = self.take_segment(heard, repetition, last, bytes, header, body, marks);
         self.changed(counts, change)
     }
 
@@ -463,8 +485,10 @@ impl Collector {
         };
         let start = carried.start;
         let end = start + carried.length;
+        let repetition = carried.repetition;
         self.take_segment(
             heard_as(carried),
+            repetition,
             carried.last,
             &group[start..end],
             header,

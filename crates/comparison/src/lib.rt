@@ -10,7 +10,7 @@ use wire::Reading;
 ghost use mathlib.Core.Path.{_≡_};
 ghost use Rattle.crc.specs.CheckWord.{checkWord};
 ghost use Rattle.wire.specs.Reading.{readingOf};
-ghost use Rattle.comparison.specs.Fields.{flagNumber, partNumber, segmentField, refusalField, fieldOf};
+ghost use Rattle.comparison.specs.Fields.{flagNumber, partNumber, besideField, segmentField, refusalField, fieldOf};
 
 #[no_mangle]
 pub extern "C" fn compared_check_word(bytes: &[u8]) -> u16
@@ -34,6 +34,20 @@ fn part_number(part: Part) -> u64
     }
 }
 
+fn beside_field(segment: Carried, field: u8) -> u64
+    ensures { λ r. ⌜ r ≡ besideField segment field ⌝ }
+{
+    let repetition = segment.repetition;
+    match field {
+        7 => repetition.index as u64,
+        8 => repetition.continuity as u64,
+        9 => repetition.count as u64,
+        10 => segment.address_start as u64,
+        11 => segment.address_length as u64,
+        _ => 0,
+    }
+}
+
 fn segment_field(segment: Carried, field: u8) -> u64
     ensures { λ r. ⌜ r ≡ segmentField segment field ⌝ }
 {
@@ -45,7 +59,7 @@ fn segment_field(segment: Carried, field: u8) -> u64
         4 => flag_number(segment.last),
         5 => segment.start as u64,
         6 => segment.length as u64,
-        _ => 0,
+        _ => beside_field(segment, field),
     }
 }
 

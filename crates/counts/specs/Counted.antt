@@ -66,9 +66,9 @@ oneDropped c = record {
 
 -- taken (0 and 1), repeated (2), refused (10 to 18), completed (1), dropped (3); no other answer is counted
 abbrev pub counted : Answer → Counts → Counts
-counted (Stored heard) c = oneTaken c
-counted (Complete heard) c = oneCompleted c
-counted (Repeat heard) c = oneRepeated c
+counted (Stored heard repetition) c = oneTaken c
+counted (Complete heard repetition) c = oneCompleted c
+counted (Repeat heard repetition) c = oneRepeated c
 counted (Dropped number) c = oneDropped c
 counted (Refused refusal) c = oneRefused c
 counted (Conflict heard) c = oneRefused c

@@ -42,16 +42,16 @@ pub fn counted(answer: Answer, counts: Counts) -> Counts
 {
     let mut next = counts;
     match answer {
-        Answer::Stored(_) => {
+        Answer::Stored(_, _) => {
             next.taken = risen(counts.taken);
             next
         }
-        Answer::Complete(_) => {
+        Answer::Complete(_, _) => {
             next.taken = risen(counts.taken);
             next.completed = risen(counts.completed);
             next
         }
-        Answer::Repeat(_) => {
+        Answer::Repeat(_, _) => {
             next.repeated = risen(counts.repeated);
             next
         }

@@ -23,12 +23,14 @@ use Rattle.history.specs.State.{OfBytes}
 use Rattle.slots.specs.Stores.{Limits}
 use Rattle.history.specs.Handed.{Handed, HandedBytes, Brought, arrives, refused, broughtBy}
 
--- a part of a finished object is asked for, what its header says, its name, or whose a name is
+-- a part of a finished object is asked for, what its header says, its name, or whose a name is; or the end user address
+-- of a group
 pub data Question : Type 0 where
   show : (number : ℕ) (part : Part) → Question
   parameters : (number : ℕ) → Question
   name : (number : ℕ) → Question
   find : (sought : List ℕ) → Question
+  address : (bytes : List ℕ) → Question
 
 -- a group or a segment is handed in, a number is dropped, a question is asked
 pub data Call : Type 0 where
@@ -49,12 +51,13 @@ Elsewhere number (drop other) = number ≢ other
 Elsewhere number (ask question) = Unit {0}
 
 -- what comes back of a question: where the object is, with the part itself; what its header says; that, with the data
--- of its name; or whose the name is
+-- of its name; whose the name is; or the address
 pub data Said : Type 0 where
   shown : (located : Located) (bytes : List ℕ) → Said
   read : (fields : Asked) → Said
   named : (fields : Asked) (bytes : List ℕ) → Said
   found : (whose : Sought) → Said
+  addressed : (bytes : List ℕ) → Said
 
 -- a call with what came back
 pub data Event : Type 0 where
@@ -85,6 +88,7 @@ pub record Collecting : Type 0 where
   pub tells : ℕ → State → Asked
   pub names : ℕ → State → List ℕ
   pub finds : List ℕ → State → Sought
+  pub addresses : List ℕ → State → List ℕ
   pub asks : Question → State → State
 
 -- all that comes back of a question
@@ -93,6 +97,7 @@ says k (show number part) s = shown (k .locates number s) (k .shows number part 
 says k (parameters number) s = read (k .tells number s)
 says k (name number) s = named (k .tells number s) (k .names number s)
 says k (find sought) s = found (k .finds sought s)
+says k (address bytes) s = addressed (k .addresses bytes s)
 
 abbrev pub leaves : Collecting → Call → State → State
 leaves k (hand given) s = k .takes given s .left

@@ -4,7 +4,7 @@
 use Rattle.collector.specs.Calls.{openWith, dropNumber, locate, show}
 use Rattle.queries.specs.Questions.{parameters, name, find}
 use Rattle.history.specs.History.{Collecting, asking}
-use Rattle.history.specs.Taking.{take}
+use Rattle.history.specs.Taking.{take, address}
 
 abbrev pub ours : Collecting
 ours = record {
@@ -16,5 +16,6 @@ ours = record {
   tells = parameters;
   names = name;
   finds = find;
+  addresses = address;
   asks = asking;
 }

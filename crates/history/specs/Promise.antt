@@ -7,7 +7,7 @@ use mathlib.Core.List.{List, [], _∷_}
 use Prim.Native.Nat.{ℕ, suc, _≤_, _<_, min}
 use lib.Dec.{leb, eqb}
 use lib.ListN.{length}
-use Rattle.octets.specs.Octets.{zeros}
+use Rattle.octets.specs.Octets.{zeros, part}
 use Rattle.answer.specs.declared.Answer.{Answer}
 use Rattle.answer.specs.declared.Answer.the-variants as Answer
 use Rattle.answer.specs.declared.Reason.the-variants as Reason
@@ -15,12 +15,16 @@ use Rattle.answer.specs.declared.Heard.{Heard}
 use Rattle.answer.specs.declared.Part.{Part}
 use Rattle.answer.specs.declared.Part.the-variants.{Header, Body}
 use Rattle.answer.specs.declared.Refusal.{Refusal}
+use Rattle.answer.specs.declared.Repetition.{Repetition}
 use Rattle.answer.specs.Table.{numberOf}
 use Rattle.counts.specs.declared.Counts.{Counts}
 use Rattle.counts.specs.Counted.{ceiling, noneYet, oneRepeated, oneRefused}
-use Rattle.wire.specs.declared.Reading.the-variants.{Refused}
-use Rattle.wire.specs.Reading.{readingOf}
-use Rattle.cut.specs.Lists.{pick, Each, Among}
+use Rattle.wire.specs.declared.Carried.{Carried}
+use Rattle.wire.specs.declared.Reading.the-variants.{Read, Refused}
+use Rattle.wire.specs.Wire.{endUserAddress, endUserAddressLength}
+use Rattle.wire.specs.Reading.{repetitionIn, checkHolds, readingOf}
+use Rattle.wire.specs.Ignored.{SameButIgnored}
+use Rattle.cut.specs.Lists.{pick, Each, Among, Bytes}
 use Rattle.cut.specs.Requirement.{headerLeast, headerNumbers, bodyNumbers, Segment, empty, Fits, Finished, joined}
 use Rattle.cut.specs.Decision.{both}
 use Rattle.cut.specs.Parts.{headersWith, bodiesWith}
@@ -35,12 +39,12 @@ use Rattle.name_search.specs.Requirement.{Named}
 use Rattle.collector.specs.declared.Located.the-variants as Located
 use Rattle.collector.specs.declared.Opening.the-variants as Opening
 use Rattle.collector.specs.State.{Start, State, find, free, allFree}
-use Rattle.collector.specs.Arrival.{Arrival, heardAs}
+use Rattle.collector.specs.Arrival.{Arrival, heardAs, segmentIn, heardIn}
 use Rattle.queries.specs.declared.Asked.the-variants as Asked
 use Rattle.queries.specs.declared.Sought.the-variants as Sought
 use Rattle.queries.specs.Said.{askedAs}
 use Rattle.history.specs.Held.{Same, SlotFor, limitOf, slotOf, stageFor, markedUnder}
-use Rattle.history.specs.History.{Question, Call, CallBytes, Elsewhere, shown, read, named, found, Event, handed, dropped, asked, Within, Allowed, Collecting, after, reached, told, under, storedUnder}
+use Rattle.history.specs.History.{Question, Call, CallBytes, Elsewhere, shown, read, named, found, addressed, Event, handed, dropped, asked, Within, Allowed, Collecting, after, reached, told, under, storedUnder}
 use Rattle.history.specs.State.{OfBytes, InOrder}
 use Rattle.history.specs.Handed.{Handed, group, HandedBytes, arrives, broughtBy}
 
@@ -76,6 +80,10 @@ segmentOf g = g .arrived .segment
 
 abbrev pub heardOf : Passing → Heard
 heardOf g = heardAs (g .arrived)
+
+-- what its sender meant by a repeat; 0 for a segment by itself
+abbrev pub repetitionOf : Passing → Repetition
+repetitionOf g = g .arrived .repetition
 
 -- ---- what an answer is told by
 
@@ -119,6 +127,7 @@ NotState (asked question (shown located bytes)) = located ≢ Located.Denied Rea
 NotState (asked question (read fields)) = fields ≢ Asked.Denied Reason.State
 NotState (asked question (named fields bytes)) = fields ≢ Asked.Denied Reason.State
 NotState (asked question (found whose)) = whose ≢ Sought.Denied Reason.State
+NotState (asked question (addressed bytes)) = Unit {0}
 
 -- ---- the five counts
 
@@ -179,18 +188,26 @@ module _ (k : Collecting) (v : View) where
 
   -- REPEAT exactly when the same segment is stored.
   abbrev pub RepeatBy : Type 0
-  RepeatBy = (g : Passing) → (answerTo k v g ≡ Answer.Repeat (heardOf g))
+  RepeatBy = (g : Passing) → (answerTo k v g ≡ Answer.Repeat (heardOf g) (repetitionOf g))
       ↔ Among (segmentOf g) (v .kept (g .arrived .part) (g .arrived .number))
+
+  -- A group is a REPEAT, with numbers of its own, where it differs from one whose segment is stored only in what its
+  -- sender meant by a repeat, in its end user address, in what else plays no part, and in its check word.
+  abbrev pub ResentBy : Type 0
+  ResentBy = (bytes again : List ℕ) (carried : Carried) → Bytes again → readingOf bytes ≡ Read carried
+      → Among (segmentIn bytes carried) (v .kept (carried .part) (carried .number))
+      → SameButIgnored bytes again → checkHolds again ≡ true
+      → k .takes (group again) (v .state) .answer ≡ Answer.Repeat (heardIn carried) (repetitionIn again)
 
   -- COMPLETE exactly when with it every segment is in, before it not, and a slot is there.
   abbrev pub CompleteBy : Type 0
-  CompleteBy = (g : Passing) → (answerTo k v g ≡ Answer.Complete (heardOf g))
+  CompleteBy = (g : Passing) → (answerTo k v g ≡ Answer.Complete (heardOf g) (repetitionOf g))
       ↔ (((f : FitsWith v g) × Finished f) × Missing v (g .arrived .number) × SlotFor (g .arrived .number) (v .state))
 
   -- STORED exactly when it is new and fits, with it some segment is still missing or before it none was, and a slot is
   -- there.
   abbrev pub StoredBy : Type 0
-  StoredBy = (g : Passing) → (answerTo k v g ≡ Answer.Stored (heardOf g))
+  StoredBy = (g : Passing) → (answerTo k v g ≡ Answer.Stored (heardOf g) (repetitionOf g))
       ↔ (((f : FitsWith v g) × ((¬ (Finished f)) ⊎ ((h : FitsStored v (g .arrived .number)) × Finished h)))
       × (¬ (Among (segmentOf g) (v .kept (g .arrived .part) (g .arrived .number))))
       × SlotFor (g .arrived .number) (v .state))
@@ -199,8 +216,9 @@ module _ (k : Collecting) (v : View) where
   -- once, and then a REPEAT too.
   abbrev pub LateBy : Type 0
   LateBy = (g : Passing) (f : FitsStored v (g .arrived .number)) → Finished f → FitsWith v g
-      → (answerTo k v g ≡ Answer.Repeat (heardOf g))
-      ⊎ ((answerTo k v g ≡ Answer.Stored (heardOf g)) × (g .arrived .part ≡ Body) × (segmentOf g ≡ empty))
+      → (answerTo k v g ≡ Answer.Repeat (heardOf g) (repetitionOf g))
+      ⊎ ((answerTo k v g ≡ Answer.Stored (heardOf g) (repetitionOf g)) × (g .arrived .part ≡ Body)
+      × (segmentOf g ≡ empty))
 
   -- A number that holds no slot takes the lowest free one: with STORED or COMPLETE it holds slot i, which was free,
   -- and no slot below i was.
@@ -287,6 +305,7 @@ pub record AnsweredBy (k : Collecting) (v : View) : Type 0 where
   pub conflict : ConflictBy k v
   pub full : FullBy k v
   pub repeated : RepeatBy k v
+  pub resent : ResentBy k v
   pub complete : CompleteBy k v
   pub storing : StoredBy k v
   pub late : LateBy k v
@@ -324,7 +343,8 @@ module _ (k : Collecting) where
 
   -- A repeat: one more is repeated, and nothing else changes.
   abbrev pub RepeatLeaves : Type 0
-  RepeatLeaves = (given : Handed) (s : State) (heard : Heard) → k .takes given s .answer ≡ Answer.Repeat heard
+  RepeatLeaves = (given : Handed) (s : State) (heard : Heard) (repetition : Repetition)
+      → k .takes given s .answer ≡ Answer.Repeat heard repetition
       → k .takes given s .left ≡ record
       { collector = s .collector; counts = oneRepeated (s .counts); stores = s .stores }
 
@@ -394,6 +414,14 @@ module _ (k : Collecting) where
   abbrev pub AskedLeaves : Type 0
   AskedLeaves = (question : Question) (s : State) → k .asks question s ≡ s
 
+  -- The end user address of a group, in any state: the bytes between its transport number and its segmentation header,
+  -- none where there are none; a group that is not read has none.
+  abbrev pub AddressExactly : Type 0
+  AddressExactly = (bytes : List ℕ) (s : State)
+      → ((carried : Carried) → readingOf bytes ≡ Read carried
+      → k .addresses bytes s ≡ part bytes (endUserAddress bytes) (endUserAddressLength bytes))
+      × ((why : Refusal) → readingOf bytes ≡ Refused why → k .addresses bytes s ≡ [])
+
   -- Calls under other numbers change nothing that is held for a number, nor what is shown of it.
   abbrev pub OthersLeave : Type 0
   OthersLeave = (r : Run) (number : ℕ) (more : List Call) → Each CallBytes more → Each (Elsewhere number) more
@@ -423,6 +451,9 @@ module _ (k : Collecting) where
 
   abbrev pub RepeatExactly : Type 0
   RepeatExactly = (r : Run) → RepeatBy k (since k r)
+
+  abbrev pub ResentRepeats : Type 0
+  ResentRepeats = (r : Run) → ResentBy k (since k r)
 
   abbrev pub CompleteExactly : Type 0
   CompleteExactly = (r : Run) → CompleteBy k (since k r)
@@ -515,6 +546,7 @@ pub record Promised (k : Collecting) : Type 0 where
   pub dropKeeps : DropKeepsStores k
   pub stateAsk : StateAskExactly k
   pub asking : AskedLeaves k
+  pub addressed : AddressExactly k
   pub others : OthersLeave k
   pub shown : ShownJoined k
   pub core : CoreShown k
@@ -523,6 +555,7 @@ pub record Promised (k : Collecting) : Type 0 where
   pub conflict : ConflictExactly k
   pub full : FullExactly k
   pub repeated : RepeatExactly k
+  pub resent : ResentRepeats k
   pub complete : CompleteExactly k
   pub storing : StoredExactly k
   pub late : LateStored k

@@ -4,8 +4,10 @@ use Prim.Native.Nat.{ℕ}
 use Rattle.answer.specs.declared.Part.{Part}
 use Rattle.answer.specs.declared.Part.the-variants.{Header, Body}
 use Rattle.answer.specs.declared.Answer.{Answer}
+use Rattle.answer.specs.declared.Heard.{Heard}
+use Rattle.answer.specs.declared.Repetition.{Repetition}
 use Rattle.answer.specs.declared.Returned.{Returned}
-use Rattle.answer.specs.declared.Returned.the-variants.{Segment, Number, Nothing}
+use Rattle.answer.specs.declared.Returned.the-variants.{Sent, Segment, Number, Nothing}
 use Rattle.answer.specs.Letters.{letters}
 use Rattle.answer.specs.Table.{nameOf, returnedWith}
 use Rattle.listing_output.specs.Number.{decimal, fourDigits}
@@ -30,11 +32,23 @@ partOf Body = letters "B"
 abbrev pub dash : List ℕ
 dash = letters "-"
 
--- transport number, part, segment number
+-- a segment's own values, each with a space behind it: transport number, part, segment number
+abbrev pub segmentText : Heard → List ℕ
+segmentText heard = (fourDigits (heard .number) ++ (space ∷ []))
+    ++ ((partOf (heard .part) ++ (space ∷ [])) ++ (decimal (heard .segment) ++ (space ∷ [])))
+
+-- repetition index, continuity index, repetition count
+abbrev pub meantBy : Repetition → List (List ℕ)
+meantBy repetition = decimal (repetition .index) ∷ decimal (repetition .continuity) ∷ decimal (repetition .count) ∷ []
+
+-- transport number, part, segment number, and what the sender meant by a repeat
 abbrev pub valuesOf : Returned → List (List ℕ)
-valuesOf (Segment heard) = fourDigits (heard .number) ∷ partOf (heard .part) ∷ decimal (heard .segment) ∷ []
-valuesOf (Number number) = fourDigits number ∷ dash ∷ dash ∷ []
-valuesOf Nothing = dash ∷ dash ∷ dash ∷ []
+valuesOf (Sent heard repetition) = fourDigits (heard .number) ∷ partOf (heard .part) ∷ decimal (heard .segment)
+    ∷ meantBy repetition
+valuesOf (Segment heard) = fourDigits (heard .number) ∷ partOf (heard .part) ∷ decimal (heard .segment)
+    ∷ dash ∷ dash ∷ dash ∷ []
+valuesOf (Number number) = fourDigits number ∷ dash ∷ dash ∷ dash ∷ dash ∷ dash ∷ []
+valuesOf Nothing = dash ∷ dash ∷ dash ∷ dash ∷ dash ∷ dash ∷ []
 
 -- the line for an answer: its number, the answer's name, and the values returned with it
 unfoldable pub answerText : ℕ → Answer → List ℕ
@@ -42,7 +56,7 @@ answerText line answer = textOf (decimal line ∷ letters (nameOf answer) ∷ va
 
 -- the line for a malformed one
 unfoldable pub malformedText : ℕ → List ℕ
-malformedText line = textOf (decimal line ∷ letters "LINE" ∷ dash ∷ dash ∷ dash ∷ [])
+malformedText line = textOf (decimal line ∷ letters "LINE" ∷ dash ∷ dash ∷ dash ∷ dash ∷ dash ∷ dash ∷ [])
 
 -- the last line: taken, repeated, refused, completed, dropped
 unfoldable pub countsText : ℕ → ℕ → ℕ → ℕ → ℕ → List ℕ

@@ -4,6 +4,7 @@
 use answer::Answer;
 use answer::Heard;
 use answer::Part;
+use answer::Repetition;
 use answer::Returned;
 ghost use mathlib.Core.Path.{_≡_};
 ghost use mathlib.Core.List.{[], _∷_, _++_};
@@ -14,7 +15,7 @@ ghost use Rattle.answer.specs.Table.{nameOf};
 ghost use Rattle.octets.specs.Octets.{over};
 ghost use Rattle.listing_output.specs.Number.{digit as digitFor, decimal as decimalOf, fourDigits};
 ghost use Rattle.listing_output.specs.laws.Put.{Put};
-ghost use Rattle.listing_output.specs.Text.{space, textOf, partOf, valuesOf, answerText, malformedText, countsText};
+ghost use Rattle.listing_output.specs.Text.{space, textOf, partOf, segmentText, meantBy, valuesOf, answerText, malformedText, countsText};
 
 // A number's decimal digits: those from `start` on.
 struct Numeral {
@@ -107,29 +108,48 @@ fn put_name(out: &mut [u8], at: usize, answer: Answer) -> usize
     put(out, at, &letters[..count], b' ')
 }
 
+// A segment's own values, each with a space behind it.
 fn put_segment(out: &mut [u8], at: usize, heard: Heard) -> usize
     requires { ⌜ at + 28 ≤ length (now out) ⌝ }
-    ensures { λ r. ⌜ Put (now (out .entry)) at (textOf (valuesOf (Returned.Segment heard))) r (now (out .exit)) ⌝ }
+    ensures { λ r. ⌜ Put (now (out .entry)) at (segmentText heard) r (now (out .exit)) ⌝ }
     ensures { λ r. ⌜ r ≤ at + 28 ⌝ }
 {
     let part = put_hex(out, at, heard.number);
     let which = heard.part;
     let segment = put_part(out, part, which);
-    put_decimal(out, segment, heard.segment as u64, b'\n')
+    put_decimal(out, segment, heard.segment as u64, b' ')
+}
+
+// What its sender meant by a repeat, at the end of a line.
+fn put_repetition(out: &mut [u8], at: usize, repetition: Repetition) -> usize
+    requires { ⌜ at + 63 ≤ length (now out) ⌝ }
+    ensures { λ r. ⌜ Put (now (out .entry)) at (textOf (meantBy repetition)) r (now (out .exit)) ⌝ }
+    ensures { λ r. ⌜ r ≤ at + 63 ⌝ }
+{
+    let continuity = put_decimal(out, at, repetition.index as u64, b' ');
+    let count = put_decimal(out, continuity, repetition.continuity as u64, b' ');
+    put_decimal(out, count, repetition.count as u64, b'\n')
 }
 
 fn put_returned(out: &mut [u8], at: usize, returned: Returned) -> usize
-    requires { ⌜ at + 28 ≤ length (now out) ⌝ }
+    requires { ⌜ at + 91 ≤ length (now out) ⌝ }
     ensures { λ r. ⌜ Put (now (out .entry)) at (textOf (valuesOf returned)) r (now (out .exit)) ⌝ }
-    ensures { λ r. ⌜ r ≤ at + 28 ⌝ }
+    ensures { λ r. ⌜ r ≤ at + 91 ⌝ }
 {
     match returned {
-        Returned::Segment(heard) => put_segment(out, at, heard),
+        Returned::Sent(heard, repetition) => {
+            let rest = put_segment(out, at, heard);
+            put_repetition(out, rest, repetition)
+        }
+        Returned::Segment(heard) => {
+            let rest = put_segment(out, at, heard);
+            put(out, rest, b"- - -", b'\n')
+        }
         Returned::Number(number) => {
             let rest = put_hex(out, at, number);
-            put(out, rest, b"- -", b'\n')
+            put(out, rest, b"- - - - -", b'\n')
         }
-        Returned::Nothing => put(out, at, b"- - -", b'\n'),
+        Returned::Nothing => put(out, at, b"- - - - - -", b'\n'),
     }
 }
 
@@ -151,7 +171,7 @@ pub fn write_malformed(line: u64, out: &mut [u8; 128]) -> usize
     ensures { λ r. ⌜ r ≤ 128 ⌝ }
 {
     let name = put_decimal(out, 0, line, b' ');
-    put(out, name, b"LINE - - -", b'\n')
+    put(out, name, b"LINE - - - - - -", b'\n')
 }
 
 // The five counts, at the end; and how long that line is.

@@ -1,3 +1,4 @@
 pub mod Wire
 pub mod Reading
+pub mod Ignored
 pub mod laws

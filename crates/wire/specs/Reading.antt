@@ -1,5 +1,5 @@
 -- How a group is read: document 01's checks in document 01's order, and what is read off a group that passes them all.
-use mathlib.Core.List.{List}
+use mathlib.Core.List.{List, []}
 use mathlib.Core.Bool.{Bool, true, false, not, cond, _||_}
 use Prim.Native.Nat.{ℕ, zero, suc, _+_, _-_}
 use lib.ListN.{length, take, drop}
@@ -9,12 +9,13 @@ use Rattle.answer.specs.declared.Part.{Part}
 use Rattle.answer.specs.declared.Part.the-variants.{Header, Body}
 use Rattle.answer.specs.declared.Refusal.{Refusal}
 use Rattle.answer.specs.declared.Refusal.the-variants as Refusal
+use Rattle.answer.specs.declared.Repetition.{Repetition}
 use Rattle.wire.specs.declared.Kind.{Kind}
 use Rattle.wire.specs.declared.Kind.the-variants.{Carries, Other}
 use Rattle.wire.specs.declared.Carried.{Carried}
 use Rattle.wire.specs.declared.Reading.{Reading}
 use Rattle.wire.specs.declared.Reading.the-variants.{Read, Refused}
-use Rattle.wire.specs.Wire.{groupLeast, groupMost, segmentLeast, segmentMost, fullLeast, crcFlag, segmentFlag, userAccessFlag, typeNumber, lastFlag, segmentNumber, userAccess, transportFlag, lengthIndicator, transportNumber, segmentSize, segmentStart, checkStart, checkField, checkCovers}
+use Rattle.wire.specs.Wire.{groupLeast, groupMost, segmentLeast, segmentMost, fullLeast, crcFlag, segmentFlag, userAccessFlag, typeNumber, lastFlag, segmentNumber, userAccess, transportFlag, lengthIndicator, transportNumber, segmentSize, segmentStart, checkStart, checkField, checkCovers, repetitionIndex, continuityIndex, repetitionCount, endUserAddress, endUserAddressLength}
 
 infixr 1 _if_otherwise_
 -- the refusal where the test holds, and otherwise what follows
@@ -41,6 +42,14 @@ leastSize Body (suc number) true = segmentLeast
 unfoldable pub sizeWrong : ℕ → ℕ → ℕ → Bool
 sizeWrong least size left = ltb size least || not (eqb size left) || ltb segmentMost size
 
+-- what the sender of a group meant by a repeat
+abbrev pub repetitionIn : List ℕ → Repetition
+repetitionIn group = record {
+  index = repetitionIndex group;
+  continuity = continuityIndex group;
+  count = repetitionCount group;
+}
+
 -- what a group carries, once it has passed the checks
 unfoldable pub segmentOf : List ℕ → Part → Carried
 segmentOf group part = record {
@@ -50,6 +59,9 @@ segmentOf group part = record {
   last = lastFlag group;
   start = segmentStart group;
   length = segmentSize group;
+  repetition = repetitionIn group;
+  «address_start» = endUserAddress group;
+  «address_length» = endUserAddressLength group;
 }
 
 -- the bytes that a segment has in its group
@@ -77,3 +89,11 @@ readingOf group =
     Refusal.Size if sizeWrong (leastSize part (segmentNumber group) (lastFlag group)) (segmentSize group)
     (checkStart group - segmentStart group) otherwise
     Read (segmentOf group part)
+
+-- the end user address; a group that is not read has none
+abbrev pub addressIn : Reading → List ℕ → List ℕ
+addressIn (Read carried) group = take (carried .«address_length») (drop (carried .«address_start») group)
+addressIn (Refused why) group = []
+
+unfoldable pub addressOf : List ℕ → List ℕ
+addressOf group = addressIn (readingOf group) group

@@ -1,14 +1,16 @@
 // One group read off the wire (EN 300 401, clause 5.3.3): the segment that it carries and where in
-// the group that segment's bytes stand, or the first refusal in document 01's order. Any bytes of
-// any length are read; nothing past them is looked at.
+// the group that segment's bytes stand, what its sender meant by a repeat and where the end user
+// address stands, or the first refusal in document 01's order. Any bytes of any length are read;
+// nothing past them is looked at.
 use answer::Part;
 use answer::Refusal;
+use answer::Repetition;
 ghost use mathlib.Core.Path.{_≡_};
-ghost use Prim.Native.Nat.{_+_, _≤_, _<_};
+ghost use Prim.Native.Nat.{_+_, _/_, _%_, _≤_, _<_};
 ghost use lib.ListN.{length};
 ghost use Rattle.wire.specs.Wire.{checkBytes, wordAt};
-ghost use Rattle.wire.specs.Reading.{kindOf, checkHolds, leastSize, sizeWrong, readingOf};
-ghost use Rattle.wire.specs.laws.Session.{sessionOf};
+ghost use Rattle.wire.specs.Reading.{kindOf, checkHolds, leastSize, sizeWrong, readingOf, addressOf};
+ghost use Rattle.wire.specs.laws.Session.{Addressed, segmentationOf, sessionOf};
 
 // Bytes of a group.
 pub const GROUP_LEAST: usize = 2;
@@ -33,7 +35,8 @@ pub enum Kind {
 }
 
 // A segment as a group carries it: its transport number, its part, its segment number, whether it is the last
-// one, and where in the group its bytes start and how many they are.
+// one, and where in the group its bytes start and how many they are. Beside it, what plays no part in gathering:
+// what the sender meant by a repeat, and where in the group the end user address starts and how many bytes it has.
 pub struct Carried {
     pub number: u16,
     pub part: Part,
@@ -41,6 +44,9 @@ pub struct Carried {
     pub last: bool,
     pub start: usize,
     pub length: usize,
+    pub repetition: Repetition,
+    pub address_start: usize,
+    pub address_length: usize,
 }
 
 pub enum Reading {
@@ -107,6 +113,53 @@ fn size_wrong(least: usize, size: usize, left: usize) -> bool
     SEGMENT_MOST < size
 }
 
+// What the sender meant by a repeat: two indices in byte 1, and a count before the segment's size.
+fn repetition_of(indices: u8, segmentation: u16) -> Repetition
+    ensures { λ r. ⌜ r ≡ record
+        { index = indices % 0x10; continuity = indices / 0x10; count = segmentation / 0x2000 } ⌝ }
+{
+    Repetition {
+        index: indices % 16,
+        continuity: indices / 16,
+        count: (segmentation / 8192) as u8,
+    }
+}
+
+// The rest of a group whose session header is read: its segmentation header, and the segment.
+fn segmentation(group: &[u8], part: Part, field: usize, indicator: usize) -> Reading
+    requires { ⌜ Addressed (now group) field indicator ⌝ }
+    ensures { λ r. ⌜ r ≡ segmentationOf (now (group .entry)) part ⌝ }
+{
+    let end = group.len() - CHECK_BYTES;
+    let access = field + 2;
+    let header = access + 1 + indicator;
+    let start = header + 2;
+    if end < start {
+        return Reading::Refused(Refusal::Length);
+    }
+    let sized = word_at(group, header);
+    let size = (sized % 8192) as usize;
+    let said = word_at(group, field);
+    let last = said / 32768 == 1;
+    let segment = said % 32768;
+    if size_wrong(least_size(part, segment, last), size, end - start) {
+        return Reading::Refused(Refusal::Size);
+    }
+    let address_start = access + 3;
+    let address_length = indicator - 2;
+    Reading::Read(Carried {
+        number: word_at(group, access + 1),
+        part,
+        segment,
+        last,
+        start,
+        length: size,
+        repetition: repetition_of(group[1], sized),
+        address_start,
+        address_length,
+    })
+}
+
 // The rest of a group whose check word holds and whose part is known.
 fn session(group: &[u8], part: Part) -> Reading
     requires { ⌜ 4 ≤ length (now group) ⌝ }
@@ -132,25 +185,7 @@ fn session(group: &[u8], part: Part) -> Reading
     if indicator < 2 {
         return Reading::Refused(Refusal::Address);
     }
-    let start = access + 1 + indicator + 2;
-    if end < start {
-        return Reading::Refused(Refusal::Length);
-    }
-    let size = (word_at(group, access + 1 + indicator) % 8192) as usize;
-    let said = word_at(group, field);
-    let last = said / 32768 == 1;
-    let segment = said % 32768;
-    if size_wrong(least_size(part, segment, last), size, end - start) {
-        return Reading::Refused(Refusal::Size);
-    }
-    Reading::Read(Carried {
-        number: word_at(group, access + 1),
-        part,
-        segment,
-        last,
-        start,
-        length: size,
-    })
+    segmentation(group, part, field, indicator)
 }
 
 // What a group carries, or the first refusal in document 01's order.
@@ -177,4 +212,17 @@ pub fn read(group: &[u8]) -> Reading
         return Reading::Refused(Refusal::Kind);
     };
     session(group, part)
+}
+
+// The end user address of a group, as the part of the group that it stands in; nothing where it has none, as where the
+// group is not read.
+pub fn end_user_address(group: &[u8]) -> &[u8]
+    ensures { λ r. ⌜ now r ≡ addressOf (now (group .entry)) ⌝ }
+{
+    let Reading::Read(carried) = read(group) else {
+        return &group[..0];
+    };
+    let start = carried.address_start;
+    let end = start + carried.address_length;
+    &group[start..end]
 }

@@ -2,7 +2,7 @@
 -- the state and the counts.
 use mathlib.Core.Bool.{Bool, true, false}
 use mathlib.Core.List.{List, [], _∷_}
-use Prim.Native.Nat.{ℕ, _+_, _*_}
+use Prim.Native.Nat.{ℕ, _+_, _*_, _%_}
 use lib.Dec.{eqb}
 use lib.ListN.{length}
 use Rattle.answer.specs.Table.{numberOf, returnedWith}
@@ -12,8 +12,12 @@ use Rattle.answer.specs.declared.Reason.the-variants as Reason
 use Rattle.answer.specs.declared.Heard.{Heard}
 use Rattle.answer.specs.declared.Part.{Part}
 use Rattle.answer.specs.declared.Part.the-variants as Part
+use Rattle.answer.specs.declared.Repetition.{Repetition}
 use Rattle.answer.specs.declared.Returned.{Returned}
-use Rattle.answer.specs.declared.Returned.the-variants.{Segment, Number, Nothing}
+use Rattle.answer.specs.declared.Returned.the-variants.{Sent, Segment, Number, Nothing}
+use Rattle.wire.specs.declared.Reading.{Reading}
+use Rattle.wire.specs.declared.Reading.the-variants as Reading
+use Rattle.wire.specs.Reading.{readingOf}
 use Rattle.cut.specs.Decision.{both}
 use Rattle.cut.specs.Lists.{pick}
 use Rattle.object.specs.declared.Stage.{Stage}
@@ -37,7 +41,8 @@ use Rattle.header.specs.declared.Priority.{Priority}
 use Rattle.header.specs.declared.Priority.the-variants as Priority
 use Rattle.layout.specs.Layout.{headerWord, bodyWord, wordsOf, countWords, collectorFrom, countsFrom, readable}
 
--- ---- an answer in one word: its number, then the part, the transport number and the segment's number
+-- ---- an answer in one word: its number, then the part, the transport number and the segment's number, and what the
+-- sender meant by a repeat
 
 abbrev pub partWord : Part → ℕ
 partWord Part.Header = 0
@@ -46,7 +51,13 @@ partWord Part.Body = 1
 abbrev pub heardWord : Heard → ℕ
 heardWord heard = partWord (heard .part) * 256 + heard .number * 65536 + heard .segment * 4294967296
 
+-- its repetition index, four bits, its continuity index, four bits, and its repetition count, three bits
+abbrev pub repetitionWord : Repetition → ℕ
+repetitionWord repetition = repetition .index % 16 * 281474976710656
+    + repetition .continuity % 16 * 4503599627370496 + repetition .count % 8 * 72057594037927936
+
 abbrev pub returnedWord : Returned → ℕ
+returnedWord (Sent heard repetition) = heardWord heard + repetitionWord repetition
 returnedWord (Segment heard) = heardWord heard
 returnedWord (Number number) = number * 65536
 returnedWord Nothing = 0
@@ -72,10 +83,10 @@ held words counts stores = state (collectorFrom words) (countsFrom counts) store
 
 -- an object's record is another one now
 abbrev pub changes : Answer → Bool
-changes (Stored heard) = true
-changes (Complete heard) = true
+changes (Stored heard repetition) = true
+changes (Complete heard repetition) = true
 changes (Dropped number) = true
-changes (Repeat heard) = false
+changes (Repeat heard repetition) = false
 changes (Refused refusal) = false
 changes (Conflict heard) = false
 changes (Full heard) = false
@@ -198,3 +209,18 @@ soughtWord (Sought.Denied why) = numberOf (Denied why)
 unfoldable pub findCall : List ℕ → List ℕ → List ℕ → Stores → ℕ
 findCall name words counts stores =
     pick (lentRight words counts) (soughtWord (find name (held words counts stores))) (numberOf (Denied Reason.State))
+
+-- ---- where the end user address of a group stands
+
+-- why a group is not read, or 0
+abbrev pub refusalWord : Reading → ℕ
+refusalWord (Reading.Refused why) = numberOf (Refused why)
+refusalWord (Reading.Read carried) = 0
+
+-- where it starts, and how many bytes it has
+abbrev pub addressWord : Reading → ℕ
+addressWord (Reading.Refused why) = numberOf (Refused why)
+addressWord (Reading.Read carried) = carried .«address_start» * 65536 + carried .«address_length» * 4294967296
+
+unfoldable pub addressCall : List ℕ → ℕ
+addressCall group = addressWord (readingOf group)

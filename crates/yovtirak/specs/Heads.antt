@@ -11,8 +11,9 @@ use Rattle.history.specs.Handed.{Handed}
 use Rattle.history.specs.History.{Question, Call, hand, ask, reached}
 use Rattle.history.specs.Ours.{ours}
 use Rattle.layout.specs.Layout.{countsFrom, collectorFrom, wordsOf, countWords}
-use Rattle.yovtirak.specs.Exports.{Called, held, answerWord, openCall, takeCall, dropCall, Told, placeTold, finishedCall, fieldsTold, readCall, soughtWord, findCall}
+use Rattle.yovtirak.specs.Exports.{Called, held, answerWord, openCall, takeCall, dropCall, Told, placeTold, finishedCall, fieldsTold, readCall, soughtWord, findCall, addressWord, addressCall}
 use Rattle.octets.specs.Octets.{part}
+use Rattle.wire.specs.Reading.{readingOf}
 use Rattle.cut.specs.Lists.{Bytes}
 use Rattle.cut.specs.Requirement.{headerMost}
 
@@ -29,6 +30,7 @@ pub data HeadCall : Type 0 where
   finished : (number : ℕ) (place : List ℕ) → HeadCall
   read : (number : ℕ) (told : List ℕ) → HeadCall
   find : (name : List ℕ) → HeadCall
+  address : (group : List ℕ) → HeadCall
 
 -- a group is bytes, as all memory is
 abbrev pub GroupBytes : HeadCall → Type 0
@@ -37,6 +39,7 @@ GroupBytes (drop number) = Unit {0}
 GroupBytes (finished number place) = Unit {0}
 GroupBytes (read number told) = Unit {0}
 GroupBytes (find name) = Unit {0}
+GroupBytes (address group) = Unit {0}
 
 abbrev pub leftBy : Called → Lent
 leftBy c = record { state = c .state; counts = c .counts; stores = c .stores }
@@ -51,6 +54,7 @@ leaves (drop number) l = leftBy (dropCall number (l .state) (l .counts) (l .stor
 leaves (finished number place) l = l
 leaves (read number told) l = l
 leaves (find name) l = l
+leaves (address group) l = l
 
 -- what it returns, and what a question writes
 abbrev pub returns : HeadCall → Lent → Told
@@ -59,6 +63,7 @@ returns (drop number) l = record { result = dropCall number (l .state) (l .count
 returns (finished number place) l = finishedCall number (l .state) (l .counts) (l .stores) place
 returns (read number told) l = readCall number (l .state) (l .counts) (l .stores) told
 returns (find name) l = record { result = findCall name (l .state) (l .counts) (l .stores); told = [] }
+returns (address group) l = record { result = addressCall group; told = [] }
 
 -- after an opening and these calls
 abbrev pub after : ℕ → ℕ → Lent → List HeadCall → Lent
@@ -76,6 +81,7 @@ asCall (drop number) = Call.drop number
 asCall (finished number place) = ask (Question.show number Header)
 asCall (read number told) = ask (Question.parameters number)
 asCall (find name) = ask (Question.find name)
+asCall (address group) = ask (Question.address group)
 
 abbrev pub asCalls : List HeadCall → List Call
 asCalls [] = []
@@ -92,6 +98,7 @@ inWords (drop number) s = record { result = answerWord (ours .drops number s .an
 inWords (finished number place) s = placeTold (ours .locates number s) (s .collector) place
 inWords (read number told) s = fieldsTold (ours .tells number s) told
 inWords (find name) s = record { result = soughtWord (ours .finds name s); told = [] }
+inWords (address group) s = record { result = addressWord (readingOf group); told = [] }
 
 -- what a question writes into is as long as it must be
 abbrev pub Fitting : HeadCall → Type 0
@@ -100,6 +107,7 @@ Fitting (drop number) = Unit {0}
 Fitting (finished number place) = length place ≡ 3
 Fitting (read number told) = length told ≡ 7
 Fitting (find name) = Unit {0}
+Fitting (address group) = Unit {0}
 
 -- where a finished object stands, in any words: the slot, h and b that are told, such that the first h bytes of the
 -- slot's share of the header store and the first b of its share of the body store are what `show` hands back

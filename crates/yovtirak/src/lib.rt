@@ -5,6 +5,7 @@
 use answer::Answer;
 use answer::Heard;
 use answer::Part;
+use answer::Repetition;
 use answer::Returned;
 use collector::Collector;
 use collector::Located;
@@ -17,13 +18,14 @@ use object::Slot;
 use object::Stage;
 use queries::Asked;
 use queries::Sought;
+use wire::Reading;
 ghost use mathlib.Core.Path.{_≡_};
 ghost use Prim.Native.Nat.{_<_};
 ghost use lib.ListN.{length};
 ghost use Rattle.slots.specs.Stores.{slotAt};
 ghost use Rattle.layout.specs.Layout.{wordsOf, countWords};
 ghost use Rattle.collector.specs.State.{stores};
-ghost use Rattle.yovtirak.specs.Exports.{called, openingWord, isOpen, openCall, partWord, heardWord, returnedWord, answerWord, changes, takeCall, dropCall, refusedWord, placeWords, finishedCall, priorityWord, nameStart, nameLength, fieldWords, unreadWord, readCall, soughtWord, findCall};
+ghost use Rattle.yovtirak.specs.Exports.{called, openingWord, isOpen, openCall, partWord, heardWord, repetitionWord, returnedWord, answerWord, changes, takeCall, dropCall, refusedWord, placeWords, finishedCall, priorityWord, nameStart, nameLength, fieldWords, unreadWord, readCall, soughtWord, findCall, refusalWord, addressCall};
 ghost use Rattle.cut.specs.Lists.{pick};
 
 // The answers that are given of wrong words, before there is a collector.
@@ -49,10 +51,21 @@ fn heard_word(heard: Heard) -> u64
     part_word(part) * 256 + number * 65536 + segment * 4294967296
 }
 
+// Four bits, four bits and three bits.
+fn repetition_word(repetition: Repetition) -> u64
+    ensures { λ r. ⌜ (r ≡ repetitionWord repetition) × (r < 576460752303423488) ⌝ }
+{
+    let index = (repetition.index % 16) as u64;
+    let continuity = (repetition.continuity % 16) as u64;
+    let count = (repetition.count % 8) as u64;
+    index * 281474976710656 + continuity * 4503599627370496 + count * 72057594037927936
+}
+
 fn returned_word(returned: Returned) -> u64
-    ensures { λ r. ⌜ (r ≡ returnedWord returned) × (r < 281474976710656) ⌝ }
+    ensures { λ r. ⌜ (r ≡ returnedWord returned) × (r < 1152921504606846976) ⌝ }
 {
     match returned {
+        Returned::Sent(heard, repetition) => heard_word(heard) + repetition_word(repetition),
         Returned::Segment(heard) => heard_word(heard),
         Returned::Number(number) => number as u64 * 65536,
         Returned::Nothing => 0,
@@ -73,10 +86,10 @@ fn changes(answer: Answer) -> bool
     ensures { λ r. ⌜ r ≡ changes answer ⌝ }
 {
     match answer {
-        Answer::Stored(_) => true,
-        Answer::Complete(_) => true,
+        Answer::Stored(_, _) => true,
+        Answer::Complete(_, _) => true,
         Answer::Dropped(_) => true,
-        Answer::Repeat(_) => false,
+        Answer::Repeat(_, _) => false,
         Answer::Refused(_) => false,
         Answer::Conflict(_) => false,
         Answer::Full(_) => false,
@@ -404,4 +417,27 @@ pub extern "C" fn yovtirak_find(
     let collector = layout::collector_from(state);
     let counted = layout::counts_from(counts);
     sought_word(queries::find(collector, counted, name, header, body, marks))
+}
+
+fn refusal_word(reading: Reading) -> u64
+    ensures { λ r. ⌜ r ≡ refusalWord reading ⌝ }
+{
+    match reading {
+        Reading::Refused(why) => answer::number_of(Answer::Refused(why)) as u64,
+        Reading::Read(_) => 0,
+    }
+}
+
+// Where the end user address of a group stands.
+#[no_mangle]
+pub extern "C" fn yovtirak_address(group: &[u8]) -> u64
+    ensures { λ r. ⌜ r ≡ addressCall (now (group .entry)) ⌝ }
+{
+    let reading = wire::read(group);
+    let Reading::Read(carried) = reading else {
+        return refusal_word(reading);
+    };
+    let start = carried.address_start as u64;
+    let count = carried.address_length as u64;
+    start * 65536 + count * 4294967296
 }

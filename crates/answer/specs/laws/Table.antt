@@ -43,9 +43,9 @@ pub reason-from : (reason : Reason) → 19 ≤ reasonRow reason .number
 reason-from reason = reason-table reason .0
 
 pub name-short : (answer : Answer) → length (letters (nameOf answer)) ≤ 10
-name-short (Stored heard) = omega arith
-name-short (Complete heard) = omega arith
-name-short (Repeat heard) = omega arith
+name-short (Stored heard repetition) = omega arith
+name-short (Complete heard repetition) = omega arith
+name-short (Repeat heard repetition) = omega arith
 name-short (Dropped number) = omega arith
 name-short (Refused refusal) = refusal-table refusal .1
 name-short (Conflict heard) = omega arith
@@ -54,9 +54,9 @@ name-short (Denied reason) = reason-table reason .3
 
 -- a number is a byte
 pub number-byte : (answer : Answer) → numberOf answer < 256
-number-byte (Stored heard) = omega arith
-number-byte (Complete heard) = omega arith
-number-byte (Repeat heard) = omega arith
+number-byte (Stored heard repetition) = omega arith
+number-byte (Complete heard repetition) = omega arith
+number-byte (Repeat heard repetition) = omega arith
 number-byte (Dropped number) = omega arith
 number-byte (Refused refusal) = omega (arith, refusal-to refusal)
 number-byte (Conflict heard) = omega arith
@@ -65,9 +65,9 @@ number-byte (Denied reason) = reason-table reason .1
 
 -- NO ANSWER HAS THE RETIRED NUMBER
 pub never-retired : (answer : Answer) → numberOf answer ≢ retired
-never-retired (Stored heard) e = omega arith
-never-retired (Complete heard) e = omega arith
-never-retired (Repeat heard) e = omega arith
+never-retired (Stored heard repetition) e = omega arith
+never-retired (Complete heard repetition) e = omega arith
+never-retired (Repeat heard repetition) e = omega arith
 never-retired (Dropped number) e = omega arith
 never-retired (Refused refusal) e = omega (arith, refusal-to refusal)
 never-retired (Conflict heard) e = omega arith

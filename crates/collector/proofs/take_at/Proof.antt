@@ -1,6 +1,7 @@
 -- `collector::take_at` meets its contract: what the slot has taken, told as an answer.
 -- Assumes nothing.
 use mathlib.Core.Path.{ap}
+use Rattle.collector.specs.Arrival.{arrival}
 use Rattle.collector.specs.Changes.{cameTo}
 use borrow.Author.Needs.{needs}
 use Rattle.collector.proofs.take_at.Statement.{statement}
@@ -29,7 +30,9 @@ returns c =
     let at-take-into = c .before .before .before .before .before .before .before .before in
     let start = at-take-into .before .before .before .before .before .before .before .before .before in
     let a = start .args in
-    rw (c .answer-as .ensures) (ap (cameTo (a .i) (a .heard)) (at-take-into .take-into .ensures))
+    rw (c .answer-as .ensures)
+    (ap (cameTo (a .i) (arrival (a .heard) (a .repetition) (a .last) (a .bytes .now)))
+    (at-take-into .take-into .ensures))
 
 pub take-at-spec : {M : Type 1} → statement M
 take-at-spec =

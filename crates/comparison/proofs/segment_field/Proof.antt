@@ -18,6 +18,9 @@ cast-result-2 c = search needs
 flag-number-requires : tie.Need-flag-number-requires
 flag-number-requires c κs = search needs
 
+beside-field-requires : tie.Need-beside-field-requires
+beside-field-requires c κs = search needs
+
 returns : tie.Need-returns
 unfolding segmentField
 returns c = rw (c .before .match .keys1)
@@ -44,16 +47,18 @@ returns-6 c = rw (c .match .keys6)
 
 returns-7 : tie.Need-returns-7
 unfolding segmentField
-returns-7 c = simp (
-  ne-eqb _ 1 (c .match .rest .0 .0 .0 .0 .0 .1),
-  ne-eqb _ 2 (c .match .rest .0 .0 .0 .0 .1),
-  ne-eqb _ 3 (c .match .rest .0 .0 .0 .1),
-  ne-eqb _ 4 (c .match .rest .0 .0 .1),
-  ne-eqb _ 5 (c .match .rest .0 .1),
-  ne-eqb _ 6 (c .match .rest .1),
-)
+returns-7 c =
+    let rest = c .before .match .rest in
+    rw (
+      ne-eqb _ 1 (rest .0 .0 .0 .0 .0 .1),
+      ne-eqb _ 2 (rest .0 .0 .0 .0 .1),
+      ne-eqb _ 3 (rest .0 .0 .0 .1),
+      ne-eqb _ 4 (rest .0 .0 .1),
+      ne-eqb _ 5 (rest .0 .1),
+      ne-eqb _ 6 (rest .1),
+    ) (c .beside-field .ensures)
 
 pub segment-field-spec : {M : Type 1} → statement M
 segment-field-spec =
-    tie.close (tie.spec cast-result part-number-requires cast-result-2 flag-number-requires returns returns-2 returns-3
-    returns-4 returns-5 returns-6 returns-7)
+    tie.close (tie.spec cast-result part-number-requires cast-result-2 flag-number-requires beside-field-requires
+    returns returns-2 returns-3 returns-4 returns-5 returns-6 returns-7)

@@ -6,7 +6,6 @@ use Prim.Native.Nat.{ℕ, _≤_}
 use native.Mathlib.Omega.{arith}
 use Rattle.answer.specs.declared.Answer.{Answer}
 use Rattle.answer.specs.declared.Answer.the-variants as Answer
-use Rattle.answer.specs.declared.Heard.{Heard}
 use Rattle.answer.specs.declared.Part.{Part}
 use Rattle.answer.specs.declared.Part.the-variants.{Header, Body}
 use Rattle.cut.specs.Requirement.{limitMost, Segment, Fits, Finished}
@@ -25,7 +24,7 @@ use Rattle.slots.specs.declared.Found.{Found}
 use Rattle.slots.specs.declared.Found.the-variants.{Nothing, At}
 use Rattle.slots.specs.Stores.{freshSlot}
 use Rattle.collector.specs.State.{Reply, State, find, free}
-use Rattle.collector.specs.Calls.{answerAs}
+use Rattle.collector.specs.Calls.{answerFor}
 use Rattle.collector.specs.Arrival.{Arrival, heardAs}
 use Rattle.history.specs.Held.{SlotFor, lentOf, limitOf, slotOf, markedUnder}
 use Rattle.history.specs.laws.Call.{Came, alone, full, first, more}
@@ -68,29 +67,29 @@ exactly Repeat part limit segment slot lent hs bs z y g = repeat-exactly part li
 exactly Conflict part limit segment slot lent hs bs z y g = conflict-exactly part limit segment slot lent hs bs z y g
 
 -- different outcomes are answered differently
-named-once : (o p : Outcome) (heard : Heard) → answerAs o heard ≡ answerAs p heard → o ≡ p
-named-once Stored Stored heard e = refl
-named-once Stored Complete heard e = cc
-named-once Stored Repeat heard e = cc
-named-once Stored Conflict heard e = cc
-named-once Complete Stored heard e = cc
-named-once Complete Complete heard e = refl
-named-once Complete Repeat heard e = cc
-named-once Complete Conflict heard e = cc
-named-once Repeat Stored heard e = cc
-named-once Repeat Complete heard e = cc
-named-once Repeat Repeat heard e = refl
-named-once Repeat Conflict heard e = cc
-named-once Conflict Stored heard e = cc
-named-once Conflict Complete heard e = cc
-named-once Conflict Repeat heard e = cc
-named-once Conflict Conflict heard e = refl
+named-once : (o p : Outcome) (arrived : Arrival) → answerFor o arrived ≡ answerFor p arrived → o ≡ p
+named-once Stored Stored arrived e = refl
+named-once Stored Complete arrived e = cc
+named-once Stored Repeat arrived e = cc
+named-once Stored Conflict arrived e = cc
+named-once Complete Stored arrived e = cc
+named-once Complete Complete arrived e = refl
+named-once Complete Repeat arrived e = cc
+named-once Complete Conflict arrived e = cc
+named-once Repeat Stored arrived e = cc
+named-once Repeat Complete arrived e = cc
+named-once Repeat Repeat arrived e = refl
+named-once Repeat Conflict arrived e = cc
+named-once Conflict Stored arrived e = cc
+named-once Conflict Complete arrived e = cc
+named-once Conflict Repeat arrived e = cc
+named-once Conflict Conflict arrived e = refl
 
-never-full : (o : Outcome) (heard : Heard) → Answer.Full heard ≡ answerAs o heard → ⊥
-never-full Stored heard e = let z : _≡_ {A = ℕ} 0 1 = cc in absurd (omega arith)
-never-full Complete heard e = let z : _≡_ {A = ℕ} 0 1 = cc in absurd (omega arith)
-never-full Repeat heard e = let z : _≡_ {A = ℕ} 0 1 = cc in absurd (omega arith)
-never-full Conflict heard e = let z : _≡_ {A = ℕ} 0 1 = cc in absurd (omega arith)
+never-full : (o : Outcome) (arrived : Arrival) → Answer.Full (heardAs arrived) ≡ answerFor o arrived → ⊥
+never-full Stored arrived e = let z : _≡_ {A = ℕ} 0 1 = cc in absurd (omega arith)
+never-full Complete arrived e = let z : _≡_ {A = ℕ} 0 1 = cc in absurd (omega arith)
+never-full Repeat arrived e = let z : _≡_ {A = ℕ} 0 1 = cc in absurd (omega arith)
+never-full Conflict arrived e = let z : _≡_ {A = ℕ} 0 1 = cc in absurd (omega arith)
 
 unlike : {found : Found} (i : ℕ) → found ≡ At i → found ≡ Nothing → ⊥
 unlike i e f = let z : _≡_ {A = ℕ} 0 1 = cc in absurd (omega arith)
@@ -102,11 +101,12 @@ roomy Complete number s r = r
 roomy Repeat number s r = tt
 roomy Conflict number s r = tt
 
-offered-exactly : (o p : Outcome) (heard : Heard) (number : ℕ) (s : State) (M : Type 0) → (p ≡ o) ↔ M → SlotFor number s
-    → (answerAs p heard ≡ answerAs o heard) ↔ (M × Room o number s)
-offered-exactly o p heard number s M x r = (
-  (λ e. (x .0 (named-once p o heard e), roomy o number s r)),
-  (λ m. ap (λ (q : Outcome). answerAs q heard) (x .1 (m .0))),
+offered-exactly : (o p : Outcome) (arrived : Arrival) (number : ℕ) (s : State) (M : Type 0) → (p ≡ o) ↔ M
+    → SlotFor number s
+    → (answerFor p arrived ≡ answerFor o arrived) ↔ (M × Room o number s)
+offered-exactly o p arrived number s M x r = (
+  (λ e. (x .0 (named-once p o arrived e), roomy o number s r)),
+  (λ m. ap (λ (q : Outcome). answerFor q arrived) (x .1 (m .0))),
 )
 
 among-none : (part : Part) (segment : Segment) → Among segment (those part [] []) → ⊥
@@ -117,7 +117,7 @@ among-none Body segment i = i
 alone-exactly : (o : Outcome) (arrived : Arrival) (s : State) (limit : ℕ)
     → ¬ (Fits limit (headersWith (arrived .part) (arrived .segment) [])
     (bodiesWith (arrived .part) (arrived .segment) []))
-    → (Answer.Conflict (heardAs arrived) ≡ answerAs o (heardAs arrived))
+    → (Answer.Conflict (heardAs arrived) ≡ answerFor o arrived)
     ↔ (Meets o (arrived .part) limit (arrived .segment) [] [] × Room o (arrived .number) s)
 alone-exactly Stored arrived s limit n =
     ((λ e. let z : _≡_ {A = ℕ} 0 1 = cc in absurd (omega arith)), (λ m. absurd (n (m .0 .0 .0))))
@@ -133,25 +133,25 @@ alone-exactly Conflict arrived s limit n = ((λ e. (n, tt)), (λ m. refl))
 full-never : (o : Outcome) (arrived : Arrival) (s : State) (limit : ℕ)
     → Fits limit (headersWith (arrived .part) (arrived .segment) []) (bodiesWith (arrived .part) (arrived .segment) [])
     → find (arrived .number) s ≡ Nothing → free s ≡ Nothing
-    → (Answer.Full (heardAs arrived) ≡ answerAs o (heardAs arrived))
+    → (Answer.Full (heardAs arrived) ≡ answerFor o arrived)
     ↔ (Meets o (arrived .part) limit (arrived .segment) [] [] × Room o (arrived .number) s)
 full-never Stored arrived s limit f n g =
-    ((λ e. absurd (never-full Stored (heardAs arrived) e)), (λ m. absurd (m .1 (n, g))))
+    ((λ e. absurd (never-full Stored arrived e)), (λ m. absurd (m .1 (n, g))))
 full-never Complete arrived s limit f n g =
-    ((λ e. absurd (never-full Complete (heardAs arrived) e)), (λ m. absurd (m .1 (n, g))))
+    ((λ e. absurd (never-full Complete arrived e)), (λ m. absurd (m .1 (n, g))))
 full-never Repeat arrived s limit f n g = (
-  (λ e. absurd (never-full Repeat (heardAs arrived) e)),
+  (λ e. absurd (never-full Repeat arrived e)),
   (λ m. absurd (among-none (arrived .part) (arrived .segment) (m .0))),
 )
 full-never Conflict arrived s limit f n g =
-    ((λ e. absurd (never-full Conflict (heardAs arrived) e)), (λ m. absurd (m .0 f)))
+    ((λ e. absurd (never-full Conflict arrived e)), (λ m. absurd (m .0 f)))
 
 -- ---- the answer to a group that was read
 
 module _ (arrived : Arrival) (s : State) (hs bs : List Segment) (y : Bytes (arrived .segment .bytes)) (whole : Intact s)
     (w : StandsFor (arrived .number) s hs bs) where
   -- STORED, COMPLETE, REPEAT and CONFLICT, each exactly when demand 3 says
-  pub came-exactly : (t : Reply) → Came arrived s t → (o : Outcome) → (t .answer ≡ answerAs o (heardAs arrived))
+  pub came-exactly : (t : Reply) → Came arrived s t → (o : Outcome) → (t .answer ≡ answerFor o arrived)
       ↔ (Meets o (arrived .part) (limitOf s) (arrived .segment) hs bs × Room o (arrived .number) s)
   came-exactly t (alone n a e) o =
       let none = w .rest n in
@@ -170,12 +170,12 @@ module _ (arrived : Arrival) (s : State) (hs bs : List Segment) (y : Bytes (arri
       (free-marks s (whole .undamaged) i f) in
       rw (e, none .0, none .1) (offered-exactly o
       (takeInto (arrived .part) (limitOf s) (arrived .segment) (freshSlot (arrived .number)) (lentOf i s) .outcome)
-      (heardAs arrived) (arrived .number) s (Meets o (arrived .part) (limitOf s) (arrived .segment) [] [])
+      arrived (arrived .number) s (Meets o (arrived .part) (limitOf s) (arrived .segment) [] [])
       (exactly o (arrived .part) (limitOf s) (arrived .segment) (freshSlot (arrived .number)) (lentOf i s) [] [] z y g)
       (λ x. unlike i f (x .1)))
   came-exactly t (more i n e) o =
       rw e (offered-exactly o (takeInto (arrived .part) (limitOf s) (arrived .segment) (slotOf i s)
-      (lentOf i s) .outcome) (heardAs arrived) (arrived .number) s
+      (lentOf i s) .outcome) arrived (arrived .number) s
       (Meets o (arrived .part) (limitOf s) (arrived .segment) hs bs)
       (exactly o (arrived .part) (limitOf s) (arrived .segment) (slotOf i s) (lentOf i s) hs bs
       (limit-low s (whole .undamaged)) y (w .held i n .gathers)) (λ x. unlike i n (x .0)))
@@ -201,18 +201,18 @@ module _ (arrived : Arrival) (s : State) (hs bs : List Segment) (y : Bytes (arri
   came-full t (first i n a f e) =
       rw e (
         (λ d. absurd (never-full (takeInto (arrived .part) (limitOf s) (arrived .segment)
-            (freshSlot (arrived .number)) (lentOf i s) .outcome) (heardAs arrived) (sym d))),
+            (freshSlot (arrived .number)) (lentOf i s) .outcome) arrived (sym d))),
         (λ m. absurd (unlike i f (m .2))),
       )
   came-full t (more i n e) = rw e (
     (λ d. absurd (never-full (takeInto (arrived .part) (limitOf s) (arrived .segment) (slotOf i s)
-        (lentOf i s) .outcome) (heardAs arrived) (sym d))),
+        (lentOf i s) .outcome) arrived (sym d))),
     (λ m. absurd (unlike i n (m .1))),
   )
 
 -- one of the five comes back
 pub came-named : (arrived : Arrival) (s : State) (t : Reply) → Came arrived s t
-    → (t .answer ≡ Answer.Full (heardAs arrived)) ⊎ ((o : Outcome) × (t .answer ≡ answerAs o (heardAs arrived)))
+    → (t .answer ≡ Answer.Full (heardAs arrived)) ⊎ ((o : Outcome) × (t .answer ≡ answerFor o arrived))
 came-named arrived s t (alone n a e) = inr (Conflict, ap (λ (x : Reply). x .answer) e)
 came-named arrived s t (full n a f e) = inl (ap (λ (x : Reply). x .answer) e)
 came-named arrived s t (first i n a f e) =

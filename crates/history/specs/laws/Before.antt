@@ -23,7 +23,7 @@ use Rattle.history.specs.Handed.{Brought, arrives, refused, broughtBy}
 use Rattle.history.specs.Held.{SlotFor}
 use Rattle.history.specs.History.{Call, hand, drop, ask, Collecting, reached, told, isStored, isDropped, with, afterHanded, under, storedUnder}
 use Rattle.history.specs.Ours.{ours}
-use Rattle.history.specs.Promise.{Run, stored, Passing, segmentOf, heardOf, since, answerTo, FitsStored, FitsWith}
+use Rattle.history.specs.Promise.{Run, stored, Passing, segmentOf, heardOf, repetitionOf, since, answerTo, FitsStored, FitsWith}
 use Rattle.history.specs.laws.Promises.{conflict-promised, storing-promised}
 
 abbrev Some : Segment → Type 0
@@ -105,7 +105,7 @@ module _ (r : Run) (filled : Each Filled (r .calls)) (g : Passing) (some : Some 
     (λ n. conflict-promised r g .1 (λ f. n (bare .0 f))),
   )
 
-  pub stored-before : (answerTo ours (since ours r) g ≡ Answer.Stored (heardOf g))
+  pub stored-before : (answerTo ours (since ours r) g ≡ Answer.Stored (heardOf g) (repetitionOf g))
       ↔ (((f : FitsWith (since ours r) g) × (¬ (Finished f)))
       × (¬ (Among (segmentOf g) (stored ours r (g .arrived .part) (g .arrived .number))))
       × SlotFor (g .arrived .number) (since ours r .state))

@@ -27,12 +27,12 @@ use Rattle.slots.specs.Stores.{slotMarks, Stores, lentAt, withLent, freeSlot, f
 use Rattle.slots.specs.Alone.{fitsAlone}
 use Rattle.slots.specs.Take.{Inside, takeAt, takeNew, dropAt}
 use Rattle.collector.specs.State.{State, Reply, Start, state, find, free, allFree}
-use Rattle.collector.specs.Calls.{answerAs, intoFree, ifAlone, intoHeld, takeSegment, takeGroup, dropNumber, inLimits, openWith, locate, sound, answering, withSlots}
+use Rattle.collector.specs.Calls.{answerFor, intoFree, ifAlone, intoHeld, takeSegment, takeGroup, dropNumber, inLimits, openWith, locate, sound, answering, withSlots}
 use Rattle.collector.specs.Arrival.{Arrival, heardAs, arrivalIn}
-use Rattle.history.specs.Handed.{Handed, group, segment, arrives, refused, broughtIn, broughtBy}
+use Rattle.history.specs.Handed.{Handed, group, segment, byItself, arrives, refused, broughtIn, broughtBy}
 use Rattle.history.specs.History.{Collecting, asking}
 use Rattle.history.specs.Held.{limitOf, slotOf, lentOf}
-use Rattle.history.specs.Taking.{take}
+use Rattle.history.specs.Taking.{take, address}
 use Rattle.collector.specs.Calls as calls
 use Rattle.queries.specs.Questions as queries
 
@@ -63,7 +63,7 @@ replacing answer i slot lent s = record {
 
 -- a segment is offered to slot i
 abbrev pub offering : Arrival → ℕ → State → Taken → Reply
-offering arrived i s taken = replacing (answerAs (taken .outcome) (heardAs arrived)) i (taken .slot) (taken .lent) s
+offering arrived i s taken = replacing (answerFor (taken .outcome) arrived) i (taken .slot) (taken .lent) s
 
 -- what the segment of a group that was read comes to
 pub data Came (arrived : Arrival) (s : State) (t : Reply) : Type 0 where
@@ -132,7 +132,7 @@ module _ (bytes : List ℕ) (s : State) where
 pub handed-damaged : (given : Handed) (s : State) → sound s ≡ false
     → take given s ≡ answering (Answer.Denied Reason.State) s
 handed-damaged (group bytes) s d = group-damaged bytes s d
-handed-damaged (segment arrived) s d = segment-damaged arrived s d
+handed-damaged (segment heard last bytes) s d = segment-damaged (byItself heard last bytes) s d
 
 pub unread : (given : Handed) (s : State) → sound s ≡ true → (why : Refusal) → broughtBy given ≡ refused why
     → take given s ≡ answering (Answer.Refused why) s
@@ -142,7 +142,7 @@ unread (group bytes) s good why e = go (readingOf bytes) refl e
         → takeGroup bytes s ≡ answering (Answer.Refused why) s
     go (Refused other) r f = let same : other ≡ why = cc in rw same at (group-unread bytes s good other r)
     go (Read carried) r f = let z : _≡_ {A = ℕ} 0 1 = cc in absurd (omega arith)
-unread (segment arrived) s good why e = let z : _≡_ {A = ℕ} 0 1 = cc in absurd (omega arith)
+unread (segment heard last bytes) s good why e = let z : _≡_ {A = ℕ} 0 1 = cc in absurd (omega arith)
 
 pub came : (given : Handed) (s : State) → sound s ≡ true → (arrived : Arrival) → broughtBy given ≡ arrives arrived
     → Came arrived s (take given s)
@@ -154,7 +154,8 @@ came (group bytes) s good arrived e = go (readingOf bytes) refl e
     go (Read carried) r f =
         let same : arrivalIn bytes carried ≡ arrived = cc in
         subst (λ (a : Arrival). Came a s (takeGroup bytes s)) same (group-came bytes s good carried r)
-came (segment other) s good arrived e =
+came (segment heard last bytes) s good arrived e =
+    let other = byItself heard last bytes in
     let same : other ≡ arrived = cc in
     subst (λ (a : Arrival). Came a s (takeSegment other s)) same (segment-came other s good)
 
@@ -240,5 +241,6 @@ defined = record {
   tells = queries.parameters;
   names = queries.name;
   finds = queries.find;
+  addresses = address;
   asks = asking;
 }

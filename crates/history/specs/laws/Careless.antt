@@ -38,7 +38,7 @@ use Rattle.history.specs.Held.{limitOf}
 use Rattle.history.specs.laws.State.{in-order-exactly}
 use Rattle.history.specs.History.{Collecting, Within}
 use Rattle.history.specs.laws.Demands.{marked-answered}
-use Rattle.history.specs.Promise.{reachedBy, heardOf, byMarks, AnsweredBy, UnansweredLeaves, RepeatLeaves, StateExactly, MarkedExactly, LimitsExactly, OpenedLeaves, UnopenedLeaves, UndroppedLeaves, StateDropExactly, DropKeepsStores}
+use Rattle.history.specs.Promise.{reachedBy, heardOf, repetitionOf, byMarks, AnsweredBy, UnansweredLeaves, RepeatLeaves, StateExactly, MarkedExactly, LimitsExactly, OpenedLeaves, UnopenedLeaves, UndroppedLeaves, StateDropExactly, DropKeepsStores}
 use Rattle.history.specs.laws.Samples.{computing, small, bodyLast}
 use Rattle.history.specs.laws.Trials.{fits, five, otherKind, groupFive, groupSix, groupLast, none, one, many, named, wornOne, worn, worn-allowed, withCounts, withStores, withHeader, withBody, withMarks, recounted-bytes, recounted, damaged, is-damaged, uneven, doubted, foundSlot, openingNumber, openingBy, takingBy, droppingBy, findingBy}
 use Rattle.history.specs.laws.Worthless.{choosing, kindFirst}
@@ -276,7 +276,8 @@ pub repeat-taken-breaks : ¬ (RepeatLeaves (takingBy repeatTaken))
 unfolding computing small groupFive
 repeat-taken-breaks p =
     let s : State = reachedBy defined one in
-    let e : _≡_ {A = ℕ} 2 1 = ap (λ (t : State). t .counts .taken) (p (group five) s (heardOf groupFive) refl) in
+    let e : _≡_ {A = ℕ} 2 1 = ap (λ (t : State). t .counts .taken)
+    (p (group five) s (heardOf groupFive) (repetitionOf groupFive) refl) in
     absurd (omega arith)
 
 -- its bytes are written once more, at its number times its own length
@@ -303,7 +304,8 @@ unfolding computing small groupLast
 repeat-written-breaks p =
     let s : State = reachedBy defined many in
     let e : _≡_ {A = ℕ} 0x74 0x65 =
-    ap (λ (t : State). getD (t .stores .body) 4 0) (p (group bodyLast) s (heardOf groupLast) refl) in
+    ap (λ (t : State). getD (t .stores .body) 4 0)
+    (p (group bodyLast) s (heardOf groupLast) (repetitionOf groupLast) refl) in
     absurd (omega arith)
 
 -- ---- in a damaged state

@@ -53,7 +53,7 @@ risen-low n h = go (ltb n ceiling) refl
     go false e = h
 
 pub counted-low : (a : Answer) (c : Counts) → Low c → Low (counted a c)
-counted-low (Answer.Stored heard) c w =
+counted-low (Answer.Stored heard repetition) c w =
     record {
       taken = risen-low (c .taken) (w .taken);
       repeated = w .repeated;
@@ -62,7 +62,7 @@ counted-low (Answer.Stored heard) c w =
           w .completed;
       dropped = w .dropped;
     }
-counted-low (Answer.Complete heard) c w =
+counted-low (Answer.Complete heard repetition) c w =
     record {
       taken = risen-low (c .taken) (w .taken);
       repeated = w .repeated;
@@ -71,7 +71,7 @@ counted-low (Answer.Complete heard) c w =
           risen-low (c .completed) (w .completed);
       dropped = w .dropped;
     }
-counted-low (Answer.Repeat heard) c w =
+counted-low (Answer.Repeat heard repetition) c w =
     record {
       taken = w .taken;
       repeated = risen-low (c .repeated) (w .repeated);

@@ -20,7 +20,7 @@ use Rattle.object.specs.laws.Step.{late}
 use Rattle.slots.specs.declared.Found.{Found}
 use Rattle.slots.specs.declared.Found.the-variants.{Nothing, At}
 use Rattle.collector.specs.State.{Start, Reply, State, find}
-use Rattle.collector.specs.Calls.{answerAs, show}
+use Rattle.collector.specs.Calls.{answerFor, show}
 use Rattle.queries.specs.laws.Theorems.{core-shown}
 use Rattle.history.specs.Held.{SlotFor, Same, limitOf, stageFor, markedUnder}
 use Rattle.history.specs.laws.Call.{dropAnswer, unread, came, none-dropped, found-dropped, defined}
@@ -28,6 +28,9 @@ use Rattle.history.specs.laws.Ready.{used-inside, found-used}
 use Rattle.history.specs.laws.Sound.{Intact, brought-bytes, handed-intact}
 use Rattle.history.specs.laws.State.{in-order-exactly, drop-never, located-never, told-never, found-never, handed-never}
 use Rattle.wire.specs.declared.Reading.{Reading}
+use Rattle.wire.specs.laws.Theorems.{ignored, read-repetition}
+use Rattle.collector.specs.Arrival.{segmentIn, heardIn, arrivalIn}
+use Rattle.history.specs.laws.Numbers.{byte-low}
 use Rattle.history.specs.Handed.{broughtIn, group}
 use Rattle.history.specs.State.{OfBytes, InOrder}
 use Rattle.history.specs.laws.Others.{same-shown}
@@ -38,7 +41,7 @@ use Rattle.history.specs.laws.Answers.{Meets, Room, came-exactly, came-f
 use Rattle.history.specs.laws.Stage.{none-finished, all-finished, finished-all, finished-shown, unfinished-shown}
 use Rattle.history.specs.laws.Told.{not-held, unfinished, located-exactly, read-exactly, name-finished, name-missing, found-exactly, nobody-exactly}
 use Rattle.history.specs.laws.Room.{unheld-exactly}
-use Rattle.history.specs.Promise.{Run, reachedBy, stored, Passing, segmentOf, heardOf, View, since, byMarks, answerTo, FitsStored, NotState, ConflictBy, FullBy, RepeatBy, CompleteBy, StoredBy, LateBy, LowestFreeBy, UnreadBy, DropBy, UnheldBy, NotHeldBy, UnfinishedBy, LocatedBy, ShownBy, CoreBy, UnshownBy, ReadBy, NamedBy, FoundBy, NotFoundBy, AnsweredBy}
+use Rattle.history.specs.Promise.{Run, reachedBy, stored, Passing, segmentOf, heardOf, repetitionOf, View, since, byMarks, answerTo, FitsStored, NotState, ConflictBy, FullBy, RepeatBy, ResentBy, CompleteBy, StoredBy, LateBy, LowestFreeBy, UnreadBy, DropBy, UnheldBy, NotHeldBy, UnfinishedBy, LocatedBy, ShownBy, CoreBy, UnshownBy, ReadBy, NamedBy, FoundBy, NotFoundBy, AnsweredBy}
 use Rattle.history.specs.Taking.{take}
 
 -- ---- by what is stored
@@ -55,7 +58,7 @@ module _ (s : State) (kept : Part → ℕ → List Segment) (whole : Intact s)
 
   -- ---- a group that passes the reading checks
 
-  exactly : (g : Passing) (o : Outcome) → (answerTo defined (holding s kept) g ≡ answerAs o (heardOf g))
+  exactly : (g : Passing) (o : Outcome) → (answerTo defined (holding s kept) g ≡ answerFor o (g .arrived))
       ↔ (Meets o (g .arrived .part) (limitOf s) (segmentOf g) (kept Header (g .arrived .number))
       (kept Body (g .arrived .number)) × Room o (g .arrived .number) s)
   exactly g o = came-exactly (g .arrived) s (kept Header (g .arrived .number)) (kept Body (g .arrived .number))
@@ -74,6 +77,20 @@ module _ (s : State) (kept : Part → ℕ → List Segment) (whole : Intact s)
 
   repeat-by : RepeatBy defined (holding s kept)
   repeat-by g = (λ e. rw these at (exactly g Repeat .0 e .0), λ i. exactly g Repeat .1 (rw these i, tt))
+
+  resent-by : ResentBy defined (holding s kept)
+  resent-by bytes again carried y e i same holds =
+      let x = ignored bytes again carried same (byte-low again 0 y) holds e in
+      let there : Among (segmentIn again (x .0)) (kept (x .0 .part) (x .0 .number)) =
+      rw (x .2 .number, x .2 .part, x .2 .segment, x .2 .last, x .2 .bytes) i in
+      let repeats : take (group again) s .answer ≡ Answer.Repeat (heardIn (x .0)) (x .0 .repetition) =
+      repeat-by (record {
+        given = group again;
+        areBytes = y;
+        arrived = arrivalIn again (x .0);
+        brought = ap (λ (r : Reading). broughtIn r again) (x .1);
+      }) .1 there in
+      rw (x .2 .number, x .2 .part, x .2 .segment, read-repetition again (x .0) (x .1)) at repeats
 
   complete-by : CompleteBy defined (holding s kept)
   complete-by g = (
@@ -105,9 +122,9 @@ module _ (s : State) (kept : Part → ℕ → List Segment) (whole : Intact s)
       go : Among (segmentOf g) (those (g .arrived .part) (kept Header (g .arrived .number))
           (kept Body (g .arrived .number)))
           ⊎ ((g .arrived .part ≡ Body) × (segmentOf g ≡ empty) × (kept Body (g .arrived .number) ≡ []))
-          → (answerTo defined (holding s kept) g ≡ Answer.Repeat (heardOf g))
-          ⊎ ((answerTo defined (holding s kept) g ≡ Answer.Stored (heardOf g)) × (g .arrived .part ≡ Body)
-          × (segmentOf g ≡ empty))
+          → (answerTo defined (holding s kept) g ≡ Answer.Repeat (heardOf g) (repetitionOf g))
+          ⊎ ((answerTo defined (holding s kept) g ≡ Answer.Stored (heardOf g) (repetitionOf g))
+          × (g .arrived .part ≡ Body) × (segmentOf g ≡ empty))
       go (inl i) = inl (repeat-by g .1 (rw these at i))
       go (inr e) = inr (
         stored-by g .1 ((w, inr (f, d)), stored (g .arrived .part) (e .0) (e .2), slot),
@@ -204,6 +221,7 @@ module _ (s : State) (kept : Part → ℕ → List Segment) (whole : Intact s)
     conflict = conflict-by;
     full = full-by;
     repeated = repeat-by;
+    resent = resent-by;
     complete = complete-by;
     storing = stored-by;
     late = late-by;
@@ -238,6 +256,7 @@ event-not-state (ask (Question.show number part)) s whole = located-never number
 event-not-state (ask (Question.parameters number)) s whole = told-never number s (whole .undamaged)
 event-not-state (ask (Question.name number)) s whole = told-never number s (whole .undamaged)
 event-not-state (ask (Question.find sought)) s whole = found-never sought s (whole .undamaged)
+event-not-state (ask (Question.address bytes)) s whole = tt
 
 pub never-state : (start : Start) → Allowed start → (calls : List Call) → Each CallBytes calls
     → Each NotState (told defined start calls)

@@ -23,6 +23,7 @@ use Rattle.collector.specs.declared.Located.the-variants as Located
 use Rattle.queries.specs.declared.Asked.the-variants as Asked
 use Rattle.queries.specs.declared.Sought.the-variants as Sought
 use Rattle.collector.specs.Calls.{show}
+use Rattle.collector.specs.Arrival.{noRepetition}
 use Rattle.history.specs.Handed.{group}
 use Rattle.history.specs.History.{Question, Call, hand, drop, ask, CallBytes, shown, read, named, found, handed, dropped, asked, told}
 use Rattle.history.specs.Ours.{ours}
@@ -106,12 +107,12 @@ pub answers : told ours small calls
     (0x61 ∷ 0x62 ∷ 0x63 ∷ 0x64 ∷ 0x65 ∷ 0x66 ∷ 0x67 ∷ 0x68 ∷ 0x69 ∷ 0x6A ∷ 0x6B ∷ 0x6C ∷ 0x6D ∷ 0x6E ∷ 0x6F ∷ 0x70
     ∷ 0x74 ∷ 0x75 ∷ 0x76 ∷ 0x77 ∷ []))
     ∷ handed (group (0 ∷ [])) (Answer.Refused Refusal.Length)
-    ∷ handed (group bodyLast) (Answer.Repeat (inBody 1))
-    ∷ handed (group bodyFirst) (Answer.Complete (inBody 0))
+    ∷ handed (group bodyLast) (Answer.Repeat (inBody 1) noRepetition)
+    ∷ handed (group bodyFirst) (Answer.Complete (inBody 0) noRepetition)
     ∷ handed (group bodyNotLast) (Answer.Conflict (inBody 1))
     ∷ handed (group otherNumber) (Answer.Full (inHeader 6))
-    ∷ handed (group header) (Answer.Stored (inHeader 5))
-    ∷ handed (group bodyLast) (Answer.Stored (inBody 1))
+    ∷ handed (group header) (Answer.Stored (inHeader 5) noRepetition)
+    ∷ handed (group bodyLast) (Answer.Stored (inBody 1) noRepetition)
     ∷ []
 unfolding computing small
 answers = refl
@@ -120,9 +121,9 @@ answers = refl
 
 -- its header first: it is finished, and the empty segment is stored once
 pub card-first : told ours small (hand (group emptyFive) ∷ hand (group emptyFive) ∷ hand (group five) ∷ [])
-    ≡ handed (group emptyFive) (Answer.Repeat (inBody 0))
-    ∷ handed (group emptyFive) (Answer.Stored (inBody 0))
-    ∷ handed (group five) (Answer.Complete (inHeader 5))
+    ≡ handed (group emptyFive) (Answer.Repeat (inBody 0) noRepetition)
+    ∷ handed (group emptyFive) (Answer.Stored (inBody 0) noRepetition)
+    ∷ handed (group five) (Answer.Complete (inHeader 5) noRepetition)
     ∷ []
 unfolding computing small
 card-first = refl
@@ -136,11 +137,11 @@ pub empty-first : told ours small
     ∷ hand (group bodyLast)
     ∷ hand (group emptyFive)
     ∷ [])
-    ≡ handed (group emptyFive) (Answer.Repeat (inBody 0))
-    ∷ handed (group five) (Answer.Complete (inHeader 5))
+    ≡ handed (group emptyFive) (Answer.Repeat (inBody 0) noRepetition)
+    ∷ handed (group five) (Answer.Complete (inHeader 5) noRepetition)
     ∷ handed (group header) (Answer.Conflict (inHeader 5))
     ∷ handed (group bodyLast) (Answer.Conflict (inBody 1))
-    ∷ handed (group emptyFive) (Answer.Stored (inBody 0))
+    ∷ handed (group emptyFive) (Answer.Stored (inBody 0) noRepetition)
     ∷ []
 unfolding computing small
 empty-first = refl

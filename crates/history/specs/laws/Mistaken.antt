@@ -99,6 +99,7 @@ countsQuestions (Question.show number part) s = countedAs (locate number s) s
 countsQuestions (Question.parameters number) s = countedAs (locate number s) s
 countsQuestions (Question.name number) s = countedAs (locate number s) s
 countsQuestions (Question.find sought) s = s
+countsQuestions (Question.address bytes) s = s
 
 pub counts-questions-breaks : ¬ (AskedLeaves (askingBy countsQuestions))
 unfolding computing small

@@ -18,7 +18,7 @@ use Rattle.slots.specs.Stores.{slotsMost, freeSlot, freshSlot, slotAt}
 use Rattle.collector.specs.State.{Start, Reply, State, find}
 use Rattle.collector.specs.Calls.{dropNumber}
 use Rattle.collector.specs.Arrival.{Arrival, arrivalIn}
-use Rattle.history.specs.Handed.{Handed, HandedBytes, Brought, arrives, refused, broughtIn, broughtBy, group, segment}
+use Rattle.history.specs.Handed.{Handed, HandedBytes, Brought, arrives, refused, broughtIn, broughtBy, group, segment, byItself}
 use Rattle.history.specs.Held.{lentOf, limitOf, slotOf}
 use Rattle.history.specs.laws.Call.{Came, alone, full, first, more, unread, came, none-dropped, found-dropped, defined}
 use Rattle.history.specs.laws.Ready.{used-inside, found-used}
@@ -32,7 +32,7 @@ use Rattle.history.specs.Taking.{take}
 abbrev pub Sixteen : ℕ → Type 0
 Sixteen number = number < 65536
 
-byte-low : (l : List ℕ) (i : ℕ) → Bytes l → getD l i 0 < 256
+pub byte-low : (l : List ℕ) (i : ℕ) → Bytes l → getD l i 0 < 256
 byte-low [] i y = omega arith
 byte-low (x ∷ l) zero y = y .0
 byte-low (x ∷ l) (suc i) y = byte-low l i (y .1)
@@ -59,8 +59,8 @@ brought-low (group bytes) arrived y e = go (readingOf bytes) refl e
     go (Read carried) r f =
         let same : arrivalIn bytes carried ≡ arrived = cc in
         subst (λ (a : Arrival). Sixteen (a .number)) same (carried-low bytes carried y r)
-brought-low (segment other) arrived y e =
-    let same : other ≡ arrived = cc in
+brought-low (segment heard last bytes) arrived y e =
+    let same : byItself heard last bytes ≡ arrived = cc in
     subst (λ (a : Arrival). Sixteen (a .number)) same (y .1)
 
 -- one slot is replaced

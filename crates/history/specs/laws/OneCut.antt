@@ -10,7 +10,6 @@ use lib.Dec.{eqb}
 use lib.ListN.{length}
 use borrow.Author.Tests.{eqb-true}
 use Rattle.answer.specs.declared.Answer.{Answer}
-use Rattle.answer.specs.declared.Heard.{Heard}
 use Rattle.answer.specs.declared.Answer.the-variants as Answer
 use Rattle.answer.specs.declared.Part.{Part}
 use Rattle.answer.specs.declared.Part.the-variants.{Header, Body}
@@ -22,7 +21,7 @@ use Rattle.object.specs.declared.Stage.the-variants as Stage
 use Rattle.object.specs.declared.Outcome.{Outcome}
 use Rattle.object.specs.declared.Outcome.the-variants.{Stored, Complete, Repeat, Conflict}
 use Rattle.object.specs.Source.{Source, SegmentOf, SentBy}
-use Rattle.collector.specs.Calls.{answerAs, show}
+use Rattle.collector.specs.Calls.{answerFor, show}
 use Rattle.collector.specs.State.{Start}
 use Rattle.collector.specs.Arrival.{heardAs, Arrival}
 use Rattle.history.specs.Held.{stageFor}
@@ -92,19 +91,20 @@ module _ {limit : ℕ} (object : Source limit) (part : Part) where
       go Body Body i s u (inr j) = into s u j
 
   -- the segment of a group under the number
-  answered-into : (p : Part) (segment : Segment) (came kept : List Segment) (answer : Answer) (heard : Heard)
-      → Into came kept → (answer ≡ Answer.Full heard) ⊎ ((o : Outcome) × (answer ≡ answerAs o heard))
-      → (part ≡ p → SentBy object part segment → answer ≢ Answer.Conflict heard)
-      → (answer ≡ Answer.Repeat heard → part ≡ p → Among segment kept)
+  answered-into : (p : Part) (segment : Segment) (came kept : List Segment) (answer : Answer) (arrived : Arrival)
+      → Into came kept → (answer ≡ Answer.Full (heardAs arrived)) ⊎ ((o : Outcome) × (answer ≡ answerFor o arrived))
+      → (part ≡ p → SentBy object part segment → answer ≢ Answer.Conflict (heardAs arrived))
+      → (answer ≡ Answer.Repeat (heardAs arrived) (arrived .repetition) → part ≡ p → Among segment kept)
       → Into (pick (hadSlot answer) (with part p segment came) came)
       (pick (isStored answer) (with part p segment kept) kept)
-  answered-into p segment came kept answer heard into (inl e) n r = rw e into
-  answered-into p segment came kept answer heard into (inr (Stored, e)) n r = rw e (both-more p segment came kept into)
-  answered-into p segment came kept answer heard into (inr (Complete, e)) n r =
+  answered-into p segment came kept answer arrived into (inl e) n r = rw e into
+  answered-into p segment came kept answer arrived into (inr (Stored, e)) n r =
       rw e (both-more p segment came kept into)
-  answered-into p segment came kept answer heard into (inr (Repeat, e)) n r =
+  answered-into p segment came kept answer arrived into (inr (Complete, e)) n r =
+      rw e (both-more p segment came kept into)
+  answered-into p segment came kept answer arrived into (inr (Repeat, e)) n r =
       rw e (once-more p segment came kept into (λ q u. r e q))
-  answered-into p segment came kept answer heard into (inr (Conflict, e)) n r =
+  answered-into p segment came kept answer arrived into (inr (Conflict, e)) n r =
       rw e (once-more p segment came kept into (λ q u. absurd (n q u e)))
 
 -- ---- what is stored before a call is stored after it, unless it is dropped
@@ -161,7 +161,7 @@ module _ (start : Start) (allowed : Allowed start) (object : Source (start .limi
           (pick (isStored answer) (with part (arrived .part) (arrived .segment) held) held)
       mine arrived r n =
           let g : Passing = record { given = given; areBytes = b; arrived = arrived; brought = r } in
-          answered-into object part (arrived .part) (arrived .segment) arrivals held answer (heardAs arrived) into
+          answered-into object part (arrived .part) (arrived .segment) arrivals held answer arrived into
           (came-named arrived (reached defined start calls)
           (take given (reached defined start calls))
           (came given (reached defined start calls) (reached-intact start allowed calls y .undamaged) arrived r))

@@ -20,7 +20,7 @@ use Rattle.slots.specs.Stores.{freeSlot, freshSlot}
 use Rattle.slots.specs.Find.{isFree, holds, findIn}
 use Rattle.slots.specs.laws.Shares.{Wide, lent-other}
 use Rattle.collector.specs.State.{Reply, State, find}
-use Rattle.collector.specs.Calls.{answerAs, dropNumber, show, answering, sound}
+use Rattle.collector.specs.Calls.{answerFor, dropNumber, show, answering, sound}
 use Rattle.collector.specs.Arrival.{Arrival, heardAs}
 use Rattle.history.specs.laws.Slots.{held-is, free-holds, slot-there, same-found}
 use Rattle.history.specs.Held.{Same, lentOf, limitOf, slotOf}
@@ -82,7 +82,7 @@ came-same number arrived s t d y whole (full n a f e) = rw e (same-all number s 
 came-same number arrived s t d y whole (first i n a f e) =
     let x : Taken = takeInto (arrived .part) (limitOf s) (arrived .segment) (freshSlot (arrived .number))
     (lentOf i s) in
-    rw e (replaced-same number (answerAs (x .outcome) (heardAs arrived)) i (x .slot) (x .lent) s (whole .undamaged)
+    rw e (replaced-same number (answerFor (x .outcome) arrived) i (x .slot) (x .lent) s (whole .undamaged)
     (free-used s (whole .undamaged) i f)
     (lent-is-wide (limitOf s) (x .lent) (first-lent s whole (arrived .number) i (arrived .part) (arrived .segment) y f))
     (free-holds number (slotOf i s) (free-free s (whole .undamaged) i f))
@@ -92,7 +92,7 @@ came-same number arrived s t d y whole (more i n e) =
     let x : Taken = takeInto (arrived .part) (limitOf s) (arrived .segment) (slotOf i s) (lentOf i s) in
     let old : slotOf i s .number ≡ arrived .number =
     held-is (arrived .number) (slotOf i s) (found-holds s (whole .undamaged) (arrived .number) i n) .1 in
-    rw e (replaced-same number (answerAs (x .outcome) (heardAs arrived)) i (x .slot) (x .lent) s (whole .undamaged)
+    rw e (replaced-same number (answerFor (x .outcome) arrived) i (x .slot) (x .lent) s (whole .undamaged)
     (found-used s (whole .undamaged) (arrived .number) i n)
     (lent-is-wide (limitOf s) (x .lent) (more-lent s whole (arrived .number) i (arrived .part) (arrived .segment) y n))
     (held-other number (arrived .number) (slotOf i s) d old)

@@ -1,9 +1,10 @@
 -- THE PROMISES: our collector keeps them, each a theorem of its own. A wrong collector is refused here, by name.
 use mathlib.Core.Path.{refl}
+use Rattle.wire.specs.laws.Theorems.{address-exactly}
 use Rattle.history.specs.laws.Refused.{refused-handed, unanswered-handed, refused-drop, repeated-handed, drop-stores, limits-exactly, opened-leaves, unopened-leaves}
 use Rattle.history.specs.laws.State.{handed-state, drop-state, ask-state}
 use Rattle.history.specs.Ours.{ours}
-use Rattle.history.specs.Promise.{RefusedLeaves, UnansweredLeaves, RepeatLeaves, StateExactly, MarkedExactly, LimitsExactly, OpenedLeaves, UnopenedLeaves, NeverState, UndroppedLeaves, StateDropExactly, DropKeepsStores, StateAskExactly, AskedLeaves, OthersLeave, ShownJoined, CoreShown, UnfinishedUnshown, CountsTold, ConflictExactly, FullExactly, RepeatExactly, CompleteExactly, StoredExactly, LateStored, LowestFreeTaken, UnreadRefused, DropExactly, UnheldExactly, NoneFreeExactly, FinishedExactly, FinishedLengths, NotHeldExactly, UnfinishedExactly, LocatedExactly, ReadExactly, NamesRead, FoundExactly, NotFoundExactly, OneCutAgrees, OneCutFinishes, Promised}
+use Rattle.history.specs.Promise.{RefusedLeaves, UnansweredLeaves, RepeatLeaves, StateExactly, MarkedExactly, LimitsExactly, OpenedLeaves, UnopenedLeaves, NeverState, UndroppedLeaves, StateDropExactly, DropKeepsStores, StateAskExactly, AskedLeaves, AddressExactly, OthersLeave, ShownJoined, CoreShown, UnfinishedUnshown, CountsTold, ConflictExactly, FullExactly, RepeatExactly, ResentRepeats, CompleteExactly, StoredExactly, LateStored, LowestFreeTaken, UnreadRefused, DropExactly, UnheldExactly, NoneFreeExactly, FinishedExactly, FinishedLengths, NotHeldExactly, UnfinishedExactly, LocatedExactly, ReadExactly, NamesRead, FoundExactly, NotFoundExactly, OneCutAgrees, OneCutFinishes, Promised}
 use Rattle.history.specs.laws.Demands.{marked-answered, never-state, others-held, run-answered, finished-exactly, finished-lengths}
 use Rattle.history.specs.laws.Room.{none-free-exactly}
 use Rattle.history.specs.laws.Tally.{reached-counts}
@@ -53,6 +54,9 @@ state-ask-promised = ask-state
 pub asking-promised : AskedLeaves ours
 asking-promised question s = refl
 
+pub addressed-promised : AddressExactly ours
+addressed-promised bytes s = address-exactly bytes
+
 pub others-promised : OthersLeave ours
 others-promised = others-held
 
@@ -80,6 +84,9 @@ full-promised r = run-answered r .full
 
 pub repeated-promised : RepeatExactly ours
 repeated-promised r = run-answered r .repeated
+
+pub resent-promised : ResentRepeats ours
+resent-promised r = run-answered r .resent
 
 pub complete-promised : CompleteExactly ours
 complete-promised r = run-answered r .complete
@@ -158,6 +165,7 @@ promised = record {
   dropKeeps = drop-keeps-promised;
   stateAsk = state-ask-promised;
   asking = asking-promised;
+  addressed = addressed-promised;
   others = others-promised;
   shown = shown-promised;
   core = core-promised;
@@ -166,6 +174,7 @@ promised = record {
   conflict = conflict-promised;
   full = full-promised;
   repeated = repeated-promised;
+  resent = resent-promised;
   complete = complete-promised;
   storing = storing-promised;
   late = late-promised;

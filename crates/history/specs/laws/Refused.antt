@@ -12,6 +12,7 @@ use Rattle.answer.specs.declared.Answer.{Answer}
 use Rattle.answer.specs.declared.Answer.the-variants as Answer
 use Rattle.answer.specs.declared.Reason.the-variants as Reason
 use Rattle.answer.specs.declared.Heard.{Heard}
+use Rattle.answer.specs.declared.Repetition.{Repetition}
 use Rattle.answer.specs.declared.Part.{Part}
 use Rattle.answer.specs.Table.{numberOf}
 use Rattle.answer.specs.laws.Table.{refusal-to, reason-from}
@@ -39,7 +40,7 @@ use Rattle.slots.specs.laws.Fresh.{fresh-taken}
 use Rattle.slots.specs.laws.StateTests.{limits-hold}
 use Rattle.collector.specs.declared.Opening.the-variants as Opening
 use Rattle.collector.specs.State.{Start, Reply, State, allFree, find}
-use Rattle.collector.specs.Calls.{answerAs, dropFound, dropNumber, inLimits, openWith, answering, sound}
+use Rattle.collector.specs.Calls.{answerFor, dropFound, dropNumber, inLimits, openWith, answering, sound}
 use Rattle.collector.specs.Arrival.{Arrival, heardAs}
 use Rattle.history.specs.laws.Slots.{limits-within}
 use Rattle.history.specs.Held.{lentOf, limitOf, slotOf}
@@ -91,20 +92,20 @@ first-stores part limit number segment lent a e l =
 
 -- the answer leaves the slots and the stores as they were
 abbrev pub Kept : Answer → Type 0
-Kept (Answer.Stored heard) = ⊥
-Kept (Answer.Complete heard) = ⊥
+Kept (Answer.Stored heard repetition) = ⊥
+Kept (Answer.Complete heard repetition) = ⊥
 Kept (Answer.Dropped number) = ⊥
-Kept (Answer.Repeat heard) = Unit {0}
+Kept (Answer.Repeat heard repetition) = Unit {0}
 Kept (Answer.Refused why) = Unit {0}
 Kept (Answer.Conflict heard) = Unit {0}
 Kept (Answer.Full heard) = Unit {0}
 Kept (Answer.Denied reason) = Unit {0}
 
-kept-leaving : (o : Outcome) (heard : Heard) → Kept (answerAs o heard) → Leaving o
-kept-leaving Stored heard k = k
-kept-leaving Complete heard k = k
-kept-leaving Repeat heard k = tt
-kept-leaving Conflict heard k = tt
+kept-leaving : (o : Outcome) (arrived : Arrival) → Kept (answerFor o arrived) → Leaving o
+kept-leaving Stored arrived k = k
+kept-leaving Complete arrived k = k
+kept-leaving Repeat arrived k = tt
+kept-leaving Conflict arrived k = tt
 
 -- a slot that is replaced by itself and its own shares
 same-replaced : (answer : Answer) (i : ℕ) (s : State) → sound s ≡ true
@@ -122,13 +123,13 @@ came-kept arrived s t good (first i n a f e) k =
     absurd (first-stores (arrived .part) (limitOf s) (arrived .number) (arrived .segment) (lentOf i s) a
     (fresh-taken (arrived .part) (limitOf s) (arrived .number) (arrived .segment) (lentOf i s) (free-marks s good i f))
     (kept-leaving (takeInto (arrived .part) (limitOf s) (arrived .segment) (freshSlot (arrived .number))
-    (lentOf i s) .outcome) (heardAs arrived) (rw e at k)))
+    (lentOf i s) .outcome) arrived (rw e at k)))
 came-kept arrived s t good (more i n e) k =
     let x : Taken = takeInto (arrived .part) (limitOf s) (arrived .segment) (slotOf i s) (lentOf i s) in
     let same : x ≡ unchanged (x .outcome) (slotOf i s) (lentOf i s) =
     offer-leaves (arrived .part) (limitOf s) (arrived .segment) (slotOf i s) (lentOf i s)
-    (kept-leaving (x .outcome) (heardAs arrived) (rw e at k)) in
-    rw e (ap (offering arrived i s) same ∙ same-replaced (answerAs (x .outcome) (heardAs arrived)) i s good
+    (kept-leaving (x .outcome) arrived (rw e at k)) in
+    rw e (ap (offering arrived i s) same ∙ same-replaced (answerFor (x .outcome) arrived) i s good
     (found-used s good (arrived .number) i n))
 
 -- A GROUP that is refused, or that is a repeat, changes nothing but a count
@@ -155,9 +156,9 @@ drop-kept number s k = go (sound s) refl (find number s) refl
 -- ---- demand 1, by the numbers of the answers
 
 refusal-kept : (a : Answer) → 10 ≤ numberOf a → Kept a
-refusal-kept (Answer.Stored heard) h = absurd (omega arith)
-refusal-kept (Answer.Complete heard) h = absurd (omega arith)
-refusal-kept (Answer.Repeat heard) h = tt
+refusal-kept (Answer.Stored heard repetition) h = absurd (omega arith)
+refusal-kept (Answer.Complete heard repetition) h = absurd (omega arith)
+refusal-kept (Answer.Repeat heard repetition) h = tt
 refusal-kept (Answer.Dropped number) h = absurd (omega arith)
 refusal-kept (Answer.Refused why) h = tt
 refusal-kept (Answer.Conflict heard) h = tt
@@ -165,9 +166,9 @@ refusal-kept (Answer.Full heard) h = tt
 refusal-kept (Answer.Denied reason) h = tt
 
 counted-refused : (a : Answer) (c : Counts) → 10 ≤ numberOf a → numberOf a ≤ 18 → counted a c ≡ oneRefused c
-counted-refused (Answer.Stored heard) c h g = absurd (omega arith)
-counted-refused (Answer.Complete heard) c h g = absurd (omega arith)
-counted-refused (Answer.Repeat heard) c h g = absurd (omega arith)
+counted-refused (Answer.Stored heard repetition) c h g = absurd (omega arith)
+counted-refused (Answer.Complete heard repetition) c h g = absurd (omega arith)
+counted-refused (Answer.Repeat heard repetition) c h g = absurd (omega arith)
 counted-refused (Answer.Dropped number) c h g = absurd (omega arith)
 counted-refused (Answer.Refused why) c h g = refl
 counted-refused (Answer.Conflict heard) c h g = refl
@@ -175,9 +176,9 @@ counted-refused (Answer.Full heard) c h g = refl
 counted-refused (Answer.Denied reason) c h g = absurd (omega (arith, reason-from reason))
 
 counted-not : (a : Answer) (c : Counts) → 19 ≤ numberOf a → counted a c ≡ c
-counted-not (Answer.Stored heard) c h = absurd (omega arith)
-counted-not (Answer.Complete heard) c h = absurd (omega arith)
-counted-not (Answer.Repeat heard) c h = absurd (omega arith)
+counted-not (Answer.Stored heard repetition) c h = absurd (omega arith)
+counted-not (Answer.Complete heard repetition) c h = absurd (omega arith)
+counted-not (Answer.Repeat heard repetition) c h = absurd (omega arith)
 counted-not (Answer.Dropped number) c h = absurd (omega arith)
 counted-not (Answer.Refused why) c h = absurd (omega (arith, refusal-to why))
 counted-not (Answer.Conflict heard) c h = absurd (omega arith)
@@ -208,9 +209,10 @@ pub refused-drop : (number : ℕ) (s : State) → 10 ≤ numberOf (dropAnswer nu
 refused-drop number s h = drop-kept number s (refusal-kept (dropNumber number s .answer) h)
 
 -- A REPEAT: one more is repeated, and nothing else changes
-pub repeated-handed : (given : Handed) (s : State) (heard : Heard) → handedAnswer given s ≡ Answer.Repeat heard
+pub repeated-handed : (given : Handed) (s : State) (heard : Heard) (repetition : Repetition)
+    → handedAnswer given s ≡ Answer.Repeat heard repetition
     → handedLeaves given s ≡ record { collector = s .collector; counts = oneRepeated (s .counts); stores = s .stores }
-repeated-handed given s heard e =
+repeated-handed given s heard repetition e =
     ap (λ (t : Reply). t .left) (handed-kept given s (rw e tt))
     ∙ ap (λ (a : Answer). record { collector = s .collector; counts = counted a (s .counts); stores = s .stores }) e
 

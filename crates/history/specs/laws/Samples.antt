@@ -38,7 +38,7 @@ use Rattle.slots.specs.Take.{takeAt, takeNew, dropAt}
 use Rattle.name_search.specs.Finding.{holdsName, holderIn, lowestFrom, foundByName}
 use Rattle.collector.specs.State.{Start}
 use Rattle.collector.specs.Calls.{takeSegment, takeGroup, dropNumber, openWith, locate, show, sound}
-use Rattle.collector.specs.Arrival.{segmentIn}
+use Rattle.collector.specs.Arrival.{noRepetition, segmentIn}
 use Rattle.queries.specs.Questions.{parameters, name, find as findByName}
 use Rattle.history.specs.Handed.{group}
 use Rattle.history.specs.History.{Call, hand, CallBytes, Allowed, under}
@@ -169,10 +169,19 @@ oneCut =
     hand (group bodyFirst) ∷ hand (group bodyLast) ∷ hand (group otherNumber) ∷ hand (group header)
     ∷ hand (group bodyLast) ∷ []
 
--- what is read off a group
+-- what is read off a group that says nothing of repeats and has no end user address
 abbrev pub readAs : ℕ → Part → ℕ → Bool → ℕ → Carried
-readAs number part segment last size =
-    record { number = number; part = part; segment = segment; last = last; start = 9; length = size }
+readAs number part segment last size = record {
+  number = number;
+  part = part;
+  segment = segment;
+  last = last;
+  start = 9;
+  length = size;
+  repetition = noRepetition;
+  «address_start» = 7;
+  «address_length» = 0;
+}
 
 reads : (readingOf bodyLast ≡ Read (readAs 5 Body 1 true 4)) × (readingOf bodyFirst ≡ Read (readAs 5 Body 0 false 16))
     × (readingOf header ≡ Read (readAs 5 Header 0 true 7)) × (readingOf otherNumber ≡ Read (readAs 6 Header 0 true 7))

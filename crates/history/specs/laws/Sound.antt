@@ -37,9 +37,9 @@ use Rattle.slots.specs.State.{rightSlot, soundSlots}
 use Rattle.slots.specs.laws.StateTests.{limits-hold}
 use Rattle.slots.specs.laws.Shares.{Wide}
 use Rattle.collector.specs.State.{Start, State, Reply, state, allFree, find, free}
-use Rattle.collector.specs.Calls.{answerAs, dropNumber, inLimits, openWith, sound, answering}
+use Rattle.collector.specs.Calls.{answerFor, dropNumber, inLimits, openWith, sound, answering}
 use Rattle.collector.specs.Arrival.{Arrival, arrivalIn, heardAs, segmentIn}
-use Rattle.history.specs.Handed.{Handed, HandedBytes, Brought, arrives, refused, broughtIn, broughtBy, group, segment}
+use Rattle.history.specs.Handed.{Handed, HandedBytes, Brought, arrives, refused, broughtIn, broughtBy, group, segment, byItself}
 use Rattle.history.specs.laws.Counts.{low-within, counted-low}
 use Rattle.history.specs.laws.Ready.{slots-sound, counts-low, slots-right, limit-low, used-inside, used-lent, found-used, found-holds, found-sound, none-holds, free-used, free-marks}
 use Rattle.history.specs.laws.Taken.{sound-right, taken-number, fresh-gathers, fresh-added}
@@ -227,8 +227,8 @@ brought-bytes (group bytes) arrived y e = go (readingOf bytes) refl e
     go (Read carried) r f =
         let same : arrivalIn bytes carried ≡ arrived = cc in
         subst (λ (a : Arrival). Bytes (a .segment .bytes)) same (segment-bytes bytes carried y)
-brought-bytes (segment other) arrived y e =
-    let same : other ≡ arrived = cc in
+brought-bytes (segment heard last bytes) arrived y e =
+    let same : byItself heard last bytes ≡ arrived = cc in
     subst (λ (a : Arrival). Bytes (a .segment .bytes)) same (y .0)
 
 came-intact : (arrived : Arrival) (s : State) (t : Reply) → Bytes (arrived .segment .bytes) → Intact s
@@ -236,12 +236,12 @@ came-intact : (arrived : Arrival) (s : State) (t : Reply) → Bytes (arrived .se
 came-intact arrived s t y whole (alone n a e) = rw e (answered-intact (Answer.Conflict (heardAs arrived)) s whole)
 came-intact arrived s t y whole (full n a f e) = rw e (answered-intact (Answer.Full (heardAs arrived)) s whole)
 came-intact arrived s t y whole (first i n a f e) =
-    rw e (first-intact s whole (answerAs
+    rw e (first-intact s whole (answerFor
     (takeInto (arrived .part) (limitOf s) (arrived .segment) (freshSlot (arrived .number)) (lentOf i s) .outcome)
-    (heardAs arrived)) (arrived .number) i (arrived .part) (arrived .segment) y n a f)
+    arrived) (arrived .number) i (arrived .part) (arrived .segment) y n a f)
 came-intact arrived s t y whole (more i n e) =
-    rw e (more-intact s whole (answerAs
-    (takeInto (arrived .part) (limitOf s) (arrived .segment) (slotOf i s) (lentOf i s) .outcome) (heardAs arrived))
+    rw e (more-intact s whole (answerFor
+    (takeInto (arrived .part) (limitOf s) (arrived .segment) (slotOf i s) (lentOf i s) .outcome) arrived)
     (arrived .number) i (arrived .part) (arrived .segment) y n)
 
 -- A GROUP of any bytes leaves the state undamaged

@@ -13,7 +13,6 @@ use borrow.Author.Tests.{eq-eqb, ne-eqb}
 use Rattle.octets.specs.Octets.{sumOf}
 use Rattle.answer.specs.declared.Answer.{Answer}
 use Rattle.answer.specs.declared.Answer.the-variants as Answer
-use Rattle.answer.specs.declared.Heard.{Heard}
 use Rattle.answer.specs.declared.Part.{Part}
 use Rattle.answer.specs.declared.Part.the-variants.{Header, Body}
 use Rattle.answer.specs.Table.{numberOf}
@@ -35,7 +34,7 @@ use Rattle.slots.specs.Find.{isFree, holds, findIn, freeIn}
 use Rattle.slots.specs.Alone.{fitsAlone}
 use Rattle.slots.specs.laws.Shares.{lent-back}
 use Rattle.collector.specs.State.{Reply, State, find, free}
-use Rattle.collector.specs.Calls.{answerAs, dropNumber, answering, sound}
+use Rattle.collector.specs.Calls.{answerFor, dropNumber, answering, sound}
 use Rattle.collector.specs.Arrival.{Arrival, heardAs}
 use Rattle.history.specs.Handed.{Handed, HandedBytes, Brought, arrives, refused, broughtBy}
 use Rattle.history.specs.laws.Slots.{held-is, is-held, free-holds, found-first, none-found, only-found, slot-here, slot-there, used-before, used-after}
@@ -112,24 +111,24 @@ module _ (number : ℕ) (answer : Answer) (i : ℕ) (slot : Slot) (lent : Lent) 
 -- ---- a group
 
 -- what the slot holds after a segment was offered to it
-told-holds : (o : Outcome) (heard : Heard) (part : Part) (limit : ℕ) (segment : Segment) (slot : Slot) (lent : Lent)
+told-holds : (o : Outcome) (arrived : Arrival) (part : Part) (limit : ℕ) (segment : Segment) (slot : Slot) (lent : Lent)
     (hs bs : List Segment) (t : Taken) → Holds limit slot lent hs bs → Tells o part limit segment slot lent hs bs t
-    → Holds limit (t .slot) (t .lent) (pick (isStored (answerAs o heard)) (headersWith part segment hs) hs)
-    (pick (isStored (answerAs o heard)) (bodiesWith part segment bs) bs)
-told-holds Stored heard part limit segment slot lent hs bs t h w = w .0 .holds
-told-holds Complete heard part limit segment slot lent hs bs t h w = w .0 .holds
-told-holds Repeat heard part limit segment slot lent hs bs t h w = rw (w .1) h
-told-holds Conflict heard part limit segment slot lent hs bs t h w = rw (w .1) h
+    → Holds limit (t .slot) (t .lent) (pick (isStored (answerFor o arrived)) (headersWith part segment hs) hs)
+    (pick (isStored (answerFor o arrived)) (bodiesWith part segment bs) bs)
+told-holds Stored arrived part limit segment slot lent hs bs t h w = w .0 .holds
+told-holds Complete arrived part limit segment slot lent hs bs t h w = w .0 .holds
+told-holds Repeat arrived part limit segment slot lent hs bs t h w = rw (w .1) h
+told-holds Conflict arrived part limit segment slot lent hs bs t h w = rw (w .1) h
 
 -- where it is added, the outcome is STORED or COMPLETE
-added-stored : (o : Outcome) (heard : Heard) (part : Part) (limit : ℕ) (segment : Segment) (slot : Slot) (lent : Lent)
-    (t : Taken) → Added part limit segment slot [] [] t → Tells o part limit segment slot lent [] [] t
-    → isStored (answerAs o heard) ≡ true
-added-stored Stored heard part limit segment slot lent t a w = refl
-added-stored Complete heard part limit segment slot lent t a w = refl
-added-stored Repeat heard Header limit segment slot lent t a w = absurd (w .0)
-added-stored Repeat heard Body limit segment slot lent t a w = absurd (w .0)
-added-stored Conflict heard part limit segment slot lent t a w = absurd (w .0 (a .holds .gathers .object))
+added-stored : (o : Outcome) (arrived : Arrival) (part : Part) (limit : ℕ) (segment : Segment) (slot : Slot)
+    (lent : Lent) (t : Taken) → Added part limit segment slot [] [] t → Tells o part limit segment slot lent [] [] t
+    → isStored (answerFor o arrived) ≡ true
+added-stored Stored arrived part limit segment slot lent t a w = refl
+added-stored Complete arrived part limit segment slot lent t a w = refl
+added-stored Repeat arrived Header limit segment slot lent t a w = absurd (w .0)
+added-stored Repeat arrived Body limit segment slot lent t a w = absurd (w .0)
+added-stored Conflict arrived part limit segment slot lent t a w = absurd (w .0 (a .holds .gathers .object))
 
 -- what is stored under a number after a group that was read
 abbrev next : Part → ℕ → Arrival → Answer → List Segment → List Segment
@@ -160,21 +159,21 @@ more-stands : (arrived : Arrival) (s : State) (i : ℕ) (hs bs : List Segment) (
     → Bytes (arrived .segment .bytes) → Intact s → Intact (offering arrived i s taken .left)
     → StandsFor (arrived .number) s hs bs → find (arrived .number) s ≡ At i
     → StandsFor (arrived .number) (offering arrived i s taken .left)
-    (pick (isStored (answerAs (taken .outcome) (heardAs arrived)))
+    (pick (isStored (answerFor (taken .outcome) arrived))
     (headersWith (arrived .part) (arrived .segment) hs) hs)
-    (pick (isStored (answerAs (taken .outcome) (heardAs arrived)))
+    (pick (isStored (answerFor (taken .outcome) arrived))
     (bodiesWith (arrived .part) (arrived .segment) bs) bs)
 more-stands arrived s i hs bs taken same y whole whole' w n =
-    replaced-stands (arrived .number) (answerAs (taken .outcome) (heardAs arrived)) i (taken .slot) (taken .lent) s
+    replaced-stands (arrived .number) (answerFor (taken .outcome) arrived) i (taken .slot) (taken .lent) s
     (whole .undamaged) (found-used s (whole .undamaged) (arrived .number) i n)
     (rw same (more-lent s whole (arrived .number) i (arrived .part) (arrived .segment) y n))
     whole'
-    (pick (isStored (answerAs (taken .outcome) (heardAs arrived)))
+    (pick (isStored (answerFor (taken .outcome) arrived))
     (headersWith (arrived .part) (arrived .segment) hs) hs)
-    (pick (isStored (answerAs (taken .outcome) (heardAs arrived)))
+    (pick (isStored (answerFor (taken .outcome) arrived))
     (bodiesWith (arrived .part) (arrived .segment) bs) bs)
     number
-    (told-holds (taken .outcome) (heardAs arrived) (arrived .part) (limitOf s) (arrived .segment) (slotOf i s)
+    (told-holds (taken .outcome) arrived (arrived .part) (limitOf s) (arrived .segment) (slotOf i s)
     (lentOf i s) hs bs taken (w .held i n) told)
   where
     number : taken .slot .number ≡ arrived .number
@@ -191,14 +190,14 @@ first-stands : (arrived : Arrival) (s : State) (i : ℕ) (taken : Taken)
     → taken ≡ takeInto (arrived .part) (limitOf s) (arrived .segment) (freshSlot (arrived .number)) (lentOf i s)
     → Bytes (arrived .segment .bytes) → Intact s → Intact (offering arrived i s taken .left)
     → fitsAlone (arrived .part) (limitOf s) (arrived .segment) ≡ true → free s ≡ At i
-    → (isStored (answerAs (taken .outcome) (heardAs arrived)) ≡ true)
+    → (isStored (answerFor (taken .outcome) arrived) ≡ true)
     × StandsFor (arrived .number) (offering arrived i s taken .left) (headersWith (arrived .part) (arrived .segment) [])
     (bodiesWith (arrived .part) (arrived .segment) [])
 unfolding freshSlot
 first-stands arrived s i taken same y whole whole' a f = (
-  added-stored (taken .outcome) (heardAs arrived) (arrived .part) (limitOf s) (arrived .segment)
+  added-stored (taken .outcome) arrived (arrived .part) (limitOf s) (arrived .segment)
       (freshSlot (arrived .number)) (lentOf i s) taken added told,
-  replaced-stands (arrived .number) (answerAs (taken .outcome) (heardAs arrived)) i (taken .slot) (taken .lent) s
+  replaced-stands (arrived .number) (answerFor (taken .outcome) arrived) i (taken .slot) (taken .lent) s
       (whole .undamaged) (free-used s (whole .undamaged) i f)
       (rw same (first-lent s whole (arrived .number) i (arrived .part) (arrived .segment) y f))
       whole'
@@ -269,7 +268,7 @@ came-lowest arrived s t y whole whole' (first i n a f e) none h =
     (bodiesWith (arrived .part) (arrived .segment) []) (added .holds))
     (taken-number (arrived .part) (limitOf s) (arrived .segment) (freshSlot (arrived .number)) (lentOf i s)) in (
       i,
-      rw e (replaced-found (arrived .number) (answerAs (x .outcome) (heardAs arrived)) i (x .slot) (x .lent) s
+      rw e (replaced-found (arrived .number) (answerFor (x .outcome) arrived) i (x .slot) (x .lent) s
           (whole .undamaged) u (first-lent s whole (arrived .number) i (arrived .part) (arrived .segment) y f)
           (rw e at whole') own),
       free-free s (whole .undamaged) i f,

@@ -42,7 +42,7 @@ use Rattle.name_search.specs.declared.Holder.{Holder}
 use Rattle.name_search.specs.declared.Holder.the-variants as Holder
 use Rattle.name_search.specs.Finding.{foundByName}
 use Rattle.collector.specs.State.{Reply, State, find}
-use Rattle.collector.specs.Calls.{answerAs, dropNumber, locate, locatedAs, locatedIn, show, sound}
+use Rattle.collector.specs.Calls.{answerFor, dropNumber, locate, locatedAs, locatedIn, show, sound}
 use Rattle.collector.specs.Arrival.{Arrival, heardAs}
 use Rattle.queries.specs.Questions as queries
 use Rattle.queries.specs.declared.Asked.the-variants as Asked
@@ -108,21 +108,21 @@ in-order-exactly s b = (there, back)
 
 -- ---- a state that passes the test is not answered with STATE
 
-named-never : (o : Outcome) (heard : Heard) → answerAs o heard ≢ Answer.Denied Reason.State
-named-never Stored heard e = let z : _≡_ {A = ℕ} 0 1 = cc in absurd (omega arith)
-named-never Complete heard e = let z : _≡_ {A = ℕ} 0 1 = cc in absurd (omega arith)
-named-never Repeat heard e = let z : _≡_ {A = ℕ} 0 1 = cc in absurd (omega arith)
-named-never Conflict heard e = let z : _≡_ {A = ℕ} 0 1 = cc in absurd (omega arith)
+named-never : (o : Outcome) (arrived : Arrival) → answerFor o arrived ≢ Answer.Denied Reason.State
+named-never Stored arrived e = let z : _≡_ {A = ℕ} 0 1 = cc in absurd (omega arith)
+named-never Complete arrived e = let z : _≡_ {A = ℕ} 0 1 = cc in absurd (omega arith)
+named-never Repeat arrived e = let z : _≡_ {A = ℕ} 0 1 = cc in absurd (omega arith)
+named-never Conflict arrived e = let z : _≡_ {A = ℕ} 0 1 = cc in absurd (omega arith)
 
 came-never : (arrived : Arrival) (s : State) (t : Reply) → Came arrived s t → t .answer ≢ Answer.Denied Reason.State
 came-never arrived s t (alone n a e) d = let z : _≡_ {A = ℕ} 0 1 = cc in absurd (omega arith)
 came-never arrived s t (full n a f e) d = let z : _≡_ {A = ℕ} 0 1 = cc in absurd (omega arith)
 came-never arrived s t (first i n a f e) d =
     named-never (takeInto (arrived .part) (limitOf s) (arrived .segment) (freshSlot (arrived .number))
-    (lentOf i s) .outcome) (heardAs arrived) (rw e at d)
+    (lentOf i s) .outcome) arrived (rw e at d)
 came-never arrived s t (more i n e) d =
     named-never (takeInto (arrived .part) (limitOf s) (arrived .segment) (slotOf i s) (lentOf i s) .outcome)
-    (heardAs arrived) (rw e at d)
+    arrived (rw e at d)
 
 pub handed-never : (given : Handed) (s : State) → sound s ≡ true → handedAnswer given s ≢ Answer.Denied Reason.State
 handed-never given s good = go (broughtBy given) refl

@@ -75,9 +75,9 @@ over-more a low high n h = rw (lt-leb (numberOf a) high h) (go (leb low (numberO
 counted-more : (a : Answer) (t r f c d : ℕ)
     → counted a (capped t r f c d) ≡ capped (onMore a 0 1 t) (onMore a 2 2 r) (onMore a 10 18 f) (onMore a 1 1 c)
     (onMore a 3 3 d)
-counted-more (Answer.Stored heard) t r f c d = rw (risen-min t) refl
-counted-more (Answer.Complete heard) t r f c d = rw (risen-min t, risen-min c) refl
-counted-more (Answer.Repeat heard) t r f c d = rw (risen-min r) refl
+counted-more (Answer.Stored heard repetition) t r f c d = rw (risen-min t) refl
+counted-more (Answer.Complete heard repetition) t r f c d = rw (risen-min t, risen-min c) refl
+counted-more (Answer.Repeat heard repetition) t r f c d = rw (risen-min r) refl
 counted-more (Answer.Dropped number) t r f c d = rw (risen-min d) refl
 counted-more (Answer.Refused why) t r f c d = rw (risen-min f) (unread-more why t r f c d)
 counted-more (Answer.Conflict heard) t r f c d = rw (risen-min f) refl

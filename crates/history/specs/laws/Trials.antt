@@ -47,11 +47,11 @@ use Rattle.history.specs.laws.State.{in-order-exactly}
 use Rattle.history.specs.History.{Question, hand, drop, Collecting, Allowed, asking}
 use Rattle.history.specs.laws.Call.{defined}
 use Rattle.history.specs.State.{OfBytes, InOrder}
-use Rattle.history.specs.Handed.{Handed, group, segment, broughtIn}
+use Rattle.history.specs.Handed.{Handed, group, segment, byItself, broughtIn}
 use Rattle.history.specs.laws.Reached.{reached-intact}
 use Rattle.history.specs.Promise.{Run, reachedBy, Passing}
 use Rattle.history.specs.laws.Samples.{computing, small, allowed, pair, pair-allowed, bodyLast, header, readAs, oneCut, of-bytes-one}
-use Rattle.history.specs.Taking.{take}
+use Rattle.history.specs.Taking.{take, address}
 
 -- ---- an object of one segment: a header of 7 bytes and no body
 
@@ -407,7 +407,7 @@ foundSlot (At i) = i
 -- groups are taken otherwise, and segments as they are
 abbrev pub grouped : (List ℕ → State → Reply) → Handed → State → Reply
 grouped takes (group bytes) s = takes bytes s
-grouped takes (segment arrived) s = takeSegment arrived s
+grouped takes (segment heard last bytes) s = takeSegment (byItself heard last bytes) s
 
 -- a call
 abbrev calling : (Start → Opened) → (Handed → State → Reply) → (ℕ → State → Reply) → Collecting
@@ -420,6 +420,7 @@ calling opens takes drops = record {
   tells = queries.parameters;
   names = queries.name;
   finds = queries.find;
+  addresses = address;
   asks = asking;
 }
 
@@ -434,8 +435,8 @@ droppingBy drops = calling openWith take drops
 
 -- a question
 abbrev questioning : (ℕ → State → Located) → (ℕ → Part → State → List ℕ) → (ℕ → State → Asked) → (ℕ → State → List ℕ)
-    → (List ℕ → State → Sought) → (Question → State → State) → Collecting
-questioning locates shows tells names finds asks = record {
+    → (List ℕ → State → Sought) → (List ℕ → State → List ℕ) → (Question → State → State) → Collecting
+questioning locates shows tells names finds addresses asks = record {
   opens = openWith;
   takes = take;
   drops = dropNumber;
@@ -444,23 +445,28 @@ questioning locates shows tells names finds asks = record {
   tells = tells;
   names = names;
   finds = finds;
+  addresses = addresses;
   asks = asks;
 }
 
 abbrev pub locatingBy : (ℕ → State → Located) → Collecting
-locatingBy locates = questioning locates show queries.parameters queries.name queries.find asking
+locatingBy locates = questioning locates show queries.parameters queries.name queries.find address asking
 
 abbrev pub showingBy : (ℕ → Part → State → List ℕ) → Collecting
-showingBy shows = questioning locate shows queries.parameters queries.name queries.find asking
+showingBy shows = questioning locate shows queries.parameters queries.name queries.find address asking
 
 abbrev pub tellingBy : (ℕ → State → Asked) → Collecting
-tellingBy tells = questioning locate show tells queries.name queries.find asking
+tellingBy tells = questioning locate show tells queries.name queries.find address asking
 
 abbrev pub namingBy : (ℕ → State → List ℕ) → Collecting
-namingBy names = questioning locate show queries.parameters names queries.find asking
+namingBy names = questioning locate show queries.parameters names queries.find address asking
 
 abbrev pub findingBy : (List ℕ → State → Sought) → Collecting
-findingBy finds = questioning locate show queries.parameters queries.name finds asking
+findingBy finds = questioning locate show queries.parameters queries.name finds address asking
+
+abbrev pub addressingBy : (List ℕ → State → List ℕ) → Collecting
+addressingBy addresses =
+    questioning locate show queries.parameters queries.name queries.find addresses asking
 
 abbrev pub askingBy : (Question → State → State) → Collecting
-askingBy asks = questioning locate show queries.parameters queries.name queries.find asks
+askingBy asks = questioning locate show queries.parameters queries.name queries.find address asks

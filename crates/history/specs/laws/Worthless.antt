@@ -50,7 +50,7 @@ use Rattle.history.specs.Held.{limitOf, slotOf, stageFor}
 use Rattle.history.specs.History.{Question, drop, ask, Collecting, told, under}
 use Rattle.history.specs.laws.Stage.{none-finished}
 use Rattle.history.specs.laws.Demands.{run-answered, finished-lengths}
-use Rattle.history.specs.Promise.{Run, reachedBy, toldBy, stored, segmentOf, heardOf, since, answerTo, StoredFrom, cameUnder, between, answersFrom, RefusedLeaves, NeverState, OthersLeave, ShownJoined, UnfinishedUnshown, CountsTold, ConflictExactly, FullExactly, RepeatExactly, CompleteExactly, StoredExactly, LateStored, LowestFreeTaken, UnreadRefused, DropExactly, UnheldExactly, NoneFreeExactly, FinishedExactly, FinishedLengths, OneCutAgrees, OneCutFinishes}
+use Rattle.history.specs.Promise.{Run, reachedBy, toldBy, stored, segmentOf, heardOf, repetitionOf, since, answerTo, StoredFrom, cameUnder, between, answersFrom, RefusedLeaves, NeverState, OthersLeave, ShownJoined, UnfinishedUnshown, CountsTold, ConflictExactly, FullExactly, RepeatExactly, CompleteExactly, StoredExactly, LateStored, LowestFreeTaken, UnreadRefused, DropExactly, UnheldExactly, NoneFreeExactly, FinishedExactly, FinishedLengths, OneCutAgrees, OneCutFinishes}
 use Rattle.history.specs.laws.Samples.{computing, small, pair, bodyLast, bodyFirst, header, readAs, object, oneCut, sent-one, all-sent}
 use Rattle.history.specs.laws.Trials.{core, whole, finished-core, fits-empty, single, six, otherKind, groupFive, groupSix, groupShort, groupLast, groupEmpty, none, one, two, dropped, again, many, later, empty, twice, withCounts, foundSlot, openingBy, takingBy, droppingBy, showingBy, askingBy}
 use Rattle.history.specs.laws.Call.{defined}
@@ -126,6 +126,7 @@ dropsAsked (Question.show number part) s = dropNumber number s .left
 dropsAsked (Question.parameters number) s = dropNumber number s .left
 dropsAsked (Question.name number) s = dropNumber number s .left
 dropsAsked (Question.find sought) s = s
+dropsAsked (Question.address bytes) s = s
 
 -- nor does a question change anything
 pub drops-asked-breaks : ¬ (OthersLeave (askingBy dropsAsked))
@@ -266,7 +267,7 @@ full-unless-free-breaks p =
 
 -- STORED for every group that can be read, and nothing is stored
 abbrev storedAs : Reading → Answer
-storedAs (Read carried) = Answer.Stored (heardIn carried)
+storedAs (Read carried) = Answer.Stored (heardIn carried) (carried .repetition)
 storedAs (Refused why) = Answer.Refused why
 
 abbrev pub storesEvery : List ℕ → State → Reply
@@ -276,7 +277,8 @@ storesEvery bytes s = answering (storedAs (readingOf bytes)) s
 pub stores-every-breaks : ¬ (RepeatExactly (takingBy storesEvery))
 unfolding computing small groupFive
 stores-every-breaks p =
-    let e : Answer.Stored (heardOf groupFive) ≡ Answer.Repeat (heardOf groupFive) = p one groupFive .1 (inl refl) in
+    let e : Answer.Stored (heardOf groupFive) (repetitionOf groupFive)
+    ≡ Answer.Repeat (heardOf groupFive) (repetitionOf groupFive) = p one groupFive .1 (inl refl) in
     let z : _≡_ {A = ℕ} 0 1 = cc in
     absurd (omega arith)
 
@@ -300,7 +302,8 @@ renamed answer bytes s = record {
 -- COMPLETE as soon as a last segment is stored
 abbrev completeAs : Reading → Answer → Answer
 completeAs (Read carried) answer =
-    pick (both (carried .last) (eqb (numberOf answer) 0)) (Answer.Complete (heardIn carried)) answer
+    pick (both (carried .last) (eqb (numberOf answer) 0)) (Answer.Complete (heardIn carried) (carried .repetition))
+    answer
 completeAs (Refused why) answer = answer
 
 abbrev pub completesByLast : List ℕ → State → Reply
@@ -602,7 +605,8 @@ lateBy say (Refused why) bytes s = takeGroup bytes s
 -- COMPLETE again
 abbrev pub completesTwice : List ℕ → State → Reply
 completesTwice bytes s =
-    lateBy (λ carried. renamed (Answer.Complete (heardIn carried)) bytes s) (readingOf bytes) bytes s
+    lateBy (λ carried. renamed (Answer.Complete (heardIn carried) (carried .repetition)) bytes s) (readingOf bytes)
+    bytes s
 
 -- CONFLICT, as for any other segment of a number that is not in
 abbrev pub refusesLate : List ℕ → State → Reply
@@ -616,9 +620,9 @@ late-breaks k n e a x y p =
     let object = finished-core 1024 (stored k one Header 5) (stored k one Body 5) refl (e .0) (e .1) in
     go (p one groupEmpty (object .0) (object .1) (rw (e .0, e .1) fits-empty))
   where
-    go : (answerTo k (since k one) groupEmpty ≡ Answer.Repeat (heardOf groupEmpty))
-        ⊎ ((answerTo k (since k one) groupEmpty ≡ Answer.Stored (heardOf groupEmpty)) × (Body ≡ Body)
-        × (segmentOf groupEmpty ≡ cut.empty)) → ⊥
+    go : (answerTo k (since k one) groupEmpty ≡ Answer.Repeat (heardOf groupEmpty) (repetitionOf groupEmpty))
+        ⊎ ((answerTo k (since k one) groupEmpty ≡ Answer.Stored (heardOf groupEmpty) (repetitionOf groupEmpty))
+        × (Body ≡ Body) × (segmentOf groupEmpty ≡ cut.empty)) → ⊥
     go (inl q) = y (sym a ∙ ap numberOf q)
     go (inr q) = x (sym a ∙ ap numberOf (q .0))
 

@@ -6,7 +6,7 @@ use mathlib.Core.List.{List, [], _∷_, _++_}
 use Prim.Native.Nat.{ℕ}
 use native.Mathlib.Omega.{arith}
 use Rattle.answer.specs.declared.Returned.{Returned}
-use Rattle.answer.specs.declared.Returned.the-variants.{Segment, Number, Nothing}
+use Rattle.answer.specs.declared.Returned.the-variants.{Sent, Segment, Number, Nothing}
 use Rattle.answer.specs.Letters.{letters}
 use Rattle.answer.specs.Table.{nameOf, returnedWith}
 use Rattle.listing_output.specs.Number.{decimal}
@@ -27,13 +27,14 @@ returned-with-requires c κs = search needs
 put-returned-requires : tie.Need-put-returned-requires
 put-returned-requires c κs = omega arith
 
--- there are three values, whatever is returned
-three-values : (number name : List ℕ) (returned : Returned)
+-- there are values, whatever is returned
+with-values : (number name : List ℕ) (returned : Returned)
     → (number ++ (space ∷ [])) ++ ((name ++ (space ∷ [])) ++ textOf (valuesOf returned))
     ≡ textOf (number ∷ name ∷ valuesOf returned)
-three-values number name (Segment heard) = refl
-three-values number name (Number value) = refl
-three-values number name Nothing = refl
+with-values number name (Sent heard repetition) = refl
+with-values number name (Segment heard) = refl
+with-values number name (Number value) = refl
+with-values number name Nothing = refl
 
 returns : tie.Need-returns
 unfolding answerText
@@ -45,7 +46,7 @@ returns c =
     let values = put-same (c .put-returned .ensures .0)
     (ap (λ (returned : Returned). textOf (valuesOf returned)) (c .before .returned-with .ensures)) in
     put-whole (put-same (put-then (number .ensures .0) (put-then (name .ensures .0) values (omega arith)) (omega arith))
-    (three-values (decimal (start .args .line)) (letters (nameOf (start .args .answer)))
+    (with-values (decimal (start .args .line)) (letters (nameOf (start .args .answer)))
     (returnedWith (start .args .answer)))) (omega arith)
 
 pub write-answer-spec : {M : Type 1} → statement M

@@ -1,12 +1,15 @@
 -- A text laid over a memory from a place on, and where what follows it starts.
-use mathlib.Core.Path.{_≡_, _∙_, subst}
-use mathlib.Core.List.{List, _++_}
+use mathlib.Core.Path.{_≡_, ap, _∙_, subst}
+use mathlib.Core.List.{List, [], _∷_, _++_, append-assoc}
 use Prim.Native.Nat.{ℕ, _+_, _≤_}
 use native.Mathlib.Nat.{zero-add}
 use native.Mathlib.Omega.{arith}
 use lib.ListN.{length, length-append}
 use Rattle.octets.specs.Octets.{over}
+use Rattle.answer.specs.declared.Heard.{Heard}
 use Rattle.listing_input.specs.laws.Run.{over-joined}
+use Rattle.listing_output.specs.Number.{decimal, fourDigits}
+use Rattle.listing_output.specs.Text.{space, partOf, segmentText}
 
 pub record Put (before : List ℕ) (at : ℕ) (text : List ℕ) (next : ℕ) (after : List ℕ) : Type 0 where
   pub ends : next ≡ at + length text
@@ -29,3 +32,12 @@ module _ {before after : List ℕ} {at next : ℕ} {text : List ℕ} (put : Put 
 pub put-whole : {before after : List ℕ} {next room : ℕ} {text : List ℕ} → Put before 0 text next after → next ≤ room
     → (next ≡ length text) × ((after ≡ over before 0 text) × (next ≤ room))
 put-whole put fits = (put .ends ∙ zero-add _, (put .laid, fits))
+
+-- a segment's values and what follows them, field by field
+pub segment-then : (heard : Heard) (rest : List ℕ) → segmentText heard ++ rest
+    ≡ (fourDigits (heard .number) ++ (space ∷ []))
+    ++ ((partOf (heard .part) ++ (space ∷ [])) ++ ((decimal (heard .segment) ++ (space ∷ [])) ++ rest))
+segment-then heard rest =
+    append-assoc (fourDigits (heard .number) ++ (space ∷ [])) _ rest
+    ∙ ap (λ (text : List ℕ). (fourDigits (heard .number) ++ (space ∷ [])) ++ text)
+    (append-assoc (partOf (heard .part) ++ (space ∷ [])) _ rest)

@@ -1,8 +1,8 @@
 -- `wire::session` meets its contract: each way out has passed the tests before it and failed its own.
 -- Assumes nothing.
-use mathlib.Core.Path.{sym, _∙_}
+use mathlib.Core.Path.{refl, _∙_}
 use native.Mathlib.Omega.{arith}
-use Rattle.wire.proofs.Laws.{no-segment, no-access, access-past, no-transport, address-short, segment-past, size-refused, segment-read}
+use Rattle.wire.proofs.Laws.{no-segment, no-access, access-past, no-transport, address-short, session-read}
 use borrow.Author.Needs.{needs}
 use Rattle.wire.proofs.session.Statement.{statement}
 use Rattle.wire.proofs.session.Tie as tie
@@ -66,77 +66,28 @@ returns-5 c =
     address-short (s .args .group .now) (s .args .part) (e .before .before .if1 .left) (e .before .if2 .left)
     (e .if3 .left) (c .before .if4 .left) (c .if5 .taken)
 
-add-start : tie.Need-add-start
-add-start c = omega arith
-
-add-start-2 : tie.Need-add-start-2
-add-start-2 c = omega arith
-
-add-start-3 : tie.Need-add-start-3
-add-start-3 c = omega arith
+segmentation-requires : tie.Need-segmentation-requires
+segmentation-requires c κs =
+    let e = c .before .before .before .before in
+    record {
+      fielded = refl;
+      indicated = refl;
+      low = omega (arith, e .before .before .before .shared-slice-known2 .given 0);
+      transported = c .if5 .left;
+      accessed = e .if3 .left;
+    }
 
 returns-6 : tie.Need-returns-6
 returns-6 c =
-    let e = c .before .before .before .before .before in
+    let f = c .before in
+    let e = f .before .before .before .before in
     let s = start (e .before) in
-    segment-past (s .args .group .now) (s .args .part) (e .before .before .if1 .left) (e .before .if2 .left)
-    (e .if3 .left) (c .before .before .if4 .left) (c .before .if5 .left) (c .if6 .taken)
-
-add-word-at : tie.Need-add-word-at
-add-word-at c = omega arith
-
-add-word-at-2 : tie.Need-add-word-at-2
-add-word-at-2 c = omega arith
-
-word-at-requires : tie.Need-word-at-requires
-word-at-requires c κs = omega arith
-
-cast-size : tie.Need-cast-size
-cast-size c = omega arith
-
-word-at-requires-2 : tie.Need-word-at-requires-2
-word-at-requires-2 c κs = omega arith
-
-least-size-requires : tie.Need-least-size-requires
-least-size-requires c κs = search needs
-
-size-wrong-requires : tie.Need-size-wrong-requires
-size-wrong-requires c κs = search needs
-
-returns-7 : tie.Need-returns-7
-returns-7 c =
-    let w = c .before .before .before in
-    let f = w .before .before in
-    let e = f .before .before .before .before .before in
-    let s = start (e .before) in
-    size-refused (s .args .group .now) (s .args .part) (e .before .before .if1 .left) (e .before .if2 .left)
-    (e .if3 .left) (f .before .before .if4 .left) (f .before .if5 .left) (f .if6 .left)
-    (w .before .word-at .result) (w .word-at2 .result) (w .before .word-at .ensures) (w .word-at2 .ensures)
-    (rw (c .before .before .least-size .ensures) at (sym (c .before .size-wrong .ensures) ∙ c .if7 .taken))
-
-add-word-at-3 : tie.Need-add-word-at-3
-add-word-at-3 c = omega arith
-
-word-at-requires-3 : tie.Need-word-at-requires-3
-word-at-requires-3 c κs = omega arith
-
-returns-8 : tie.Need-returns-8
-returns-8 c =
-    let r = c .before in
-    let w = r .before .before .before in
-    let f = w .before .before in
-    let e = f .before .before .before .before .before in
-    let s = start (e .before) in
-    segment-read (s .args .group .now) (s .args .part) (e .before .before .if1 .left) (e .before .if2 .left)
-    (e .if3 .left) (f .before .before .if4 .left) (f .before .if5 .left) (f .if6 .left)
-    (w .before .word-at .result) (w .word-at2 .result) (w .before .word-at .ensures) (w .word-at2 .ensures)
-    (c .word-at3 .result)
-    (rw (r .before .before .least-size .ensures) at (sym (r .before .size-wrong .ensures) ∙ r .if7 .left))
-    (c .word-at3 .ensures)
+    c .segmentation .ensures
+    ∙ session-read (s .args .group .now) (s .args .part) (e .before .before .if1 .left) (e .before .if2 .left)
+    (e .if3 .left) (f .before .if4 .left) (f .if5 .left)
 
 pub session-spec : {M : Type 1} → statement M
 session-spec =
     tie.close (tie.spec shared-slice-read-flags returns returns-2 sub-end cast-field mul-field add-field add-access
-    add-if3 returns-3 shared-slice-read-indicator cast-indicator shared-slice-read-if4 returns-4 returns-5 add-start
-    add-start-2 add-start-3 returns-6 add-word-at add-word-at-2 word-at-requires cast-size word-at-requires-2
-    least-size-requires size-wrong-requires returns-7 add-word-at-3 word-at-requires-3 returns-8)
+    add-if3 returns-3 shared-slice-read-indicator cast-indicator shared-slice-read-if4 returns-4 returns-5
+    segmentation-requires returns-6)

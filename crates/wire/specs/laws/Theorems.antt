@@ -1,9 +1,9 @@
 -- What holds of every group that is read: its bytes lie inside the group, within document 01's bounds, and what
 -- document 01 ignores plays no part.
-use mathlib.Core.Path.{_≡_, refl, ap, _∙_, subst}
+use mathlib.Core.Path.{_≡_, refl, sym, ap, _∙_, subst}
 use mathlib.Core.Bool.{Bool, true, false, not, _||_, _&&_}
-use mathlib.Core.List.{List}
-use Prim.Native.Nat.{ℕ, zero, suc, _+_, _-_, _≤_}
+use mathlib.Core.List.{List, []}
+use Prim.Native.Nat.{ℕ, zero, suc, _+_, _-_, _≤_, _<_}
 use native.Mathlib.Omega.{arith}
 use lib.ListN.{length, take, drop}
 use lib.Dec.{eqb, ltb}
@@ -15,9 +15,10 @@ use Rattle.wire.specs.declared.Kind.{Kind}
 use Rattle.wire.specs.declared.Kind.the-variants.{Carries, Other}
 use Rattle.wire.specs.declared.Carried.{Carried}
 use Rattle.wire.specs.declared.Reading.{Reading}
-use Rattle.wire.specs.declared.Reading.the-variants.{Read}
-use Rattle.wire.specs.Wire.{groupLeast, groupMost, segmentLeast, segmentMost, fullLeast, checkBytes, byteAt, crcFlag, segmentFlag, userAccessFlag, typeNumber, lastFlag, segmentNumber, userAccess, transportFlag, lengthIndicator, transportNumber, segmentSize, segmentStart, checkStart}
-use Rattle.wire.specs.Reading.{bytesIn, _if_otherwise_, kindOf, checkHolds, leastSize, sizeWrong, segmentOf, carriedBy, readingOf}
+use Rattle.wire.specs.declared.Reading.the-variants.{Read, Refused}
+use Rattle.wire.specs.Wire.{groupLeast, groupMost, segmentLeast, segmentMost, fullLeast, checkBytes, byteAt, crcFlag, segmentFlag, userAccessFlag, typeNumber, lastFlag, segmentNumber, userAccess, transportFlag, lengthIndicator, transportNumber, segmentSize, segmentStart, checkStart, endUserAddress, endUserAddressLength}
+use Rattle.wire.specs.Ignored.{SameButIgnored, SameSegment}
+use Rattle.wire.specs.Reading.{_if_otherwise_, kindOf, checkHolds, leastSize, sizeWrong, repetitionIn, segmentOf, carriedBy, readingOf, addressOf}
 
 -- ---- a group is read exactly when it passes every check
 
@@ -98,6 +99,10 @@ pub record Inside (group : List ℕ) (segment : Carried) : Type 0 where
   pub most : segment .length ≤ segmentMost
   pub enough : segment .last ≡ false → fullLeast ≤ segment .length
   pub empty : segment .length ≡ 0 → (segment .part ≡ Body) × (segment .segment ≡ 0) × (segment .last ≡ true)
+  pub whole : length group ≤ groupMost
+  -- the end user address: between the transport number and the segmentation header, up to 13 bytes
+  pub address : segment .«address_start» + segment .«address_length» + 2 ≡ segment .start
+  pub short : segment .«address_length» ≤ 13
 
 either-false : (a b : Bool) → (a || b) ≡ false → (a ≡ false) × (b ≡ false)
 either-false true b e = let z : _≡_ {A = ℕ} 0 1 = cc in absurd (omega arith)
@@ -170,11 +175,16 @@ inside-passes group part p =
     let whole : groupLeast ≤ length group = ltb-false (length group) groupLeast (either-false _ _ (p .bounded) .0) in
     let starts : segmentStart group ≤ checkStart group =
     ltb-false (checkStart group) (segmentStart group) (p .segmented) in
+    let indicated : 2 ≤ lengthIndicator group =
+    ltb-false (lengthIndicator group) 2 (either-false (eqb (transportFlag group) 0) _ (p .addressed) .1) in
     record {
       ends = omega (arith, size .0);
       most = size .2;
       enough = long-enough part (segmentNumber group) (lastFlag group) (segmentSize group) (size .1);
       empty = empty-only part (segmentNumber group) (lastFlag group) (segmentSize group) (size .1);
+      whole = ltb-false groupMost (length group) (either-false (ltb (length group) groupLeast) _ (p .bounded) .1);
+      address = omega (arith, indicated);
+      short = omega arith;
     }
 
 pub inside : (group : List ℕ) (segment : Carried) → readingOf group ≡ Read segment → Inside group segment
@@ -184,52 +194,77 @@ inside group segment e =
 
 -- ---- what is ignored
 
--- two groups that differ only in what is ignored, and in their check words: the extension field, the two indices, the
--- spare bits, the repetition count and the end user address
-pub record SameButIgnored (group other : List ℕ) : Type 0 where
-  pub long : length other ≡ length group
-  pub flags : byteAt other 0 ≡ byteAt group 0
-  pub last : lastFlag other ≡ lastFlag group
-  pub number : segmentNumber other ≡ segmentNumber group
-  pub addressed : transportFlag other ≡ transportFlag group
-  pub indicated : lengthIndicator other ≡ lengthIndicator group
-  pub transport : transportNumber other ≡ transportNumber group
-  pub size : segmentSize other ≡ segmentSize group
-  pub bytes : take (segmentSize group) (drop (segmentStart group) other)
-      ≡ take (segmentSize group) (drop (segmentStart group) group)
+-- the other group passes every check too: it is long enough for its own address, and no longer than a group may be
+same-passes : (group other : List ℕ) (part : Part) → SameButIgnored group other → byteAt other 0 < 0x100
+    → checkHolds other ≡ true → Passes group part → Passes other part
+same-passes group other part same byte holds p =
+    let size = size-right (leastSize part (segmentNumber group) (lastFlag group)) (segmentSize group)
+    (checkStart group - segmentStart group) (p .sized) in
+    let whole : groupLeast ≤ length group = ltb-false (length group) groupLeast (either-false _ _ (p .bounded) .0) in
+    let starts : segmentStart group ≤ checkStart group =
+    ltb-false (checkStart group) (segmentStart group) (p .segmented) in
+    let left : checkStart other - segmentStart other ≡ checkStart group - segmentStart group =
+    omega (arith, whole, starts, same .flags, same .long) in
+    record {
+      bounded = rw (
+        le-ltb (length other) groupLeast (omega (arith, whole, starts, same .flags, same .long)),
+        le-ltb groupMost (length other) (omega (arith, whole, starts, size .0, size .2, same .flags, same .long, byte)),
+      ) refl;
+      checked = cc;
+      headed = le-ltb (length other) 4 (omega (arith, whole, starts, same .flags, same .long));
+      holds = holds;
+      kind = cc;
+      flagged = cc;
+      accessed = le-ltb (checkStart other) (userAccess other + 1)
+          (omega (arith, whole, starts, same .flags, same .long));
+      addressed = rw (
+        same .addressed,
+        either-false (eqb (transportFlag group) 0) (ltb (lengthIndicator group) 2) (p .addressed) .0,
+        le-ltb (lengthIndicator other) 2 (same .indicated),
+      ) refl;
+      segmented = le-ltb (checkStart other) (segmentStart other)
+          (omega (arith, whole, starts, same .flags, same .long));
+      sized = rw (same .number, same .last, same .size, left) (p .sized);
+    }
 
-same-passes : (group other : List ℕ) (part : Part) → SameButIgnored group other → checkHolds other ≡ true
-    → Passes group part → Passes other part
-same-passes group other part same holds p = record {
-  bounded = cc;
-  checked = cc;
-  headed = cc;
-  holds = holds;
-  kind = cc;
-  flagged = cc;
-  accessed = cc;
-  addressed = cc;
-  segmented = cc;
-  sized = cc;
+same-carried : (group other : List ℕ) (part : Part) → SameButIgnored group other
+    → SameSegment group (segmentOf group part) other (segmentOf other part)
+unfolding segmentOf
+same-carried group other part same = record {
+  number = same .transport;
+  part = refl;
+  segment = same .number;
+  last = same .last;
+  bytes = rw (same .size) (same .bytes);
 }
 
-same-segment : (group other : List ℕ) (part : Part) → SameButIgnored group other
-    → segmentOf other part ≡ segmentOf group part
-unfolding segmentOf
-same-segment group other part same = cc
-
-same-bytes : (group other : List ℕ) (part : Part) → SameButIgnored group other
-    → bytesIn other (segmentOf group part) ≡ bytesIn group (segmentOf group part)
-unfolding segmentOf
-same-bytes group other part same = same .bytes
-
--- the other group, with a check word of its own that holds, is read as the same segment of the same bytes
-pub ignored : (group other : List ℕ) (segment : Carried) → SameButIgnored group other → checkHolds other ≡ true
-    → readingOf group ≡ Read segment
-    → (readingOf other ≡ Read segment) × (bytesIn other segment ≡ bytesIn group segment)
-ignored group other segment same holds e =
-    let read = read-passes group segment e in
-    let other-passes = same-passes group other (read .0) same holds (read .1) in (
-      passes-read other (read .0) other-passes ∙ ap Read (same-segment group other (read .0) same ∙ read .2),
-      subst (λ (s : Carried). bytesIn other s ≡ bytesIn group s) (read .2) (same-bytes group other (read .0) same),
+-- THE SAME SEGMENT: the other group, with a check word of its own that holds, is read too, and carries it
+pub ignored : (group other : List ℕ) (carried : Carried) → SameButIgnored group other → byteAt other 0 < 0x100
+    → checkHolds other ≡ true → readingOf group ≡ Read carried
+    → (again : Carried) × (readingOf other ≡ Read again) × SameSegment group carried other again
+ignored group other carried same byte holds e =
+    let read = read-passes group carried e in
+    let passes = same-passes group other (read .0) same byte holds (read .1) in (
+      segmentOf other (read .0),
+      passes-read other (read .0) passes,
+      subst (λ (c : Carried). SameSegment group c other (segmentOf other (read .0))) (read .2)
+          (same-carried group other (read .0) same),
     )
+
+-- what the sender meant by a repeat is told as it stands in the group
+pub read-repetition : (group : List ℕ) (carried : Carried) → readingOf group ≡ Read carried
+    → carried .repetition ≡ repetitionIn group
+unfolding segmentOf
+read-repetition group carried e =
+    subst (λ (c : Carried). c .repetition ≡ repetitionIn group) (read-passes group carried e .2) refl
+
+-- and the end user address is what stands there; a group that is not read has none
+pub address-exactly : (group : List ℕ)
+    → ((carried : Carried) → readingOf group ≡ Read carried
+    → addressOf group ≡ take (endUserAddressLength group) (drop (endUserAddress group) group))
+    × ((why : Refusal) → readingOf group ≡ Refused why → addressOf group ≡ [])
+unfolding addressOf segmentOf
+address-exactly group = (
+  (λ carried e. rw (e ∙ ap Read (sym (read-passes group carried e .2))) refl),
+  (λ why e. rw e refl),
+)

@@ -41,7 +41,7 @@ use Rattle.history.specs.laws.Promises.{promised}
 use Rattle.history.specs.State.{OfBytes}
 use Rattle.layout.specs.Layout.{wordsOf, countWords, collectorFrom, countsFrom}
 use Rattle.layout.specs.laws.ReadBack.{Numbered, written-back, written-reads}
-use Rattle.yovtirak.specs.Exports.{answerWord, held, changes, lentRight, left, takeCall, dropCall, leftOpen, openCall, finishedCall, readCall, findCall}
+use Rattle.yovtirak.specs.Exports.{answerWord, held, changes, lentRight, left, takeCall, dropCall, leftOpen, openCall, finishedCall, readCall, findCall, addressCall}
 use Rattle.yovtirak.specs.Heads.{Place, Lent, HeadCall, GroupBytes, leftBy, begins, leaves, returns, after, asStart, asCalls, reachedBy, inWords, Fitting, Words}
 
 -- ---- words and the state that they hold
@@ -76,10 +76,10 @@ module _ (l : Lent) (s : State) (w : Words l s) (r : Written s) where
 
 -- the words of a state that did not change stay as they are
 unchanged : (answer : Answer) → changes answer ≡ false → Kept answer
-unchanged (Answer.Stored heard) e = let z : _≡_ {A = ℕ} 0 1 = cc in absurd (omega arith)
-unchanged (Answer.Complete heard) e = let z : _≡_ {A = ℕ} 0 1 = cc in absurd (omega arith)
+unchanged (Answer.Stored heard repetition) e = let z : _≡_ {A = ℕ} 0 1 = cc in absurd (omega arith)
+unchanged (Answer.Complete heard repetition) e = let z : _≡_ {A = ℕ} 0 1 = cc in absurd (omega arith)
 unchanged (Answer.Dropped number) e = let z : _≡_ {A = ℕ} 0 1 = cc in absurd (omega arith)
-unchanged (Answer.Repeat heard) e = tt
+unchanged (Answer.Repeat heard repetition) e = tt
 unchanged (Answer.Refused why) e = tt
 unchanged (Answer.Conflict heard) e = tt
 unchanged (Answer.Full heard) e = tt
@@ -115,7 +115,7 @@ module _ (l : Lent) (s : State) (w : Words l s) (r : Written s) where
 
   -- and what each call returns and tells
   words-returned : (call : HeadCall) → Fitting call → returns call l ≡ inWords call s
-  unfolding finishedCall readCall findCall
+  unfolding finishedCall readCall findCall addressCall
   words-returned (HeadCall.take group) f = ap (λ (n : ℕ). record { result = n; told = [] }) (take-words group .0)
   words-returned (HeadCall.drop number) f = ap (λ (n : ℕ). record { result = n; told = [] }) (drop-words number .0)
   words-returned (HeadCall.finished number place) f =
@@ -124,6 +124,7 @@ module _ (l : Lent) (s : State) (w : Words l s) (r : Written s) where
       rw (f, lent-right l s w r, read-back l s w r, counts-back l s w r, w .stores) refl
   words-returned (HeadCall.find name) f =
       rw (lent-right l s w r, read-back l s w r, counts-back l s w r, w .stores) refl
+  words-returned (HeadCall.address group) f = refl
 
 -- ---- any calls since an opening that returned 0
 
@@ -158,6 +159,7 @@ call-bytes (HeadCall.drop number ∷ calls) y = (tt, call-bytes calls (y .1))
 call-bytes (HeadCall.finished number place ∷ calls) y = (tt, call-bytes calls (y .1))
 call-bytes (HeadCall.read number told ∷ calls) y = (tt, call-bytes calls (y .1))
 call-bytes (HeadCall.find name ∷ calls) y = (tt, call-bytes calls (y .1))
+call-bytes (HeadCall.address group ∷ calls) y = (tt, call-bytes calls (y .1))
 
 module _ (limit slots : ℕ) (l : Lent) (bytes : OfBytes (l .stores)) (zero : begins limit slots l .result ≡ 0) where
   allowed : Allowed (asStart limit slots l)
@@ -197,6 +199,7 @@ module _ (limit slots : ℕ) (l : Lent) (bytes : OfBytes (l .stores)) (zero : be
   words-reached (HeadCall.finished number place ∷ calls) y = words-reached calls (y .1)
   words-reached (HeadCall.read number told ∷ calls) y = words-reached calls (y .1)
   words-reached (HeadCall.find name ∷ calls) y = words-reached calls (y .1)
+  words-reached (HeadCall.address group ∷ calls) y = words-reached calls (y .1)
 
   -- WHAT COMES BACK of the next call is what the collector answers there
   pub returned-reached : (calls : List HeadCall) → Each GroupBytes calls → (call : HeadCall) → Fitting call

@@ -9,11 +9,14 @@ use lib.ListN.{length}
 use Rattle.answer.specs.Table.{numberOf, returnedWith, retired}
 use Rattle.answer.specs.laws.Table.{number-byte, never-retired}
 use Rattle.answer.specs.declared.Answer.{Answer}
-use Rattle.answer.specs.declared.Answer.the-variants.{Denied}
+use Rattle.answer.specs.declared.Answer.the-variants.{Refused, Denied}
 use Rattle.answer.specs.declared.Reason.{Reason}
 use Rattle.answer.specs.declared.Reason.the-variants as Reason
 use Rattle.answer.specs.declared.Returned.{Returned}
-use Rattle.answer.specs.declared.Returned.the-variants.{Segment, Number, Nothing}
+use Rattle.answer.specs.declared.Returned.the-variants.{Sent, Segment, Number, Nothing}
+use Rattle.wire.specs.declared.Reading.{Reading}
+use Rattle.wire.specs.declared.Reading.the-variants as Reading
+use Rattle.wire.specs.Reading.{readingOf}
 use Rattle.cut.specs.Decision.{both}
 use Rattle.cut.specs.Lists.{pick}
 use Rattle.collector.specs.declared.Collector.{Collector}
@@ -29,7 +32,7 @@ use Rattle.queries.specs.declared.Sought.{Sought}
 use Rattle.queries.specs.declared.Sought.the-variants as Sought
 use Rattle.queries.specs.Questions.{parameters, find}
 use Rattle.layout.specs.Layout.{countsFrom}
-use Rattle.yovtirak.specs.Exports.{returnedWord, answerWord, Called, called, held, lentRight, left, noState, takeCall, dropCall, openingWord, leftOpen, openCall, Told, placeTold, finishedCall, fieldsTold, readCall, soughtWord, findCall}
+use Rattle.yovtirak.specs.Exports.{returnedWord, answerWord, Called, called, held, lentRight, left, noState, takeCall, dropCall, openingWord, leftOpen, openCall, Told, placeTold, finishedCall, fieldsTold, readCall, soughtWord, findCall, addressWord, addressCall}
 use Rattle.yovtirak.specs.Heads.{Lent, HeadCall, begins, returns}
 
 -- the answer's number that a result has is not the retired one
@@ -42,6 +45,7 @@ answer-never : (answer : Answer) → Never (answerWord answer)
 answer-never answer = go (returnedWith answer)
   where
     go : (returned : Returned) → Never (numberOf answer + returnedWord returned)
+    go (Sent heard repetition) e = never-retired answer (omega (arith, number-byte answer))
     go (Segment heard) e = never-retired answer (omega (arith, number-byte answer))
     go (Number number) e = never-retired answer (omega (arith, number-byte answer))
     go Nothing e = never-retired answer (omega (arith, number-byte answer))
@@ -65,6 +69,10 @@ sought-never : (sought : Sought) → Never (soughtWord sought)
 sought-never (Sought.Number number) e = omega arith
 sought-never (Sought.Denied why) e = denied-never why e
 
+address-never : (reading : Reading) → Never (addressWord reading)
+address-never (Reading.Refused why) e = never-retired (Refused why) (omega (arith, number-byte (Refused why)))
+address-never (Reading.Read carried) e = omega arith
+
 -- ---- the calls
 
 -- a result that a test decides between
@@ -86,7 +94,7 @@ opened-never limit slots l =
     (opening-never (opened .opening)) (denied-never Reason.Limits)
 
 pub returned-never : (call : HeadCall) (l : Lent) → returns call l .result % 256 ≢ retired
-unfolding takeCall dropCall left finishedCall readCall findCall
+unfolding takeCall dropCall left finishedCall readCall findCall addressCall
 returned-never call l = go call
   where
     right : Bool
@@ -117,3 +125,4 @@ returned-never call l = go call
     go (HeadCall.find name) =
         either-never (λ (n : ℕ). n) right (soughtWord (find name here)) (numberOf (Denied Reason.State))
         (sought-never (find name here)) (denied-never Reason.State)
+    go (HeadCall.address group) = address-never (readingOf group)

@@ -80,9 +80,9 @@ returns-3 c =
     (sym (at-free .free .ensures) ∙ at-i .i .given .1) in
     let alone = sym (at-fits-alone .fits-alone .ensures) ∙ not-false _ (at-if1 .if1 .left) in
     rw (alone, sym (at-free .free .ensures) ∙ at-i .i .given .1)
-    (put-as (a .self) _ (arrival (a .heard) (a .last) (a .bytes .now)) lent (at-fresh-slot .fresh-slot .result)
-    (freshSlot (a .heard .number)) (at-take-at .take-at .ensures) (at-fresh-slot .fresh-slot .ensures)
-    (o .inside .slot))
+    (put-as (a .self) _ (arrival (a .heard) (a .repetition) (a .last) (a .bytes .now)) lent
+    (at-fresh-slot .fresh-slot .result) (freshSlot (a .heard .number)) (at-take-at .take-at .ensures)
+    (at-fresh-slot .fresh-slot .ensures) (o .inside .slot))
 
 pub take-first-spec : {M : Type 1} → statement M
 take-first-spec =

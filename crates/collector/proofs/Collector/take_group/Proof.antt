@@ -78,16 +78,16 @@ part-take-segment-start c = search needs
 
 part-take-segment-end : tie.Need-part-take-segment-end
 part-take-segment-end c =
-    let at-read = c .before .before .before .before .before in
+    let at-read = c .before .before .before .before .before .before in
     let start = at-read .before .before .before .before .before .before .before .before .before .before in
     let a = start .args in
-    let carried = c .before .before .before .reading .given .0 .0 in
-    let read = sym (at-read .read .ensures) ∙ c .before .before .before .reading .given .1 in
+    let carried = c .before .before .before .before .reading .given .0 .0 in
+    let read = sym (at-read .read .ensures) ∙ c .before .before .before .before .reading .given .1 in
     let within = inside (a .group .now) _ read in omega (arith, within .ends)
 
 take-segment-requires : tie.Need-take-segment-requires
 take-segment-requires c κs =
-    let at-if1 = c .before .before .before .before .before .before .before .before .before .before in
+    let at-if1 = c .before .before .before .before .before .before .before .before .before .before .before in
     let at-is-sound = at-if1 .before in
     let start = at-is-sound .before .before .before .before .before .before .before .before in
     let a = start .args in
@@ -109,7 +109,7 @@ unfolding takeGroup takeSegment
 returns-3 c =
     let at-take-segment = c .before .before .before .before .before .before in
     let at-heard-as = at-take-segment .before .before .before .before .before in
-    let at-reading = at-heard-as .before .before .before in
+    let at-reading = at-heard-as .before .before .before .before in
     let at-read = at-reading .before .before in
     let at-if1 = at-read .before in
     let at-is-sound = at-if1 .before in

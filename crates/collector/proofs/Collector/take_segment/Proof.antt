@@ -92,8 +92,8 @@ returns-2 c =
     let found = sym (at-find .find .ensures) ∙ at-i .i .given .1 in
     let o = sound-offered (a .t1 .limit) (a .t1 .count) (a .t1 .slots) lent (start .pre) (a .heard .number) _ found in
     let i = at-i .i .given .0 .0 in
-    rw found (put-as (a .t1) i (arrival (a .heard) (a .last) (a .bytes .now)) lent (slotAt i (a .t1 .slots))
-    (slotAt i (a .t1 .slots)) (at-take-at .take-at .ensures) refl (o .inside .slot))
+    rw found (put-as (a .t1) i (arrival (a .heard) (a .repetition) (a .last) (a .bytes .now)) lent
+    (slotAt i (a .t1 .slots)) (slotAt i (a .t1 .slots)) (at-take-at .take-at .ensures) refl (o .inside .slot))
 
 pub take-segment-spec : {M : Type 1} → statement M
 take-segment-spec =
