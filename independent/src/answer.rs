@@ -1,7 +1,7 @@
 //! The answers of document 01, "What comes back": their numbers, their names and what each
 //! returns beside itself.
 
-use crate::group::Part;
+use crate::group::{Part, Repetition};
 
 /// Every answer, with document 01's number; 23 is retired (document 02, Item 14).
 #[derive(Clone, Copy, Debug, PartialEq, Eq, PartialOrd, Ord, Hash)]
@@ -83,13 +83,15 @@ impl Answer {
 }
 
 /// An answer to a group or a drop, with the transport number, part and segment number where it
-/// returns them.
+/// returns them, and what the sender says of repeats where it passes that up.
 #[derive(Clone, Copy, Debug, PartialEq, Eq)]
 pub struct Reply {
     pub answer: Answer,
     pub transport: Option<u16>,
     pub part: Option<Part>,
     pub segment: Option<u16>,
+    /// With STORED, COMPLETE and REPEAT alone.
+    pub repetition: Option<Repetition>,
 }
 
 impl Reply {
@@ -100,6 +102,7 @@ impl Reply {
             transport: None,
             part: None,
             segment: None,
+            repetition: None,
         }
     }
 
@@ -111,13 +114,20 @@ impl Reply {
         }
     }
 
-    /// An answer about one segment.
+    /// An answer about one segment, without what its sender says of repeats: CONFLICT or FULL.
     pub fn of_segment(answer: Answer, transport: u16, part: Part, segment: u16) -> Reply {
         Reply {
-            answer,
-            transport: Some(transport),
             part: Some(part),
             segment: Some(segment),
+            ..Reply::of_number(answer, transport)
+        }
+    }
+
+    /// The same answer with what the sender of the group says of repeats.
+    pub fn with(self, repetition: Repetition) -> Reply {
+        Reply {
+            repetition: Some(repetition),
+            ..self
         }
     }
 }

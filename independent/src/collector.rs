@@ -261,7 +261,12 @@ impl Collector {
                     bytes: segment.bytes(group).to_vec(),
                 };
                 let answer = self.gather(segment.transport, segment.part, piece);
-                Reply::of_segment(answer, segment.transport, segment.part, segment.number)
+                let reply =
+                    Reply::of_segment(answer, segment.transport, segment.part, segment.number);
+                match answer {
+                    Answer::Conflict | Answer::Full => reply,
+                    _ => reply.with(segment.repetition),
+                }
             }
         };
         self.counts.count(reply.answer);
@@ -407,7 +412,7 @@ impl Collector {
 #[cfg(test)]
 mod tests {
     use super::*;
-    use crate::group::Fields;
+    use crate::group::{Fields, Repetition};
 
     const LIMIT: usize = 12_288;
 
@@ -485,7 +490,7 @@ mod tests {
         let header = [0x00, 0x00, 0x00, 0x00, 0x03, 0x84, 0x01];
         assert_eq!(
             collector.take(&header_group(9, 0, true, &header)),
-            Reply::of_segment(Answer::Complete, 9, Part::Header, 0)
+            Reply::of_segment(Answer::Complete, 9, Part::Header, 0).with(Repetition::default())
         );
         assert_eq!(collector.show(9, Part::Header), Ok(&header[..]));
         assert_eq!(collector.show(9, Part::Body), Ok(&[][..]));
@@ -632,14 +637,14 @@ mod tests {
         let before = collector.memory.clone();
         assert_eq!(
             collector.take(&first),
-            Reply::of_segment(Answer::Repeat, 1, Part::Body, 0)
+            Reply::of_segment(Answer::Repeat, 1, Part::Body, 0).with(Repetition::default())
         );
         assert_eq!(collector.memory, before);
         answer(&mut collector, &second);
         assert_eq!(answer(&mut collector, &says(1, 20)), Answer::Complete);
         // Under a finished object too; and ignored fields don't make a difference.
         let mut fields = Fields::of_segment(1, Part::Body, 1, true, &[6; 4]);
-        fields.continuity = 3;
+        fields.repetition.continuity = 3;
         fields.extension = Some([1, 1]);
         assert_eq!(answer(&mut collector, &fields.whole()), Answer::Repeat);
         // The same number with another flag or other bytes is none.
@@ -648,6 +653,89 @@ mod tests {
         let bytes = body_group(1, 1, true, &[7; 4]);
         assert_eq!(answer(&mut collector, &bytes), Answer::Conflict);
         assert_eq!(collector.counts.in_order(), [3, 2, 2, 1, 0]);
+    }
+
+    /// Document 02, Item 6: what the sender says of repeats makes no other segment, and each answer
+    /// has what its own group says.
+    #[test]
+    fn the_same_segment_sent_otherwise() {
+        let mut collector = opened(1);
+        let said = |index, continuity, count| Repetition {
+            index,
+            continuity,
+            count,
+        };
+        let group = |repetition, address: &[u8]| {
+            let mut fields = Fields::of_segment(1, Part::Body, 0, false, &[5; 16]);
+            fields.repetition = repetition;
+            let access = fields.user_access.as_mut().unwrap();
+            access.indicator = 2 + address.len() as u8;
+            access.address = address.to_vec();
+            fields.whole()
+        };
+        let reply =
+            |answer, repetition| Reply::of_segment(answer, 1, Part::Body, 0).with(repetition);
+        let first = said(2, 7, 5);
+        assert_eq!(
+            collector.take(&group(first, &[1, 2])),
+            reply(Answer::Stored, first)
+        );
+        let before = collector.memory.clone();
+        for (repetition, address) in [
+            (first, &[1, 2][..]),
+            (said(1, 7, 5), &[1, 2]),
+            (said(2, 8, 5), &[1, 2]),
+            (said(2, 7, 4), &[1, 2]),
+            (first, &[1, 3]),
+            (first, &[1]),
+            (first, &[]),
+            (said(15, 0, 7), &[9; 13]),
+        ] {
+            assert_eq!(
+                collector.take(&group(repetition, address)),
+                reply(Answer::Repeat, repetition)
+            );
+            assert_eq!(collector.memory, before);
+        }
+        assert_eq!(collector.counts.in_order(), [1, 8, 0, 0, 0]);
+    }
+
+    /// Document 02, Item 6: STORED, COMPLETE and REPEAT pass the three numbers up, and no other
+    /// answer does.
+    #[test]
+    fn answers_with_the_three_numbers_and_without() {
+        let mut collector = opened(1);
+        let repetition = Repetition {
+            index: 3,
+            continuity: 11,
+            count: 6,
+        };
+        let group = |transport, part, number, bytes: &[u8]| {
+            let mut fields = Fields::of_segment(transport, part, number, true, bytes);
+            fields.repetition = repetition;
+            fields.whole()
+        };
+        let body = group(1, Part::Body, 0, b"a");
+        let with = |answer, part| Reply::of_segment(answer, 1, part, 0).with(repetition);
+        assert_eq!(collector.take(&body), with(Answer::Stored, Part::Body));
+        let header = group(1, Part::Header, 0, &core(7, 1));
+        assert_eq!(
+            collector.take(&header),
+            with(Answer::Complete, Part::Header)
+        );
+        assert_eq!(collector.take(&body), with(Answer::Repeat, Part::Body));
+
+        let conflict = collector.take(&group(1, Part::Body, 0, b"b"));
+        let without = Reply::of_segment(Answer::Conflict, 1, Part::Body, 0);
+        assert_eq!(conflict, without);
+        assert_eq!(conflict.repetition, None);
+        let full = collector.take(&group(2, Part::Body, 4, b"b"));
+        assert_eq!(full, Reply::of_segment(Answer::Full, 2, Part::Body, 4));
+        assert_eq!(full.repetition, None);
+        let mut spoilt = body.clone();
+        spoilt[1] ^= 1;
+        assert_eq!(collector.take(&spoilt), Reply::bare(Answer::BadCheck));
+        assert_eq!(collector.drop_number(1).repetition, None);
     }
 
     #[test]

@@ -1,5 +1,6 @@
-//! One group off the wire: read into a segment or refused, in the order of document 01; and built
-//! from fields, every ignored one among them, for those who need groups to hand in.
+//! One group off the wire: read into a segment and what its sender says of repeating it, or refused,
+//! in the order of document 01; and built from fields, every ignored one among them, for those who
+//! need groups to hand in.
 
 use crate::answer::Answer;
 use crate::check_word;
@@ -19,8 +20,20 @@ pub enum Part {
     Body,
 }
 
+/// What the sender says of sending a group again (document 02, Item 6). It makes no other segment.
+#[derive(Clone, Copy, Debug, Default, PartialEq, Eq, PartialOrd, Ord, Hash)]
+pub struct Repetition {
+    /// The repetition index, 4 bits.
+    pub index: u8,
+    /// The continuity index, 4 bits.
+    pub continuity: u8,
+    /// The repetition count, 3 bits.
+    pub count: u8,
+}
+
 /// What a group that passes the reading checks carries. Its bytes are
-/// `group[start..start + length]`.
+/// `group[start..start + length]`, and those of its end user address
+/// `group[address_start..address_start + address_length]`.
 #[derive(Clone, Copy, Debug, PartialEq, Eq)]
 pub struct Segment {
     pub transport: u16,
@@ -29,12 +42,21 @@ pub struct Segment {
     pub last: bool,
     pub start: usize,
     pub length: usize,
+    pub repetition: Repetition,
+    /// Right after the transport number, where there is no address too.
+    pub address_start: usize,
+    pub address_length: usize,
 }
 
 impl Segment {
     /// The segment's bytes, in the group that it was read from.
     pub fn bytes<'group>(&self, group: &'group [u8]) -> &'group [u8] {
         &group[self.start..self.start + self.length]
+    }
+
+    /// The end user address, in the group that it was read from.
+    pub fn address<'group>(&self, group: &'group [u8]) -> &'group [u8] {
+        &group[self.address_start..self.address_start + self.address_length]
     }
 }
 
@@ -130,6 +152,11 @@ pub fn read(group: &[u8]) -> Reading {
     let last = fields[segment_field] & 0x80 != 0;
     let number = two_bytes(fields, segment_field) & 0x7FFF;
     let size = usize::from(two_bytes(fields, segmentation_header) & 0x1FFF);
+    let repetition = Repetition {
+        index: fields[1] & 0x0F,
+        continuity: fields[1] >> 4,
+        count: fields[segmentation_header] >> 5,
+    };
     let may_be_empty = part == Part::Body && last && number == 0;
     if size != fields.len() - start
         || size > LONGEST_SEGMENT
@@ -145,6 +172,9 @@ pub fn read(group: &[u8]) -> Reading {
         last,
         start,
         length: size,
+        repetition,
+        address_start: user_access + 3,
+        address_length: indicator - 2,
     })
 }
 
@@ -155,12 +185,10 @@ pub struct Fields {
     pub check_flag: bool,
     /// The 4-bit type.
     pub kind: u8,
-    pub continuity: u8,
-    pub repetition: u8,
+    /// Two indices that follow the type, and the count of the segmentation header.
+    pub repetition: Repetition,
     pub segment: Option<SegmentField>,
     pub user_access: Option<UserAccess>,
-    /// The repetition count of the segmentation header, 3 bits.
-    pub repetition_count: u8,
     /// The size field of the segmentation header, 13 bits.
     pub size: u16,
     pub bytes: Vec<u8>,
@@ -185,7 +213,7 @@ pub struct UserAccess {
 }
 
 impl Fields {
-    /// The fields that a segment needs, with every ignored field 0 or absent.
+    /// The fields that a segment needs, with every other field 0 or absent.
     pub fn of_segment(transport: u16, part: Part, number: u16, last: bool, bytes: &[u8]) -> Fields {
         Fields {
             extension: None,
@@ -194,8 +222,7 @@ impl Fields {
                 Part::Header => 3,
                 Part::Body => 4,
             },
-            continuity: 0,
-            repetition: 0,
+            repetition: Repetition::default(),
             segment: Some(SegmentField { last, number }),
             user_access: Some(UserAccess {
                 spare: 0,
@@ -204,7 +231,6 @@ impl Fields {
                 transport,
                 address: Vec::new(),
             }),
-            repetition_count: 0,
             size: bytes.len() as u16,
             bytes: bytes.to_vec(),
         }
@@ -218,7 +244,7 @@ impl Fields {
             | u8::from(self.user_access.is_some()) << 4;
         let mut group = vec![
             flags | (self.kind & 0x0F),
-            (self.continuity & 0x0F) << 4 | (self.repetition & 0x0F),
+            (self.repetition.continuity & 0x0F) << 4 | (self.repetition.index & 0x0F),
         ];
         if let Some(extension) = self.extension {
             group.extend(extension);
@@ -236,7 +262,7 @@ impl Fields {
             group.extend(access.transport.to_be_bytes());
             group.extend(&access.address);
         }
-        let word = u16::from(self.repetition_count & 0x07) << 13 | (self.size & 0x1FFF);
+        let word = u16::from(self.repetition.count & 0x07) << 13 | (self.size & 0x1FFF);
         group.extend(word.to_be_bytes());
         group.extend(&self.bytes);
         group
@@ -294,10 +320,18 @@ mod tests {
                 number: 1,
                 last: true,
                 start: 9,
-                length: 4
+                length: 4,
+                repetition: Repetition {
+                    index: 0,
+                    continuity: 0,
+                    count: 0
+                },
+                address_start: 7,
+                address_length: 0
             }
         );
         assert_eq!(segment.bytes(&group), b"tuvw");
+        assert_eq!(segment.address(&group), b"");
         assert_eq!(read(&checked(&[0x75, 0])), Err(Refusal::Kind));
         assert_eq!(read(&[0]), Err(Refusal::Length));
     }
@@ -332,6 +366,76 @@ mod tests {
             (0xFFFF, 0x7FFF, false)
         );
         assert_eq!((segment.start, segment.length), (24, 8_189));
+        assert_eq!((segment.address_start, segment.address_length), (9, 13));
+    }
+
+    /// Document 02, Item 6: byte 1 has the continuity index and then the repetition index, and the
+    /// segmentation header the repetition count in its first three bits.
+    #[test]
+    fn two_indices_and_a_count() {
+        let read_of = |second: u8, segmentation: u8| {
+            let group = checked(&[0x74, second, 0x80, 1, 0x12, 0, 5, segmentation, 1, 0x61]);
+            read(&group).unwrap().repetition
+        };
+        let said = |index, continuity, count| Repetition {
+            index,
+            continuity,
+            count,
+        };
+        assert_eq!(read_of(0x00, 0x00), said(0, 0, 0));
+        assert_eq!(read_of(0x3A, 0x00), said(10, 3, 0));
+        assert_eq!(read_of(0xF0, 0x00), said(0, 15, 0));
+        assert_eq!(read_of(0x0F, 0x00), said(15, 0, 0));
+        for count in 0..8 {
+            assert_eq!(read_of(0x81, count << 5), said(1, 8, count));
+        }
+        // The fourth bit is the size's, as are all of the next byte.
+        let mut full = vec![0x74, 0, 0, 0, 0x12, 0, 5, 0xFF, 0xFD];
+        full.resize(9 + 8_189, 0);
+        let segment = read(&checked(&full)).unwrap();
+        assert_eq!((segment.repetition.count, segment.length), (7, 8_189));
+    }
+
+    /// Document 02, Item 6: the address is what the length indicator counts past the transport
+    /// number, and the extension field moves it by two.
+    #[test]
+    fn addresses_in_their_places() {
+        let plain = checked(&[0x74, 0, 0x80, 0, 0x15, 0, 5, 0xA1, 0xB2, 0xC3, 0, 1, 0x61]);
+        let segment = read(&plain).unwrap();
+        assert_eq!((segment.address_start, segment.address_length), (7, 3));
+        assert_eq!(segment.address(&plain), [0xA1, 0xB2, 0xC3]);
+        assert_eq!((segment.transport, segment.bytes(&plain)), (5, &b"a"[..]));
+
+        let extended = checked(&[0xF4, 0, 9, 9, 0x80, 0, 0x13, 0, 5, 0xA1, 0, 1, 0x61]);
+        let segment = read(&extended).unwrap();
+        assert_eq!((segment.address_start, segment.address_length), (9, 1));
+        assert_eq!(segment.address(&extended), [0xA1]);
+        assert_eq!(
+            (segment.transport, segment.bytes(&extended)),
+            (5, &b"a"[..])
+        );
+
+        let none = checked(&[0xF4, 0, 9, 9, 0x80, 0, 0x12, 0, 5, 0, 1, 0x61]);
+        let segment = read(&none).unwrap();
+        assert_eq!((segment.address_start, segment.address_length), (9, 0));
+        assert_eq!(segment.address(&none), []);
+    }
+
+    /// Every length of an address, its spare bits never counting.
+    #[test]
+    fn addresses_of_every_length() {
+        for length in 0..=13 {
+            let mut fields = body_fields();
+            let access = fields.user_access.as_mut().unwrap();
+            access.spare = length as u8 & 7;
+            access.indicator = 2 + length as u8;
+            access.address = vec![0xEE; length];
+            let group = fields.whole();
+            let segment = read(&group).unwrap();
+            assert_eq!((segment.address_start, segment.address_length), (7, length));
+            assert_eq!(segment.address(&group), vec![0xEE; length]);
+            assert_eq!((segment.start, segment.length), (9 + length, 16));
+        }
     }
 
     #[test]
@@ -454,14 +558,16 @@ mod tests {
     }
 
     #[test]
-    fn ignored_fields_change_nothing_but_the_start() {
+    fn other_fields_change_nothing_of_the_segment_but_its_start() {
         let plain = Fields::of_segment(0xABCD, Part::Header, 9, true, b"xyz");
         let expected = read(&plain.whole()).unwrap();
         let mut busy = plain.clone();
         busy.extension = Some([0xDE, 0xAD]);
-        busy.continuity = 15;
-        busy.repetition = 9;
-        busy.repetition_count = 7;
+        busy.repetition = Repetition {
+            index: 9,
+            continuity: 15,
+            count: 7,
+        };
         let access = busy.user_access.as_mut().unwrap();
         access.spare = 7;
         access.indicator = 5;
@@ -469,9 +575,14 @@ mod tests {
         let group = busy.whole();
         let segment = read(&group).unwrap();
         assert_eq!(segment.bytes(&group), b"xyz");
+        assert_eq!(segment.address(&group), [1, 2, 3]);
+        assert_eq!(segment.repetition, busy.repetition);
         assert_eq!(
             Segment {
                 start: expected.start,
+                repetition: expected.repetition,
+                address_start: expected.address_start,
+                address_length: expected.address_length,
                 ..segment
             },
             expected

@@ -98,7 +98,7 @@ fn next_line(input: &mut impl BufRead, line: &mut Vec<u8>) -> io::Result<bool> {
 /// What is printed after the line's number; LINE has no reply of the collector's.
 fn shown(reply: Option<Reply>) -> String {
     let Some(reply) = reply else {
-        return "LINE - - -".to_string();
+        return "LINE - - - - - -".to_string();
     };
     let dash = || "-".to_string();
     let transport = reply
@@ -109,7 +109,11 @@ fn shown(reply: Option<Reply>) -> String {
         Part::Body => "B",
     });
     let segment = reply.segment.map_or_else(dash, |number| number.to_string());
-    format!("{} {transport} {part} {segment}", reply.answer.name())
+    let repetition = reply.repetition.map_or("- - -".to_string(), |said| {
+        format!("{} {} {}", said.index, said.continuity, said.count)
+    });
+    let answer = reply.answer.name();
+    format!("{answer} {transport} {part} {segment} {repetition}")
 }
 
 /// Runs the program. Each answer is out before the next line is read.
@@ -165,14 +169,14 @@ mod tests {
 
     #[test]
     fn the_last_line_needs_no_newline_and_a_final_one_starts_no_line() {
-        let one = "1 LENGTH - - -\nT 0 0 1 0 0\n";
+        let one = "1 LENGTH - - - - - -\nT 0 0 1 0 0\n";
         assert_eq!(output_for(b"G\t00"), one);
         assert_eq!(output_for(b"G\t00\n"), one);
         assert_eq!(
             output_for(b"G\t00\n\n"),
-            "1 LENGTH - - -\n2 LINE - - -\nT 0 0 1 0 0\n"
+            "1 LENGTH - - - - - -\n2 LINE - - - - - -\nT 0 0 1 0 0\n"
         );
-        assert_eq!(output_for(b"\n"), "1 LINE - - -\nT 0 0 0 0 0\n");
+        assert_eq!(output_for(b"\n"), "1 LINE - - - - - -\nT 0 0 0 0 0\n");
     }
 
     #[test]
@@ -215,10 +219,42 @@ mod tests {
     }
 
     #[test]
-    fn three_dashes() {
+    fn six_dashes() {
         assert_eq!(
             output_for(b"D\tbeef\nx\n"),
-            "1 NOTHELD - - -\n2 LINE - - -\nT 0 0 0 0 0\n"
+            "1 NOTHELD - - - - - -\n2 LINE - - - - - -\nT 0 0 0 0 0\n"
+        );
+    }
+
+    /// Document 02, Item 6: repetition index, continuity index and repetition count, decimal, with
+    /// the three answers that pass them up. The repeat has an end user address, the stored one none.
+    #[test]
+    fn the_three_numbers() {
+        let input = b"\
+B\t743a800012000520016f
+B\t742f800013000577e0016f
+B\t742f800013000577e00170
+B
+B\t73f08000120005a00700000010038000
+B\t742f800013000677e00170
+B\t742f800013000777e00170
+D\t0005
+B\t7a2f
+";
+        assert_eq!(
+            output_for(input),
+            "\
+1 STORED 0005 B 0 10 3 1
+2 REPEAT 0005 B 0 15 2 7
+3 CONFLICT 0005 B 0 - - -
+4 LINE - - - - - -
+5 COMPLETE 0005 H 0 0 15 5
+6 STORED 0006 B 0 15 2 7
+7 FULL 0007 B 0 - - -
+8 DROPPED 0005 - - - - -
+9 KIND - - - - - -
+T 3 1 3 1 1
+"
         );
     }
 
@@ -232,7 +268,7 @@ mod tests {
         access.address = vec![0; 13];
         let line = hex('G', &fields.whole());
         assert_eq!(line.len(), 16_432);
-        assert_eq!(output_for(&line), "1 STORED abcd B 0\nT 1 0 0 0 0\n");
+        assert_eq!(output_for(&line), "1 STORED abcd B 0 0 0 0\nT 1 0 0 0 0\n");
 
         assert_eq!(answer(&hex('B', &vec![0x40; 8_215])), "LENGTH");
         for length in [16_433, 16_434, 100_000] {
@@ -241,7 +277,7 @@ mod tests {
             long.extend(b"\nG\t00");
             assert_eq!(
                 output_for(&long),
-                "1 LINE - - -\n2 LENGTH - - -\nT 0 0 1 0 0\n"
+                "1 LINE - - - - - -\n2 LENGTH - - - - - -\nT 0 0 1 0 0\n"
             );
         }
     }
@@ -271,8 +307,8 @@ mod tests {
         ];
         assert_eq!(
             output_for(&lines.join(&b'\n')),
-            "1 STORED 0001 B 767\n2 CONFLICT 0002 B 767\n3 STORED 0002 B 0\n\
-             4 FULL 0003 B 0\nT 2 0 2 0 0\n"
+            "1 STORED 0001 B 767 0 0 0\n2 CONFLICT 0002 B 767 - - -\n3 STORED 0002 B 0 0 0 0\n\
+             4 FULL 0003 B 0 - - -\nT 2 0 2 0 0\n"
         );
     }
 }

@@ -1,10 +1,11 @@
 //! The collector held to what document 01 says of whole histories: what is stored under a number
 //! is read off the answers alone, and every answer, count and shown byte is worked out from that,
-//! a conflict by trying every object and cut.
+//! a conflict by trying every object and cut. What the sender says of repeats comes with the answers
+//! that pass it up, as the bytes of the group have it (document 02, Item 6).
 
 use independent::answer::Answer;
 use independent::collector::{Collector, Memory};
-use independent::group::{self, Part};
+use independent::group::{self, Part, Repetition};
 use independent::object::{fits_by_trying_all, Core, Piece};
 use independent::random::histories::{calls, Call};
 use independent::random::Random;
@@ -92,6 +93,20 @@ fn expected(held: &mut BTreeMap<u16, Stored>, slots: usize, group: &[u8]) -> Ans
     answer
 }
 
+/// The three numbers that this answer to a group must pass up: byte 1, and the first of the two bytes
+/// before the segment.
+fn passed_up(answer: Answer, group: &[u8]) -> Option<Repetition> {
+    if !matches!(answer, Answer::Stored | Answer::Complete | Answer::Repeat) {
+        return None;
+    }
+    let segment = group::read(group).expect("a group that is taken reads");
+    Some(Repetition {
+        index: group[1] % 16,
+        continuity: group[1] / 16,
+        count: group[segment.start - 2] / 32,
+    })
+}
+
 fn count(answers: &[Answer], of: &[Answer]) -> u32 {
     answers.iter().filter(|answer| of.contains(answer)).count() as u32
 }
@@ -106,7 +121,9 @@ fn follow(seed: u64, slots: usize, length: usize) -> usize {
         match call {
             Call::Take(group) => {
                 let right = expected(&mut held, slots, &group);
-                assert_eq!(collector.take(&group).answer, right);
+                let reply = collector.take(&group);
+                assert_eq!(reply.answer, right);
+                assert_eq!(reply.repetition, passed_up(right, &group));
                 answers.push(right);
             }
             Call::Drop(transport) => {

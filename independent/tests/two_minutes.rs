@@ -1,4 +1,5 @@
-//! The listing program itself on document 01's example, byte for byte.
+//! The listing program itself on document 01's example, byte for byte, with the three numbers of
+//! document 02, Item 6, which are 0 in its groups.
 
 use std::io::Write;
 use std::process::{Command, Stdio};
@@ -14,13 +15,13 @@ D\t0005
 ";
 
 const OUTPUT: &str = "\
-1 STORED 0005 B 1
-2 STORED 0005 H 0
-3 COMPLETE 0005 B 0
-4 REPEAT 0005 B 1
-5 KIND - - -
-6 LENGTH - - -
-7 DROPPED 0005 - -
+1 STORED 0005 B 1 0 0 0
+2 STORED 0005 H 0 0 0 0
+3 COMPLETE 0005 B 0 0 0 0
+4 REPEAT 0005 B 1 0 0 0
+5 KIND - - - - - -
+6 LENGTH - - - - - -
+7 DROPPED 0005 - - - - -
 T 3 1 2 1 1
 ";
 

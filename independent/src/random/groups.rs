@@ -1,9 +1,12 @@
 //! Groups to compare two readers on: valid, cut short, with bits turned over, of random bytes,
 //! with one field wrong, of every length, without bytes where they may be and where they may not,
-//! the ignored fields random throughout.
+//! all that is no part of the segment random throughout.
 
 use super::Random;
-use crate::group::{with_check, Fields, Part, SegmentField, LONGEST_SEGMENT};
+use crate::group::{with_check, Fields, Part, Repetition, SegmentField, LONGEST_SEGMENT};
+
+/// Bytes of the longest end user address.
+const LONGEST_ADDRESS: usize = 13;
 
 /// The lengths that are covered whatever the count: some bytes past the longest group too.
 pub const LONGEST_COVERED: usize = 8_220;
@@ -40,11 +43,11 @@ pub fn any_group(random: &mut Random) -> Vec<u8> {
     }
 }
 
-/// A segment's fields that pass the reading checks, everything ignored random.
+/// A segment's fields that pass the reading checks, everything around it random.
 pub fn valid(random: &mut Random) -> Fields {
     if random.once_in(12) {
         let empty = Fields::of_segment(random.word() as u16, Part::Body, 0, true, &[]);
-        return with_ignored_fields(random, empty);
+        return sent_anyhow(random, empty);
     }
     let last = random.coin();
     let least = if last { 1 } else { 16 };
@@ -59,26 +62,72 @@ pub fn valid(random: &mut Random) -> Fields {
     let part = random.one_of(&[Part::Header, Part::Body]);
     let transport = random.word() as u16;
     let number = random.word() as u16 & 0x7FFF;
-    with_ignored_fields(
+    sent_anyhow(
         random,
         Fields::of_segment(transport, part, number, last, &bytes),
     )
 }
 
-/// The same segment with random ignored fields: indices, extension, spare bits, repetition count
-/// and end user address.
-pub fn with_ignored_fields(random: &mut Random, mut fields: Fields) -> Fields {
-    fields.continuity = random.byte() & 0x0F;
-    fields.repetition = random.byte() & 0x0F;
-    fields.repetition_count = random.byte() & 0x07;
+/// The same segment with all that is no part of it random: indices, extension, spare bits,
+/// repetition count and end user address.
+pub fn sent_anyhow(random: &mut Random, mut fields: Fields) -> Fields {
+    fields.repetition = Repetition {
+        index: random.byte() & 0x0F,
+        continuity: random.byte() & 0x0F,
+        count: random.byte() & 0x07,
+    };
     fields.extension = random.coin().then(|| [random.byte(), random.byte()]);
     if let Some(access) = fields.user_access.as_mut() {
         access.spare = random.byte() & 0x07;
-        let length = random.one_of(&[0, 0, 1, 4, 12, 13]);
+    }
+    let length = any_address_length(random);
+    with_address(random, &mut fields, length);
+    fields
+}
+
+/// The same segment sent again: just so, a time less to go, with one thing changed that is no part
+/// of it, or with all of these random.
+pub fn sent_again(random: &mut Random, mut fields: Fields) -> Fields {
+    let said = &mut fields.repetition;
+    match random.within(0, 9) {
+        0 | 1 => (),
+        2 => said.index = said.index.wrapping_sub(1) & 0x0F,
+        3 => said.continuity = (said.continuity + 1) & 0x0F,
+        4 => said.count = said.count.wrapping_sub(1) & 0x07,
+        5 => {
+            said.index = random.byte() & 0x0F;
+            said.continuity = random.byte() & 0x0F;
+            said.count = random.byte() & 0x07;
+        }
+        6 => {
+            let access = fields.user_access.as_ref();
+            let length = access.map_or(0, |access| access.address.len());
+            with_address(random, &mut fields, length);
+        }
+        7 => {
+            let length = any_address_length(random);
+            with_address(random, &mut fields, length);
+        }
+        8 => fields.extension = random.coin().then(|| [random.byte(), random.byte()]),
+        _ => return sent_anyhow(random, fields),
+    }
+    fields
+}
+
+fn any_address_length(random: &mut Random) -> usize {
+    if random.once_in(4) {
+        0
+    } else {
+        random.within(1, LONGEST_ADDRESS)
+    }
+}
+
+/// Puts an end user address of so many bytes in, and the length indicator that goes with it.
+fn with_address(random: &mut Random, fields: &mut Fields, length: usize) {
+    if let Some(access) = fields.user_access.as_mut() {
         access.address = random.bytes(length);
         access.indicator = 2 + length as u8;
     }
-    fields
 }
 
 /// A group of exactly this length, as right as the length allows: where a segment has room it is
@@ -139,7 +188,7 @@ fn nearly_empty(random: &mut Random) -> Fields {
     let transport = random.word() as u16;
     let mut fields = Fields::of_segment(transport, part, number, last, &random.bytes(left));
     fields.size = random.one_of(&[0, 0, 0, 1]);
-    with_ignored_fields(random, fields)
+    sent_anyhow(random, fields)
 }
 
 /// A group with one field wrong or at its bound and a right check word.
@@ -215,10 +264,63 @@ mod tests {
             let group = fields.whole();
             let segment = read(&group).unwrap();
             assert_eq!(segment.bytes(&group), fields.bytes);
+            assert_eq!(segment.repetition, fields.repetition);
+            let access = fields.user_access.unwrap();
+            assert_eq!(segment.transport, access.transport);
+            assert_eq!(segment.address(&group), access.address);
+        }
+    }
+
+    /// Each index and count, and each length of an address with an extension field and without.
+    #[test]
+    fn every_index_count_and_address_comes_up() {
+        let mut random = Random::from_seed(4);
+        let mut seen: HashMap<(&str, usize), usize> = HashMap::new();
+        for _ in 0..4_000 {
+            let segment = read(&valid(&mut random).whole()).unwrap();
+            let extended = if segment.address_start == 9 {
+                "address after an extension field"
+            } else {
+                "address"
+            };
+            for said in [
+                ("repetition index", usize::from(segment.repetition.index)),
+                (
+                    "continuity index",
+                    usize::from(segment.repetition.continuity),
+                ),
+                ("repetition count", usize::from(segment.repetition.count)),
+                (extended, segment.address_length),
+            ] {
+                *seen.entry(said).or_default() += 1;
+            }
+        }
+        assert_eq!(seen.len(), 16 + 16 + 8 + 14 + 14);
+        assert!(seen.values().all(|&times| times > 50), "{seen:?}");
+    }
+
+    /// What is sent again is the same segment, now and then in the same group.
+    #[test]
+    fn the_same_segment_is_sent_again() {
+        let mut random = Random::from_seed(5);
+        let mut just_so = 0;
+        for _ in 0..1_000 {
+            let fields = valid(&mut random);
+            let again = sent_again(&mut random, fields.clone());
+            just_so += usize::from(again == fields);
+            let (group, other) = (fields.whole(), again.whole());
+            let (segment, same) = (read(&group).unwrap(), read(&other).unwrap());
+            assert_eq!(same.bytes(&other), segment.bytes(&group));
             assert_eq!(
-                Some(segment.transport),
-                fields.user_access.map(|access| access.transport)
+                (same.transport, same.part, same.number, same.last),
+                (
+                    segment.transport,
+                    segment.part,
+                    segment.number,
+                    segment.last
+                )
             );
         }
+        assert!((100..500).contains(&just_so), "{just_so}");
     }
 }

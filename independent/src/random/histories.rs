@@ -1,13 +1,18 @@
 //! Histories of calls, and of listing lines, to compare two collectors on. Objects are cut and
 //! sent, several numbers at a time and more of them than there are slots; segments come shuffled
-//! and repeated, spoilt in every field, or never; the empty segment comes with bodies without
-//! bytes and at any time beside others; numbers are dropped and sent anew; and between them come
-//! damaged groups, questions and malformed lines.
+//! and repeated, with other indices, counts and end user addresses than before or the same ones,
+//! spoilt in every field, or never; the empty segment comes with bodies without bytes and at any
+//! time beside others; numbers are dropped and sent anew; and between them come damaged groups,
+//! questions and malformed lines.
 
 use super::{groups, headers, segments, Random};
 use crate::group::{Fields, Part};
 use crate::listing::{LIMIT, LONGEST_LINE, SLOTS};
 use crate::object::{cut, Core, Piece, BODY_SEGMENTS, CORE_LENGTH};
+
+/// The types of a header segment and of a body segment.
+const HEADER_KIND: u8 = 3;
+const BODY_KIND: u8 = 4;
 
 /// One call of a collector that is open.
 #[derive(Clone, Debug, PartialEq, Eq)]
@@ -23,7 +28,7 @@ pub enum Call {
 struct Station {
     transport: u16,
     /// All that one round of the carousel sends, and how far it has come.
-    segments: Vec<(Part, Piece)>,
+    segments: Vec<Fields>,
     sent: usize,
 }
 
@@ -45,6 +50,10 @@ impl Station {
         if !random.once_in(4) {
             random.shuffle(&mut segments);
         }
+        let segments = segments
+            .into_iter()
+            .map(|segment| fields_of(random, transport, segment))
+            .collect();
         Station {
             transport,
             segments,
@@ -53,16 +62,16 @@ impl Station {
     }
 
     /// The next segment of the round, if there is one.
-    fn next(&mut self) -> Option<(Part, Piece)> {
+    fn next(&mut self) -> Option<Fields> {
         let segment = self.segments.get(self.sent)?.clone();
         self.sent += 1;
         Some(segment)
     }
 
     /// Any segment that was sent already.
-    fn again(&self, random: &mut Random) -> Option<(Part, Piece)> {
+    fn again(&self, random: &mut Random) -> Option<Fields> {
         let place = random.within(0, self.sent.checked_sub(1)?);
-        Some(self.segments[place].clone())
+        Some(groups::sent_again(random, self.segments[place].clone()))
     }
 
     /// After a whole round the carousel goes round again, or the number is dropped for the next
@@ -72,6 +81,9 @@ impl Station {
             *self = Station::new(random, self.transport, limit);
             Call::Drop(self.transport)
         } else {
+            for segment in &mut self.segments {
+                *segment = groups::sent_again(random, segment.clone());
+            }
             self.sent = 0;
             Call::Find(headers::name(random))
         }
@@ -139,39 +151,38 @@ fn cut_size(random: &mut Random, length: usize, segments: usize) -> usize {
 }
 
 /// The same segment with one thing about it changed.
-fn spoilt(random: &mut Random, (mut part, mut piece): (Part, Piece)) -> (Part, Piece) {
+fn spoilt(random: &mut Random, mut fields: Fields) -> Fields {
+    let field = fields.segment.as_mut().expect("a segment has its field");
+    let bytes = &mut fields.bytes;
     match random.within(0, 8) {
-        0 => piece.number = (piece.number + 1) & 0x7FFF,
-        1 => piece.number = piece.number.saturating_sub(1),
-        2 => piece.number = random.one_of(&[63, 64, 1_023, 1_024, 32_767]),
-        3 if piece.bytes.is_empty() || piece.bytes.len() >= 16 => piece.last = !piece.last,
-        4 if piece.bytes.len() < 8_189 => piece.bytes.push(0),
-        5 if piece.bytes.len() > 16 => {
-            piece.bytes.pop();
+        0 => field.number = (field.number + 1) & 0x7FFF,
+        1 => field.number = field.number.saturating_sub(1),
+        2 => field.number = random.one_of(&[63, 64, 1_023, 1_024, 32_767]),
+        3 if bytes.is_empty() || bytes.len() >= 16 => field.last = !field.last,
+        4 if bytes.len() < 8_189 => bytes.push(0),
+        5 if bytes.len() > 16 => {
+            bytes.pop();
         }
-        6 => {
-            part = match part {
-                Part::Header => Part::Body,
-                Part::Body => Part::Header,
-            };
-        }
-        _ if piece.bytes.is_empty() => piece.bytes.push(random.byte()),
-        7 if part == Part::Header => piece.bytes[0] ^= 1 << random.within(0, 7),
+        // The other part's type.
+        6 => fields.kind ^= HEADER_KIND ^ BODY_KIND,
+        _ if bytes.is_empty() => bytes.push(random.byte()),
+        7 if fields.kind == HEADER_KIND => bytes[0] ^= 1 << random.within(0, 7),
         _ => {
-            let place = random.within(0, piece.bytes.len() - 1);
-            piece.bytes[place] ^= 1 << random.within(0, 7);
+            let place = random.within(0, bytes.len() - 1);
+            bytes[place] ^= 1 << random.within(0, 7);
         }
     }
-    (part, piece)
+    fields.size = fields.bytes.len() as u16;
+    fields
 }
 
-/// A group of this segment, its ignored fields random in half the cases.
-fn group_of(random: &mut Random, transport: u16, (part, piece): (Part, Piece)) -> Vec<u8> {
+/// The fields of this segment's group, in three of four cases all that is no part of it random.
+fn fields_of(random: &mut Random, transport: u16, (part, piece): (Part, Piece)) -> Fields {
     let fields = Fields::of_segment(transport, part, piece.number, piece.last, &piece.bytes);
-    if random.coin() {
-        groups::with_ignored_fields(random, fields).whole()
+    if random.once_in(4) {
+        fields
     } else {
-        fields.whole()
+        groups::sent_anyhow(random, fields)
     }
 }
 
@@ -200,7 +211,7 @@ fn call(random: &mut Random, station: &mut Station, limit: usize) -> Call {
         0..=59 => station.next(),
         60..=66 => station.again(random),
         67..=72 => station.again(random).map(|segment| spoilt(random, segment)),
-        73..=74 => Some((Part::Body, Piece::empty())),
+        73..=74 => Some(fields_of(random, transport, (Part::Body, Piece::empty()))),
         75..=78 => return Call::Take(groups::any_group(random)),
         79..=83 => return Call::Take(groups::one_field_wrong(random)),
         84..=86 => {
@@ -220,7 +231,7 @@ fn call(random: &mut Random, station: &mut Station, limit: usize) -> Call {
         _ => return Call::Find(headers::name(random)),
     };
     match segment {
-        Some(segment) => Call::Take(group_of(random, transport, segment)),
+        Some(segment) => Call::Take(segment.whole()),
         None => station.after_a_round(random, limit),
     }
 }
@@ -327,7 +338,7 @@ mod tests {
             for slots in [1, 2, 3, 5, 16] {
                 let memory = Memory::filled(limit, slots, 0);
                 let mut collector = Collector::open(limit, slots, memory).unwrap();
-                for call in calls(&mut random, limit, slots, 300) {
+                for call in calls(&mut random, limit, slots, 1_000) {
                     let answer = match call {
                         Call::Take(group) => Some(collector.take(&group).answer),
                         Call::Drop(transport) => Some(collector.drop_number(transport).answer),
@@ -423,6 +434,66 @@ mod tests {
         assert_eq!(tally.keys().find(never), None);
     }
 
+    /// Repeats come just as the group that was stored, and with each of the three numbers and the
+    /// address other than in it, one alone or several.
+    #[test]
+    fn repeats_differ_from_what_was_stored() {
+        let mut tally: HashMap<&str, usize> = HashMap::new();
+        for (seed, slots) in [(20, 1), (21, 4), (22, 16)] {
+            let mut random = Random::from_seed(seed);
+            let memory = Memory::filled(12_288, slots, 0);
+            let mut collector = Collector::open(12_288, slots, memory).unwrap();
+            let mut stored: HashMap<(u16, Part, u16), Vec<u8>> = HashMap::new();
+            for call in calls(&mut random, 12_288, slots, 6_000) {
+                let group = match call {
+                    Call::Take(group) => group,
+                    Call::Drop(transport) => {
+                        collector.drop_number(transport);
+                        continue;
+                    }
+                    _ => continue,
+                };
+                let answer = collector.take(&group).answer;
+                let Ok(segment) = read(&group) else { continue };
+                let place = (segment.transport, segment.part, segment.number);
+                if matches!(answer, Answer::Stored | Answer::Complete) {
+                    stored.insert(place, group);
+                    continue;
+                }
+                if answer != Answer::Repeat {
+                    continue;
+                }
+                let first = &stored[&place];
+                let before = read(first).unwrap();
+                let (said, other) = (segment.repetition, before.repetition);
+                let (address, before_it) = (segment.address(&group), before.address(first));
+                let differences = [
+                    ("index", said.index != other.index),
+                    ("continuity", said.continuity != other.continuity),
+                    ("count", said.count != other.count),
+                    ("address", address != before_it),
+                    ("length of the address", address.len() != before_it.len()),
+                    ("extension", segment.address_start != before.address_start),
+                ];
+                let differing = differences.iter().filter(|difference| difference.1);
+                let names: Vec<&str> = differing.map(|difference| difference.0).collect();
+                match names[..] {
+                    [] if group == *first => *tally.entry("nothing").or_default() += 1,
+                    ["address"] => *tally.entry("address alone").or_default() += 1,
+                    ["index"] => *tally.entry("index alone").or_default() += 1,
+                    ["continuity"] => *tally.entry("continuity alone").or_default() += 1,
+                    ["count"] => *tally.entry("count alone").or_default() += 1,
+                    _ => (),
+                }
+                for name in names {
+                    *tally.entry(name).or_default() += 1;
+                }
+            }
+        }
+        assert_eq!(tally.len(), 11, "{tally:?}");
+        assert!(tally.values().all(|&times| times > 20), "{tally:?}");
+    }
+
     /// Objects that are what their cores say never conflict, in whatever order they come, and
     /// are shown as they were sent.
     #[test]
@@ -458,7 +529,8 @@ mod tests {
                 .map(|slot| to_send.iter().filter(|each| each.0 == slot as u16).count())
                 .collect();
             for (transport, segment) in to_send {
-                let group = group_of(&mut random, transport, segment);
+                let sent = fields_of(&mut random, transport, segment);
+                let group = sent.whole();
                 came[usize::from(transport)] += 1;
                 let whole = came[usize::from(transport)] == all[usize::from(transport)];
                 let expected = if whole {
@@ -468,7 +540,8 @@ mod tests {
                 };
                 assert_eq!(collector.take(&group).answer, expected);
                 if random.once_in(3) {
-                    assert_eq!(collector.take(&group).answer, Answer::Repeat);
+                    let again = groups::sent_again(&mut random, sent).whole();
+                    assert_eq!(collector.take(&again).answer, Answer::Repeat);
                 }
             }
             for (transport, (header, body)) in objects.iter().enumerate() {
