@@ -7,6 +7,7 @@
  *     struct yovtirak_lent lent = { .. };                 what is lent, with its lengths
  *     yovtirak_open_collector(&lent);                     opens a collector over it
  *     yovtirak_take_group(&lent, group, bytes);           takes a group
+ *     yovtirak_show_address(group, bytes, &address);      tells where its end user address stands
  *     yovtirak_show_object(&lent, number, &object);       tells where a finished object stands,
  *     yovtirak_read_parameters(&lent, number, &said);     what its header says,
  *     yovtirak_find_object(&lent, name, bytes, &number);  and whose a name is
@@ -24,7 +25,7 @@
  * - Nothing needs initialising before an opening, not even the state.
  * - A call that opens, takes or drops is alone with what is lent. Questions (show, read, find)
  *   write only what they tell, so that several may run at once on one state; calls on separate
- *   memory may run at any time.
+ *   memory may run at any time, and so may the question about a group, which needs no collector.
  * - The thread has YOVTIRAK_STACK_BYTES of stack.
  *
  * What every call sees to, whatever bytes and words it is handed:
@@ -32,9 +33,9 @@
  * - It returns, and writes nothing but what is lent to it to be written.
  * - What it refuses changes nothing, but for one count: a group that is refused (10 to 18) is
  *   counted as refused. STATE, LIMITS and the refusals of drops and questions change nothing.
- * - A damaged state and a wrong lent length are both STATE, to every call but an opening, which
- *   answers a wrong length with LIMITS. The state's words, the counts, the marks, the lengths and
- *   the two sizes in the core of each header are looked at.
+ * - A damaged state and a wrong lent length are both STATE, to every call that a state is lent to
+ *   but an opening, which answers a wrong length with LIMITS. The state's words, the counts, the
+ *   marks, the lengths and the two sizes in the core of each header are looked at.
  * - No sum of the stored bytes is kept. A byte of a body, or of a header but those two sizes, that
  *   is changed from outside goes unseen, and is shown as it then is.
  * - Words of the state that play no part (a free slot's but its stage, the two lengths of a slot
@@ -136,7 +137,7 @@ enum yovtirak_answer {
 
     /* 0 where a call stores nothing */
     YOVTIRAK_OPENED = 0, /* the collector is open */
-    YOVTIRAK_SHOWN = 0,  /* the object is finished, and where it stands is told */
+    YOVTIRAK_SHOWN = 0,  /* the object is finished or the group is read: its place is told */
     YOVTIRAK_READ = 0,   /* its header's parameters are told */
     YOVTIRAK_FOUND = 0   /* a finished object has the name, and its number is told */
 };
@@ -150,6 +151,18 @@ struct yovtirak_reply {
     /* with 0 to 2, CONFLICT and FULL; else 0 */
     enum yovtirak_part part;
     uint16_t segment;
+    /* What the sender says of sending it again, with 0 to 2; else 0. The two indices are of
+     * EN 300 401, the count of EN 301 234. Groups that differ only in these, in the end user
+     * address and in the check word are one segment. */
+    uint8_t repetition_index; /* this group is to be sent so many more times; 15: no number said */
+    uint8_t continuity_index; /* one more, modulo 16, for each group of its type with new content */
+    uint8_t repetition_count; /* the object is to be sent so many more times; 7: more, or no end */
+};
+
+/* The end user address of a group, where it stands in the group: whom the sender means it for. */
+struct yovtirak_end_user_address {
+    const uint8_t *bytes;
+    size_t length; /* 0 to 13; 0 where the group has none */
 };
 
 /* A finished object where it stands in the lent stores. It stays there, byte for byte, until its
@@ -188,6 +201,10 @@ uint64_t yovtirak_take(uint64_t *state, size_t state_words, uint32_t *counts, si
                        size_t header_bytes, uint8_t *body, size_t body_bytes, uint8_t *marks,
                        size_t marks_bytes);
 
+/* The word has SHOWN, where the end user address starts in the group times 65536 and how many bytes
+ * it has times 4294967296; or, of a group that doesn't read, LENGTH to SIZE and nothing else. */
+uint64_t yovtirak_address(const uint8_t *group, size_t group_bytes);
+
 uint64_t yovtirak_drop(uint64_t *state, size_t state_words, uint32_t *counts, size_t counts_words,
                        uint16_t number, const uint8_t *header, size_t header_bytes,
                        const uint8_t *body, size_t body_bytes, uint8_t *marks, size_t marks_bytes);
@@ -219,14 +236,17 @@ uint64_t yovtirak_find(const uint64_t *state, size_t state_words, const uint32_t
 }
 #endif
 
-/* What a word says: the answer in its low byte, then the part, the transport number and the
- * segment's number. */
+/* What a word says: the answer in its low byte, then the part, the transport number, the segment's
+ * number, the two indices, of four bits each, and the repetition count, of three. */
 static inline struct yovtirak_reply yovtirak_reply_of(uint64_t word) {
     struct yovtirak_reply reply;
     reply.answer = (enum yovtirak_answer)(word & 0xFF);
     reply.number = (uint16_t)(word >> 16);
     reply.part = (enum yovtirak_part)(word >> 8 & 0xFF);
     reply.segment = (uint16_t)(word >> 32);
+    reply.repetition_index = (uint8_t)(word >> 48 & 0xF);
+    reply.continuity_index = (uint8_t)(word >> 52 & 0xF);
+    reply.repetition_count = (uint8_t)(word >> 56 & 7);
     return reply;
 }
 
@@ -252,6 +272,21 @@ static inline struct yovtirak_reply yovtirak_take_group(const struct yovtirak_le
                                            lent->counts_words, group, group_bytes,
                                            lent->header_store, lent->header_bytes, lent->body_store,
                                            lent->body_bytes, lent->marks, lent->marks_bytes));
+}
+
+/* Tells where the end user address of a group stands, whether the group was taken or not: of no
+ * bytes where it has none. SHOWN; or LENGTH, NOCHECK, BADCHECK, KIND, NOSEGMENT, ADDRESS or SIZE,
+ * and `address` stays as it is. */
+static inline enum yovtirak_answer
+yovtirak_show_address(const uint8_t *group, size_t group_bytes,
+                      struct yovtirak_end_user_address *address) {
+    const uint64_t word = yovtirak_address(group, group_bytes);
+    const enum yovtirak_answer answer = (enum yovtirak_answer)(word & 0xFF);
+    if (answer == YOVTIRAK_SHOWN) {
+        address->bytes = group + (word >> 16 & 0xFFFF);
+        address->length = word >> 32 & 0xFFFF;
+    }
+    return answer;
 }
 
 /* Drops what is held under a transport number, finished or not: its slot is free again, and store
