@@ -100,22 +100,34 @@ pub struct Segment {
     pub segment: u16,
 }
 
+/// What the sender says of sending a group again. Groups that differ only in this, in the end user
+/// address and in the check word are one segment.
+#[derive(Clone, Copy, Debug, PartialEq, Eq, Hash)]
+pub struct Repetition {
+    /// The repetition index: this group is to be sent so many more times; 15: no number said.
+    pub index: u8,
+    /// The continuity index: one more, modulo 16, for each group of its type with new content.
+    pub continuity: u8,
+    /// The repetition count: the object is to be sent so many more times; 7: more, or no end.
+    pub count: u8,
+}
+
 /// What a group or a drop is answered.
 #[derive(Clone, Copy, Debug, PartialEq, Eq)]
 pub struct Reply {
     pub answer: Answer,
     /// The transport number, part and segment number, where the answer returns them.
     pub segment: Option<Segment>,
+    /// With [`Answer::Stored`], [`Answer::Complete`] and [`Answer::Repeat`].
+    pub repetition: Option<Repetition>,
 }
 
 impl Reply {
     /// The reply that a word says.
     pub fn of(word: u64) -> Reply {
         let answer = Answer::of(word & 0xFF);
-        let returns = matches!(
-            answer,
-            Answer::Stored | Answer::Complete | Answer::Repeat | Answer::Conflict | Answer::Full
-        );
+        let taken = matches!(answer, Answer::Stored | Answer::Complete | Answer::Repeat);
+        let returns = taken || matches!(answer, Answer::Conflict | Answer::Full);
         let part = if word >> 8 & 0xFF == 0 {
             Part::Header
         } else {
@@ -127,6 +139,11 @@ impl Reply {
                 number: (word >> 16) as u16,
                 part,
                 segment: (word >> 32) as u16,
+            }),
+            repetition: taken.then_some(Repetition {
+                index: (word >> 48 & 0xF) as u8,
+                continuity: (word >> 52 & 0xF) as u8,
+                count: (word >> 56 & 0x7) as u8,
             }),
         }
     }

@@ -46,6 +46,7 @@ mod linked {
             marks: *mut u8,
             marks_bytes: usize,
         ) -> u64;
+        pub fn yovtirak_address(group: *const u8, group_bytes: usize) -> u64;
         pub fn yovtirak_drop(
             state: *mut u64,
             state_words: usize,
@@ -163,6 +164,12 @@ pub fn take(
             marks.len(),
         )
     }
+}
+
+/// Where the end user address of a group stands: a word with its start times 2^16 and its length
+/// times 2^32, or the number of the answer that says why the group doesn't read.
+pub fn address(group: &[u8]) -> u64 {
+    unsafe { linked::yovtirak_address(group.as_ptr(), group.len()) }
 }
 
 /// Drops a number; the answer's word.

@@ -28,6 +28,18 @@
 //! assert_eq!(collector.take(&empty).answer, Answer::Repeat);
 //! assert_eq!(collector.body(5).unwrap(), &[]);
 //!
+//! // The same segment again, for some end user: twice more to come, its object without end.
+//! let repeat = [
+//!     0x74, 0x32, 0x80, 0x00, 0x14, 0x00, 0x05, 0xA1, 0xB2, 0xE0, 0x00, // with an address
+//!     0xC4, 0x83, // the check word
+//! ];
+//! let reply = collector.take(&repeat);
+//! assert_eq!(reply.answer, Answer::Repeat);
+//! let repetition = reply.repetition.unwrap();
+//! assert_eq!((repetition.index, repetition.continuity, repetition.count), (2, 3, 7));
+//! assert_eq!(yovtirak::end_user_address(&repeat), Ok(&[0xA1, 0xB2][..]));
+//! assert_eq!(yovtirak::end_user_address(&repeat[1..]), Err(Answer::NoCheck));
+//!
 //! assert_eq!(collector.find(b"logo.png"), Err(Answer::NotFound));
 //! assert_eq!(collector.counts().completed, 1);
 //! ```
@@ -35,8 +47,21 @@
 mod answer;
 pub mod lent;
 
-pub use answer::{Answer, Part, Reply, Segment};
+pub use answer::{Answer, Part, Repetition, Reply, Segment};
 use lent::{COUNTS, FIELD_WORDS, HEADER_SHARE, MARKS_SHARE, PLACE_WORDS, STATE_WORDS};
+
+/// The end user address of a group, a part of it, of no bytes where it has none; or the refusal,
+/// [`Answer::Length`] to [`Answer::Size`], of a group that doesn't read. It needs no collector.
+pub fn end_user_address(group: &[u8]) -> Result<&[u8], Answer> {
+    let said = lent::address(group);
+    match said & 0xFF {
+        0 => {
+            let (start, length) = ((said >> 16) as u16, (said >> 32) as u16);
+            Ok(&group[usize::from(start)..][..usize::from(length)])
+        }
+        refused => Err(Answer::of(refused)),
+    }
+}
 
 /// How many answers of each kind there were since opening; each stays at 2147483647.
 #[derive(Clone, Copy, Debug, Default, PartialEq, Eq)]
