@@ -1,7 +1,7 @@
 /* A receiving head that keeps a record of what was aired: it reads groups from standard input,
  * collects them, and writes each object to a folder when it is complete, once for each airing.
  *
- *     head FOLDER < GROUPS
+ *     head FOLDER [REPORT] < GROUPS
  *
  * A group comes as its length, two bytes, the higher first, and its bytes.
  *
@@ -33,8 +33,17 @@
  * where it is taken again after a drop, the refusal before the drop is not counted. An object that
  * came back within its airing is complete again, and not written again.
  *
- * Input that ends inside a group, or can't be read, and an object that can't be written end the
- * head with a message and status 1. */
+ * REPORT is a file to which a line is added for each group that is stored or repeated: the
+ * transport number in four hexadecimal digits, H or B, the segment's number, `new` or `repeat`, the
+ * repetition index, the continuity index, the repetition count, and the end user address in
+ * hexadecimal digits or `-` where the group has none, parted by single spaces. They tell a service
+ * engineer what the sender meant, beside what was heard: the repetition index, how often this group
+ * is still to come, 15 for no number said; the continuity index, one more, modulo 16, for each
+ * group of its type with new content, whether some between were missed; the repetition count, how
+ * often the object is still to come, 7 for more than six or no end; and the address, for whom.
+ *
+ * Input that ends inside a group, or can't be read, and an object or a report that can't be written
+ * end the head with a message and status 1. */
 #define _POSIX_C_SOURCE 200809L
 
 #include "yovtirak.h"
@@ -90,6 +99,9 @@ static struct {
 /* Airings in the folder, of each transport number. */
 static uint32_t airings[65536];
 static const char *folder;
+
+/* NULL where none is asked for. */
+static FILE *report;
 
 /* Why the head ends before its input does, if it does. */
 static const char *problem;
@@ -303,6 +315,38 @@ static int read_group(void) {
     return 0;
 }
 
+/* ---- the report */
+
+/* Each line is written when it ends, so that the report keeps up with the folder. */
+static int open_report(const char *path) {
+    report = fopen(path, "a");
+    return report && setvbuf(report, NULL, _IOLBF, BUFSIZ) == 0;
+}
+
+/* Adds the line of the group that was read and answered so. */
+static int report_group(const struct yovtirak_reply *reply) {
+    struct yovtirak_end_user_address address;
+    if (yovtirak_show_address(group, group_bytes, &address) != YOVTIRAK_SHOWN)
+        return 0;
+    fprintf(report, "%04x %c %u %s %u %u %u ", (unsigned)reply->number,
+            reply->part == YOVTIRAK_PART_HEADER ? 'H' : 'B', (unsigned)reply->segment,
+            reply->answer == YOVTIRAK_REPEAT ? "repeat" : "new", (unsigned)reply->repetition_index,
+            (unsigned)reply->continuity_index, (unsigned)reply->repetition_count);
+    for (size_t i = 0; i < address.length; i++)
+        fprintf(report, "%02x", (unsigned)address.bytes[i]);
+    fputs(address.length == 0 ? "-\n" : "\n", report);
+    return !ferror(report);
+}
+
+/* ---- the head */
+
+/* The group that was read was stored or repeated. */
+static void note(const struct yovtirak_reply *reply) {
+    hear(reply);
+    if (report && !report_group(reply))
+        problem = "the report can't be written";
+}
+
 /* Does all there is to do with the group that was read. */
 static void collect(void) {
     struct yovtirak_reply reply = take(group, group_bytes);
@@ -310,17 +354,17 @@ static void collect(void) {
     case YOVTIRAK_COMPLETE:
         tally.taken++;
         tally.complete++;
-        hear(&reply);
+        note(&reply);
         if (!record(reply.number))
             problem = "an object can't be written";
         break;
     case YOVTIRAK_STORED:
         tally.taken++;
-        hear(&reply);
+        note(&reply);
         break;
     case YOVTIRAK_REPEAT:
         tally.repeated++;
-        hear(&reply);
+        note(&reply);
         break;
     case YOVTIRAK_STATE:
         problem = "the collector's memory is damaged";
@@ -330,24 +374,38 @@ static void collect(void) {
     }
 }
 
-int main(int count, char **words) {
-    if (count != 2) {
-        fprintf(stderr, "usage: head FOLDER < GROUPS\n");
-        return 2;
-    }
-    folder = words[1];
+/* Opens all that is needed, and says why it can't. */
+static void begin(const char *report_path) {
     if (yovtirak_open_collector(&lent) != YOVTIRAK_OPENED)
         problem = "the collector can't be opened";
     else if (!count_airings())
         problem = "the folder can't be read";
-    while (!problem && read_group())
-        collect();
+    else if (report_path && !open_report(report_path))
+        problem = "the report can't be opened";
+}
+
+/* Ends the report and tells the counts. */
+static void end(void) {
+    if (report && fclose(report) != 0 && !problem)
+        problem = "the report can't be written";
     printf("groups: %llu taken, %llu repeated, %llu refused; ", tally.taken, tally.repeated,
            tally.refused);
     printf("objects: %llu complete, %llu written, %llu dropped unfinished\n", tally.complete,
            tally.written, tally.dropped_unfinished);
     if (fflush(stdout) != 0 && !problem)
         problem = "the counts can't be written";
+}
+
+int main(int count, char **words) {
+    if (count != 2 && count != 3) {
+        fprintf(stderr, "usage: head FOLDER [REPORT] < GROUPS\n");
+        return 2;
+    }
+    folder = words[1];
+    begin(count == 3 ? words[2] : NULL);
+    while (!problem && read_group())
+        collect();
+    end();
     if (!problem)
         return 0;
     fprintf(stderr, "head: %s\n", problem);
