@@ -4,8 +4,8 @@
  * is painted: where the paint is gone tells how many bytes the call took, from the frame of its
  * caller on. Then on a stack of YOVTIRAK_STACK_BYTES, below which no page can be touched, and of
  * which the system and the caller have used up all that they may. A trial that is answered
- * otherwise, takes more, or runs off its stack fails all; so does a question of the header's inline
- * functions that tells something wrong of an object. */
+ * otherwise, takes more, or runs off its stack fails all; so does one of the header's inline
+ * functions that tells something wrong of an object, of a repeat or of an address. */
 #define _DEFAULT_SOURCE
 
 #include "yovtirak.h"
@@ -183,13 +183,14 @@ static void in_the_last_slot(void) {
     segment(BODY, 0, 0, some, 100);
 }
 
+/* With an extension field, and an end user address of 13 bytes; repetition index 10, continuity
+ * index 3 and repetition count 5. */
 static void longest(void) {
     nothing();
-    /* An extension field, and an end user address of 13 bytes. */
-    static const uint8_t start[] = {0xF4, 0, 0, 0, 0x00, 0x00, 0x1F, 0, 5};
+    static const uint8_t start[] = {0xF4, 0x3A, 0, 0, 0x00, 0x00, 0x1F, 0, 5};
     memset(group, 0, sizeof group);
     memcpy(group, start, sizeof start);
-    group[22] = 8189 >> 8;
+    group[22] = 5 << 5 | 8189 >> 8;
     group[23] = 8189 & 0xFF;
     group_bytes = YOVTIRAK_GROUP_MOST;
     check();
@@ -369,6 +370,11 @@ static enum yovtirak_answer opening(void) { return yovtirak_open_collector(&lent
 
 static enum yovtirak_answer taking(void) { return take().answer; }
 
+static enum yovtirak_answer addressing(void) {
+    struct yovtirak_end_user_address address;
+    return yovtirak_show_address(group_bytes ? group : NULL, group_bytes, &address);
+}
+
 static enum yovtirak_answer dropping(void) { return yovtirak_drop_object(&lent, number).answer; }
 
 static enum yovtirak_answer showing(void) {
@@ -411,6 +417,45 @@ static int told_right(void) {
            memcmp(object.header + said.name_start + 1, name, sizeof name) == 0;
 }
 
+/* The three numbers of an answer: those of its group with STORED, COMPLETE and REPEAT, else 0. */
+static int has_numbers(struct yovtirak_reply reply, enum yovtirak_answer answer, unsigned index,
+                       unsigned continuity, unsigned count) {
+    return reply.answer == answer && reply.repetition_index == index &&
+           reply.continuity_index == continuity && reply.repetition_count == count;
+}
+
+/* What is told with the longest group, with its repeat and with another segment. */
+static int numbers_right(void) {
+    longest();
+    const struct yovtirak_reply stored = take();
+    group[1] = 0xF0;
+    group[22] = 7 << 5 | 8189 >> 8;
+    check();
+    const struct yovtirak_reply repeat = take();
+    group[24] = 1;
+    check();
+    return has_numbers(stored, YOVTIRAK_STORED, 10, 3, 5) &&
+           has_numbers(repeat, YOVTIRAK_REPEAT, 0, 15, 7) &&
+           has_numbers(take(), YOVTIRAK_CONFLICT, 0, 0, 0);
+}
+
+/* Where an address is told to stand, and that a refusal tells nothing. */
+static int address_right(void) {
+    static const uint8_t elsewhere = 0;
+    struct yovtirak_end_user_address address = {&elsewhere, 99};
+    wrong_size();
+    if (yovtirak_show_address(group, group_bytes, &address) != YOVTIRAK_SIZE ||
+        address.bytes != &elsewhere || address.length != 99)
+        return 0;
+    longest();
+    if (yovtirak_show_address(group, group_bytes, &address) != YOVTIRAK_SHOWN ||
+        address.bytes != group + 9 || address.length != 13)
+        return 0;
+    first();
+    return yovtirak_show_address(group, group_bytes, &address) == YOVTIRAK_SHOWN &&
+           address.bytes == group + 7 && address.length == 0;
+}
+
 static struct trial {
     const char *call;
     const char *what;
@@ -438,6 +483,11 @@ static struct trial {
     {"taking", "no segment field", no_segment, taking, YOVTIRAK_NOSEGMENT},
     {"taking", "no transport number", no_address, taking, YOVTIRAK_ADDRESS},
     {"taking", "a wrong size", wrong_size, taking, YOVTIRAK_SIZE},
+    {"showing an address", "of 13 bytes", longest, addressing, YOVTIRAK_SHOWN},
+    {"showing an address", "of no bytes", first, addressing, YOVTIRAK_SHOWN},
+    {"showing an address", "of no group", no_bytes, addressing, YOVTIRAK_LENGTH},
+    {"showing an address", "a wrong check word", bad_check, addressing, YOVTIRAK_BADCHECK},
+    {"showing an address", "a wrong size", wrong_size, addressing, YOVTIRAK_SIZE},
     {"dropping", "the last of sixteen", held_last, dropping, YOVTIRAK_DROPPED},
     {"dropping", "none of sixteen", not_held, dropping, YOVTIRAK_NOTHELD},
     {"showing", "the last of sixteen", held_last, showing, YOVTIRAK_SHOWN},
@@ -454,7 +504,7 @@ static struct trial {
     {"finding", "no name", no_name, finding, YOVTIRAK_NOTFOUND},
 };
 
-/* To every call but an opening each of these is STATE. */
+/* To every call that is lent a state, but an opening, each of these is STATE. */
 static const struct {
     const char *what;
     void (*before)(void);
@@ -473,7 +523,8 @@ static size_t with_damages(void) {
         const struct trial *const trial = &trials[i];
         all[count++] = *trial;
         const char *const next = trials[i + 1].call;
-        if (trial->made == opening || (next && strcmp(next, trial->call) == 0))
+        if (trial->made == opening || trial->made == addressing ||
+            (next && strcmp(next, trial->call) == 0))
             continue;
         for (size_t damage = 0; damage < sizeof damages / sizeof *damages; damage++)
             all[count++] = (struct trial){trial->call, damages[damage].what, damages[damage].before,
@@ -557,7 +608,7 @@ int main(void) {
         trials[i].made();
     }
 
-    if (!told_right()) {
+    if (!told_right() || !numbers_right() || !address_right()) {
         printf("an inline function tells something wrong\n");
         return 1;
     }
