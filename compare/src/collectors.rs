@@ -1,12 +1,12 @@
 //! The proved collector, as a head links it, against the independent one: random histories of calls,
-//! and after every call the answer, the counts, the marks, the records and what is shown compared;
-//! the stores whole at the end of each history, and after every call where they are small. A part of
-//! the histories begins with counts next to the most that is counted.
+//! and after every call the answer with all that it returns, the counts, the marks, the records and
+//! what is shown compared; the stores whole at the end of each history, and after every call where
+//! they are small. A part of the histories begins with counts next to the most that is counted.
 
 use crate::lent::Lent;
 use independent::answer::Answer;
 use independent::collector::{Collector, Counts, Memory, Stage, MOST_COUNTED};
-use independent::group::{self, Part};
+use independent::group::{self, Part, Segment};
 use independent::object::{Piece, CORE_LENGTH};
 use independent::random::histories::{calls, Call};
 use independent::random::Random;
@@ -34,7 +34,20 @@ const EMPTIES: [&str; 6] = [
     "CONFLICT, the empty segment in",
 ];
 
-/// How often each answer was given.
+/// How a repeat differs from the group that was stored (document 02, Item 6).
+const DIFFERENCES: [&str; 6] = [
+    "another repetition index",
+    "another continuity index",
+    "another repetition count",
+    "another end user address",
+    "an end user address of another length",
+    "another extension field or spare bits",
+];
+/// Of these, those that differ in the first five alone, and those that don't differ.
+const ONLY_THESE: &str = "none but the first five";
+const NOTHING: &str = "nothing";
+
+/// How often each came up, by its name: answers and, of repeats, differences.
 pub type Tally = BTreeMap<&'static str, usize>;
 
 fn differ(what: &str, ours: impl std::fmt::Debug, theirs: impl std::fmt::Debug) -> String {
@@ -52,9 +65,76 @@ fn counts_near_the_most(random: &mut Random) -> Counts {
     }
 }
 
-fn told(tally: &mut Tally, what: &'static str) -> Result<(), String> {
+fn told(tally: &mut Tally, what: &'static str) -> Result<Option<Answer>, String> {
     *tally.entry(what).or_default() += 1;
-    Ok(())
+    Ok(None)
+}
+
+/// The groups whose segments are held, as they were when they were stored, and how repeats differed
+/// from them.
+#[derive(Default)]
+struct Repeats {
+    stored: BTreeMap<(u16, Part, u16), Vec<u8>>,
+    differences: Tally,
+}
+
+/// What a group has around its segment that no answer tells of: the extension field and the spare
+/// bits of the user access byte.
+fn ignored<'group>(group: &'group [u8], segment: &Segment) -> (&'group [u8], u8) {
+    let user_access = segment.address_start - 3;
+    (&group[2..user_access - 2], group[user_access] >> 5)
+}
+
+impl Repeats {
+    fn follow(&mut self, call: &Call, answer: Option<Answer>) {
+        match (call, answer) {
+            (Call::Take(group), Some(answer)) => self.answered(group, answer),
+            (Call::Drop(transport), Some(Answer::Dropped)) => {
+                self.stored.retain(|place, _| place.0 != *transport)
+            }
+            _ => (),
+        }
+    }
+
+    fn answered(&mut self, group: &[u8], answer: Answer) {
+        let Ok(segment) = group::read(group) else {
+            return;
+        };
+        let place = (segment.transport, segment.part, segment.number);
+        match answer {
+            Answer::Stored | Answer::Complete => {
+                self.stored.insert(place, group.to_vec());
+            }
+            Answer::Repeat => self.count(group, &segment, place),
+            _ => (),
+        }
+    }
+
+    fn count(&mut self, group: &[u8], segment: &Segment, place: (u16, Part, u16)) {
+        let first = &self.stored[&place];
+        let stored = group::read(first).expect("a group that was stored reads");
+        let (said, before) = (segment.repetition, stored.repetition);
+        let differs = [
+            said.index != before.index,
+            said.continuity != before.continuity,
+            said.count != before.count,
+            segment.address(group) != stored.address(first),
+            segment.address_length != stored.address_length,
+            ignored(group, segment) != ignored(first, &stored),
+        ];
+        let mut names: Vec<_> = DIFFERENCES.into_iter().zip(differs).collect();
+        names.push((ONLY_THESE, group != first && !differs[5]));
+        names.push((NOTHING, group == first));
+        for (name, _) in names.into_iter().filter(|(_, differs)| *differs) {
+            *self.differences.entry(name).or_default() += 1;
+        }
+    }
+
+    /// Whether some way to differ came up seldom.
+    fn rare(&self) -> bool {
+        let mut names = DIFFERENCES.iter().chain([&ONLY_THESE, &NOTHING]);
+        names.any(|name| self.differences.get(name) < Some(&100))
+    }
 }
 
 /// What there is of the empty segment in a group and in what is held under its number.
@@ -94,13 +174,13 @@ impl Empty {
     }
 }
 
-/// One call of both.
+/// One call of both, with the answer to it; nothing where a question tells something else.
 pub fn call(
     lent: &mut Lent,
     handed: &mut Handed,
     call: &Call,
     tally: &mut Tally,
-) -> Result<(), String> {
+) -> Result<Option<Answer>, String> {
     let answer = match call {
         Call::Take(group) => {
             let empty = Empty::before(handed, group);
@@ -108,7 +188,8 @@ pub fn call(
             if ours != theirs {
                 return Err(differ("a group", ours, theirs));
             }
-            return told(tally, empty.counted(theirs.answer));
+            told(tally, empty.counted(theirs.answer))?;
+            return Ok(Some(theirs.answer));
         }
         Call::Drop(transport) => {
             let (ours, theirs) = (lent.drop(*transport), handed.drop_number(*transport));
@@ -151,8 +232,8 @@ pub fn call(
             }
         }
     };
-    *tally.entry(answer.name()).or_default() += 1;
-    Ok(())
+    told(tally, answer.name())?;
+    Ok(Some(answer))
 }
 
 /// All that can be seen of both.
@@ -186,7 +267,7 @@ fn collector_of(handed: &Handed) -> &Collector {
         .expect("a state that calls lead to is sound")
 }
 
-fn history(random: &mut Random, tally: &mut Tally) -> Result<(), String> {
+fn history(random: &mut Random, tally: &mut Tally, repeats: &mut Repeats) -> Result<(), String> {
     let limit = random.one_of(&LIMITS);
     let slots = random.within(1, 16);
     let before = random.byte();
@@ -200,10 +281,14 @@ fn history(random: &mut Random, tally: &mut Tally) -> Result<(), String> {
         lent.counts = collector.counts.in_order().to_vec();
     }
     let mut handed = Handed::from(collector);
+    repeats.stored.clear();
     let small = slots * (limit + 1_024) <= SMALL;
     for (number, each) in calls(random, limit, slots, CALLS).iter().enumerate() {
         call(&mut lent, &mut handed, each, tally)
-            .and_then(|()| same(&lent, collector_of(&handed), small))
+            .and_then(|answer| {
+                repeats.follow(each, answer);
+                same(&lent, collector_of(&handed), small)
+            })
             .map_err(|said| format!("limit {limit}, {slots} slots, call {number}: {said}"))?;
     }
     same(&lent, collector_of(&handed), true)
@@ -246,10 +331,11 @@ fn openings() -> Result<usize, String> {
 
 /// All histories, or the first few: under a checker of memory each takes long.
 pub fn run(few: Option<u64>) -> Result<String, String> {
-    let mut tally = Tally::new();
+    let (mut tally, mut repeats) = (Tally::new(), Repeats::default());
     let histories = few.unwrap_or(HISTORIES);
     for number in 0..histories {
-        history(&mut Random::from_seed(SEED + number), &mut tally)
+        let random = &mut Random::from_seed(SEED + number);
+        history(random, &mut tally, &mut repeats)
             .map_err(|said| format!("history {number}: {said}"))?;
     }
     let missing: Vec<_> = Answer::ALL
@@ -263,9 +349,14 @@ pub fn run(few: Option<u64>) -> Result<String, String> {
     if few.is_none() && EMPTIES.iter().any(rare) {
         return Err(format!("the empty segment is rare: {tally:?}"));
     }
+    let differences = &repeats.differences;
+    if few.is_none() && repeats.rare() {
+        return Err(format!("repeats differ seldom: {differences:?}"));
+    }
     let calls: usize = tally.values().sum();
     let refused = openings()?;
     Ok(format!(
-        "{histories} histories, {calls} answers compared {tally:?}; 2000 openings, {refused} of them LIMITS"
+        "{histories} histories, {calls} answers compared {tally:?}; repeats differ from what was stored in \
+         {differences:?}; 2000 openings, {refused} of them LIMITS"
     ))
 }

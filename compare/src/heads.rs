@@ -1,7 +1,7 @@
 //! The example of a head, built in C: streams of groups whose airings are plain from how they were
 //! sent, random ones whose airings follow from the policy over the independent collector, and input
-//! that ends too soon. The files that the head writes, the line that it ends with and its status are
-//! compared.
+//! that ends too soon. The files that the head writes, its report, the line that it ends with and its
+//! status are compared.
 
 mod record;
 mod streams;
@@ -18,13 +18,16 @@ const SEED: u64 = 65_536;
 /// So many streams of each sort.
 const EACH: u64 = 12;
 const CUT: u64 = 12;
+/// Of so many streams of a sort the last is without a report.
+const REPORTED: u64 = 5;
 const HISTORIES: u64 = 40;
 const CALLS: usize = 250;
 
-/// A head, and a folder of its own.
+/// A head, and a folder and a report of its own.
 struct Head {
     top: PathBuf,
     folder: PathBuf,
+    report: PathBuf,
 }
 
 fn said(error: std::io::Error) -> String {
@@ -35,26 +38,41 @@ impl Head {
     fn new() -> Head {
         let top = PathBuf::from(env!("CARGO_MANIFEST_DIR")).join("..");
         let folder = top.join("target/head_objects");
-        Head { top, folder }
+        let report = top.join("target/head_report");
+        Head {
+            top,
+            folder,
+            report,
+        }
     }
 
     fn clear(&self) -> Result<(), String> {
+        if self.report.exists() {
+            fs::remove_file(&self.report).map_err(said)?;
+        }
         if self.folder.exists() {
             fs::remove_dir_all(&self.folder).map_err(said)?;
         }
         fs::create_dir_all(&self.folder).map_err(said)
     }
 
-    fn command(&self, folder: &Path) -> Command {
+    /// A head with these words.
+    fn command(&self, words: &[&Path]) -> Command {
         let mut command = Command::new(self.top.join("machine"));
         command.arg("run").arg(self.top.join("target/head"));
-        command.arg(folder);
+        command.args(words);
         command.stdout(Stdio::piped()).stderr(Stdio::piped());
         command
     }
 
-    fn run(&self, input: &[u8]) -> Result<Output, String> {
-        let mut command = self.command(&self.folder);
+    /// Runs a head on its own folder, with a report or without.
+    fn run(&self, input: &[u8], reported: bool) -> Result<Output, String> {
+        let words: [&Path; 2] = [&self.folder, &self.report];
+        self.run_on(&words[..1 + usize::from(reported)], input)
+    }
+
+    fn run_on(&self, words: &[&Path], input: &[u8]) -> Result<Output, String> {
+        let mut command = self.command(words);
         let mut child = command.stdin(Stdio::piped()).spawn().map_err(said)?;
         let mut stdin = child.stdin.take().expect("standard input is piped");
         match stdin.write_all(input) {
@@ -82,6 +100,29 @@ impl Head {
             return Err(format!("{written} files, not {}", expected.len()));
         }
         Ok(())
+    }
+
+    /// The report has these lines and no others; it is there only where one was asked for.
+    fn has_report(&self, expected: &str, reported: bool) -> Result<(), String> {
+        if !reported {
+            let there = self.report.exists();
+            return if there {
+                Err("a report that was not asked for".to_string())
+            } else {
+                Ok(())
+            };
+        }
+        let report = fs::read_to_string(&self.report).map_err(said)?;
+        if report == expected {
+            return Ok(());
+        }
+        let mut lines = report.lines().zip(expected.lines());
+        let differing = lines.find(|(ours, theirs)| ours != theirs);
+        Err(format!(
+            "{} lines of the report, not {}, and the first that differ are {differing:?}",
+            report.lines().count(),
+            expected.lines().count()
+        ))
     }
 }
 
@@ -120,6 +161,7 @@ struct Seen {
     airings: usize,
     again: usize,
     lost: usize,
+    lines: usize,
 }
 
 impl Seen {
@@ -131,10 +173,19 @@ impl Seen {
             airings: 0,
             again: 0,
             lost: 0,
+            lines: 0,
         }
     }
 
+    /// Whether the next stream is run with a report.
+    fn reported(&self) -> bool {
+        self.streams % REPORTED != REPORTED - 1
+    }
+
     fn count(&mut self, groups: usize, tally: &Tally) {
+        if self.reported() {
+            self.lines += tally.taken + tally.repeated;
+        }
         self.streams += 1;
         self.groups += groups;
         self.airings += tally.written;
@@ -150,8 +201,12 @@ impl Seen {
             airings,
             again,
             lost,
+            lines,
         } = self;
-        format!("{streams} {sort} ({groups} groups, {airings} airings, {again} complete again, {lost} lost)")
+        format!(
+            "{streams} {sort} ({groups} groups, {airings} airings, {again} complete again, {lost} lost, {lines} lines \
+             reported)"
+        )
     }
 }
 
@@ -170,9 +225,10 @@ fn whole(
         return Err("the policy makes something else of what was sent".to_string());
     }
     head.clear()?;
-    let output = head.run(&encoded(groups))?;
+    let output = head.run(&encoded(groups), seen.reported())?;
     ended(&output, &record.tally, None)?;
     head.has(&expected)?;
+    head.has_report(&record.report, seen.reported())?;
     seen.count(groups.len(), &record.tally);
     Ok(())
 }
@@ -203,26 +259,34 @@ fn cut(head: &Head, random: &mut Random, seen: &mut [Seen; 3]) -> Result<(), Str
         .into_iter()
         .filter_map(|(each, complete)| complete.then_some(each))
         .collect();
-    let tally = Record::of(before).tally;
+    let record = Record::of(before);
+    let seen = &mut seen[place];
     head.clear()?;
-    let output = head.run(&input)?;
-    ended(&output, &tally, problem)?;
+    let output = head.run(&input, seen.reported())?;
+    ended(&output, &record.tally, problem)?;
     head.has(&files(&aired))?;
-    seen[place].count(left, &tally);
+    head.has_report(&record.report, seen.reported())?;
+    seen.count(left, &record.tally);
     Ok(())
 }
 
-/// A head that is stopped and started again in the midst of a stream goes on with the record.
+/// A head that is stopped and started again in the midst of a stream goes on with the record and with the
+/// report, which the halves have or have not as the count of them gives it.
 fn restarted(head: &Head, random: &mut Random, seen: &mut Seen) -> Result<(), String> {
     let (parts, aired) = streams::crowded(random);
     let stop = random.within(1, parts.len() - 1);
     head.clear()?;
     let mut recorded = Vec::new();
+    let mut lines = String::new();
     for part in [&parts[..stop], &parts[stop..]] {
         let groups = part.concat();
-        let output = head.run(&encoded(&groups))?;
+        let output = head.run(&encoded(&groups), seen.reported())?;
         let record = Record::after(recorded, &groups);
         ended(&output, &record.tally, None)?;
+        if seen.reported() {
+            lines += &record.report;
+        }
+        head.has_report(&lines, !lines.is_empty())?;
         seen.count(groups.len(), &record.tally);
         recorded = record.aired;
     }
@@ -246,8 +310,8 @@ fn spoilt(head: &Head, random: &mut Random, seen: &mut Seen) -> Result<(), Strin
     };
     head.clear()?;
     let input = encoded(&stream.groups);
-    let tally = Record::of(&stream.groups).tally;
-    ended(&head.run(&input)?, &tally, None)?;
+    let Record { tally, report, .. } = Record::of(&stream.groups);
+    ended(&head.run(&input, seen.reported())?, &tally, None)?;
     let twice = files(&[(*again).clone(), (*again).clone()]);
     // The first of its four files, by their names: the body of the first airing.
     let short = twice.keys().next().cloned().expect("an airing has files");
@@ -257,10 +321,11 @@ fn spoilt(head: &Head, random: &mut Random, seen: &mut Seen) -> Result<(), Strin
         written: 1,
         ..tally
     };
-    ended(&head.run(&input)?, &tally, None)?;
+    ended(&head.run(&input, seen.reported())?, &tally, None)?;
     expected.extend(twice);
     expected.insert(short, bytes.to_vec());
     head.has(&expected)?;
+    head.has_report(&report.repeat(2), seen.reported())?;
     seen.count(stream.groups.len(), &tally);
     Ok(())
 }
@@ -275,17 +340,54 @@ fn any_groups(random: &mut Random) -> Vec<Vec<u8>> {
     groups.collect()
 }
 
+/// Words that are too few or too many.
+fn misused(head: &Head) -> Result<usize, String> {
+    let word: &Path = &head.folder;
+    let wrong = [&[][..], &[word; 3]];
+    for words in wrong {
+        let output = head.run_on(words, &[])?;
+        let message = String::from_utf8_lossy(&output.stderr);
+        let expected = "usage: head FOLDER [REPORT] < GROUPS\n";
+        if message != expected || output.status.code() != Some(2) || !output.stdout.is_empty() {
+            return Err(format!("{} words: {output:?}", words.len()));
+        }
+    }
+    Ok(wrong.len())
+}
+
+/// A report that can't be opened, as it is a folder, and one that can't be written, as its device is full.
+fn no_report(head: &Head) -> Result<usize, String> {
+    let (stream, _) = streams::fresh(&mut Random::from_seed(SEED));
+    let input = encoded(&stream.groups);
+    head.clear()?;
+    let output = head.run_on(&[&head.folder, &head.folder], &input)?;
+    ended(
+        &output,
+        &Tally::default(),
+        Some("the report can't be opened"),
+    )?;
+    head.has(&Files::new())?;
+
+    // It ends with the first group that it would report.
+    let mut records = (1..).map(|count| Record::of(&stream.groups[..count]));
+    let record = records.find(|record| !record.report.is_empty());
+    let record = record.expect("some group is stored");
+    let output = head.run_on(&[&head.folder, Path::new("/dev/full")], &input)?;
+    ended(&output, &record.tally, Some("the report can't be written"))?;
+    head.has(&files(&record.aired))?;
+    Ok(2)
+}
+
 /// What is no stream, no folder or no place to write: a message and a status.
 fn problems(head: &Head) -> Result<usize, String> {
     let nothing = Tally::default();
     head.clear()?;
-    let mut directory = head.command(&head.folder);
+    let mut directory = head.command(&[&head.folder]);
     directory.stdin(File::open(&head.folder).map_err(said)?);
     let output = directory.output().map_err(said)?;
     ended(&output, &nothing, Some("the input can't be read"))?;
 
-    let mut nowhere = head.command(&head.folder.join("nowhere"));
-    let output = nowhere.stdin(Stdio::null()).output().map_err(said)?;
+    let output = head.run_on(&[&head.folder.join("nowhere")], &[])?;
     ended(&output, &nothing, Some("the folder can't be read"))?;
 
     // A folder that is not empty stands where the head would write a file first.
@@ -296,7 +398,7 @@ fn problems(head: &Head) -> Result<usize, String> {
     for place in ["unfinished.body", "unfinished.header"] {
         head.clear()?;
         fs::create_dir_all(head.folder.join(place).join("taken")).map_err(said)?;
-        let output = head.run(&encoded(&stream.groups))?;
+        let output = head.run(&encoded(&stream.groups), false)?;
         let tally = Tally {
             written: 0,
             ..tally
@@ -306,7 +408,7 @@ fn problems(head: &Head) -> Result<usize, String> {
         fs::remove_dir_all(head.folder.join(place)).map_err(said)?;
         head.has(&Files::new())?;
     }
-    Ok(4)
+    Ok(4 + no_report(head)? + misused(head)?)
 }
 
 pub fn run() -> Result<String, String> {
@@ -376,7 +478,7 @@ pub fn run() -> Result<String, String> {
     );
     let problems = problems(&head)?;
     Ok(format!(
-        "streams: {}; and {problems} without input, folder or place to write",
+        "streams: {}; and {problems} without input, folder, report, place to write or the right words",
         told.join(", ")
     ))
 }

@@ -2,7 +2,7 @@
 
 use independent::answer::{Answer, Reply};
 use independent::collector::{Collector, Memory, HEADER_SHARE};
-use independent::group::Part;
+use independent::group::{Part, Repetition};
 use independent::header::Reading;
 use independent::object::Core;
 use independent::state::{PartRecord, StageRecord, State};
@@ -24,22 +24,49 @@ fn answer_of(number: u64) -> Answer {
         .expect("an answer's number is one of document 01's")
 }
 
-/// What a word says, in the independent program's words.
+/// The word that says a reply, whatever the reply doesn't return being 0.
+fn word_of(reply: &Reply) -> u64 {
+    let said = reply.repetition.unwrap_or_default();
+    u64::from(reply.answer.number())
+        | u64::from(reply.part == Some(Part::Body)) << 8
+        | u64::from(reply.transport.unwrap_or_default()) << 16
+        | u64::from(reply.segment.unwrap_or_default()) << 32
+        | u64::from(said.index) << 48
+        | u64::from(said.continuity) << 52
+        | u64::from(said.count) << 56
+}
+
+/// The three numbers that a word says, as the wrapper has them.
+fn repetition_of(word: u64) -> Option<Repetition> {
+    let said = yovtirak::Reply::of(word).repetition?;
+    Some(Repetition {
+        index: said.index,
+        continuity: said.continuity,
+        count: said.count,
+    })
+}
+
+/// What a word says, in the independent program's words: all of it, and nothing beside.
 fn reply_of(word: u64) -> Reply {
     let answer = answer_of(word & 0xFF);
     let transport = (word >> 16) as u16;
-    match answer.number() {
+    let reply = match answer.number() {
         0..=2 | 17 | 18 => {
             let part = if word >> 8 & 0xFF == 0 {
                 Part::Header
             } else {
                 Part::Body
             };
-            Reply::of_segment(answer, transport, part, (word >> 32) as u16)
+            Reply {
+                repetition: repetition_of(word),
+                ..Reply::of_segment(answer, transport, part, (word >> 32) as u16)
+            }
         }
         3 => Reply::of_number(answer, transport),
         _ => Reply::bare(answer),
-    }
+    };
+    assert_eq!(word, word_of(&reply), "a word says more than its answer");
+    reply
 }
 
 impl Lent {

@@ -37,9 +37,15 @@ fn proved(input: &[u8]) -> Result<Vec<u8>, String> {
     Ok(output.stdout)
 }
 
+/// Whether a line tells what the sender says of repeats, and not three times the same.
+fn tells_of_repeats(line: &str) -> bool {
+    let fields: Vec<&str> = line.split(' ').collect();
+    matches!(fields[..], [.., index, continuity, count] if index != continuity || continuity != count)
+}
+
 pub fn run() -> Result<String, String> {
     let mut tally: BTreeMap<String, usize> = BTreeMap::new();
-    let mut lines = 0;
+    let (mut lines, mut telling) = (0, 0);
     for history in 0..HISTORIES {
         let input = histories::listing(&mut Random::from_seed(SEED + history), LINES);
         let ours = proved(&input)?;
@@ -57,6 +63,7 @@ pub fn run() -> Result<String, String> {
             if ANSWERS.contains(&answer) {
                 *tally.entry(answer.to_string()).or_default() += 1;
                 lines += 1;
+                telling += usize::from(tells_of_repeats(line));
             }
         }
     }
@@ -67,7 +74,11 @@ pub fn run() -> Result<String, String> {
     if !missing.is_empty() {
         return Err(format!("never given: {missing:?}"));
     }
+    if telling < 5_000 {
+        return Err(format!("only {telling} lines tell of repeats"));
+    }
     Ok(format!(
-        "{HISTORIES} histories, {lines} lines compared {tally:?}"
+        "{HISTORIES} histories, {lines} lines compared {tally:?}, {telling} of them with indices and a count that \
+         are not all the same"
     ))
 }

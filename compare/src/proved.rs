@@ -2,7 +2,7 @@
 //! against the source, so they are few and on numbers and slices alone.
 
 use independent::answer::Answer;
-use independent::group::{Part, Reading, Refusal, Segment};
+use independent::group::{Part, Reading, Refusal, Repetition, Segment};
 use independent::header;
 use independent::object::{Core, Piece};
 
@@ -63,6 +63,8 @@ fn field(group: &[u8], number: u8) -> u64 {
 pub fn reading(group: &[u8]) -> Reading {
     let refused = field(group, 0);
     if refused != 0 {
+        let told = [7, 8, 9, 10, 11].map(|number| field(group, number));
+        assert_eq!(told, [0; 5], "a refusal tells of repeats or of an address");
         let refusal = Refusal::ALL
             .into_iter()
             .find(|refusal| refusal.answer() as u64 == refused);
@@ -78,6 +80,13 @@ pub fn reading(group: &[u8]) -> Reading {
         last: field(group, 4) == 1,
         start: field(group, 5) as usize,
         length: field(group, 6) as usize,
+        repetition: Repetition {
+            index: field(group, 7) as u8,
+            continuity: field(group, 8) as u8,
+            count: field(group, 9) as u8,
+        },
+        address_start: field(group, 10) as usize,
+        address_length: field(group, 11) as usize,
     })
 }
 

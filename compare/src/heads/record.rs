@@ -1,11 +1,11 @@
-//! The record that a head must keep of some groups: the policy that the head comment of
-//! `examples/head.c` tells, over the independent collector. It is told in other words than the head's:
-//! when each number was heard is a time, whether an object is finished is asked of the collector, and
-//! what was aired is kept whole.
+//! The record that a head must keep of some groups, and its report: the policy that the head comment
+//! of `examples/head.c` tells, over the independent collector. It is told in other words than the
+//! head's: when each number was heard is a time, whether an object is finished is asked of the
+//! collector, and what was aired is kept whole.
 
-use independent::answer::Answer;
+use independent::answer::{Answer, Reply};
 use independent::collector::{Collector, Memory};
-use independent::group::Part;
+use independent::group::{self, Part};
 use independent::header;
 use std::cmp::Reverse;
 use std::collections::BTreeMap;
@@ -78,6 +78,8 @@ pub struct Record {
     held: BTreeMap<u16, Held>,
     pub aired: Vec<Aired>,
     pub tally: Tally,
+    /// The lines of the report.
+    pub report: String,
 }
 
 impl Record {
@@ -94,6 +96,7 @@ impl Record {
             held: BTreeMap::new(),
             aired,
             tally: Tally::default(),
+            report: String::new(),
         };
         for (time, group) in groups.iter().enumerate() {
             record.hear(time, group);
@@ -156,6 +159,7 @@ impl Record {
         };
         let heard = time;
         self.held.insert(of, Held { heard, conflicts });
+        self.report += &line(&reply, group);
         if reply.answer == Answer::Complete {
             self.tally.complete += 1;
             self.air(of);
@@ -179,6 +183,32 @@ impl Record {
             self.tally.written += 1;
         }
     }
+}
+
+/// The report's line of a group that is stored or repeated.
+fn line(reply: &Reply, group: &[u8]) -> String {
+    let segment = group::read(group).expect("it is stored or repeated");
+    let said = reply.repetition.expect("the answer has it");
+    let part = match segment.part {
+        Part::Header => "H",
+        Part::Body => "B",
+    };
+    let heard = match reply.answer {
+        Answer::Repeat => "repeat",
+        _ => "new",
+    };
+    let mut address: String = segment
+        .address(group)
+        .iter()
+        .map(|byte| format!("{byte:02x}"))
+        .collect();
+    if address.is_empty() {
+        address.push('-');
+    }
+    format!(
+        "{:04x} {part} {} {heard} {} {} {} {address}\n",
+        segment.transport, segment.number, said.index, said.continuity, said.count
+    )
 }
 
 /// A header's name as a file has it.

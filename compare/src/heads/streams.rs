@@ -119,9 +119,10 @@ fn like(random: &mut Random, object: &Object) -> Object {
     }
 }
 
-/// One round of an object's groups in any order, at this size of its body's segments; some groups
-/// come twice, some with a bit turned over before they come right, and some that are no groups. Some
-/// encoders send the empty segment for a body without bytes, and some send nothing.
+/// One round of an object's groups in any order, at this size of its body's segments, with any indices,
+/// counts and end user addresses; some segments come twice, the second time just so or with others of
+/// these, some with a bit turned over before they come right, and some groups are none. Some encoders
+/// send the empty segment for a body without bytes, and some send nothing.
 fn round(random: &mut Random, number: u16, object: &Object, size: usize) -> Vec<Vec<u8>> {
     let header = cut(&object.header, 16).into_iter();
     let mut body = cut(&object.body, size);
@@ -135,8 +136,9 @@ fn round(random: &mut Random, number: u16, object: &Object, size: usize) -> Vec<
     random.shuffle(&mut pieces);
     let mut sent = Vec::new();
     for (part, piece) in pieces {
-        let group = Fields::of_segment(number, part, piece.number, piece.last, &piece.bytes);
-        let group = group.whole();
+        let fields = Fields::of_segment(number, part, piece.number, piece.last, &piece.bytes);
+        let fields = groups::sent_anyhow(random, fields);
+        let group = fields.whole();
         if random.once_in(8) {
             let mut spoilt = group.clone();
             let place = random.within(0, spoilt.len() - 1);
@@ -149,12 +151,19 @@ fn round(random: &mut Random, number: u16, object: &Object, size: usize) -> Vec<
                 sent.push(other);
             }
         }
-        sent.push(group.clone());
+        sent.push(group);
         if random.once_in(5) {
-            sent.push(group);
+            sent.push(groups::sent_again(random, fields).whole());
         }
     }
     sent
+}
+
+/// The transport number, part and number of a group's segment, by which it is told from all others of its
+/// object; nothing where the group doesn't read.
+fn place(group: &[u8]) -> Option<(u16, Part, u16)> {
+    let segment = group::read(group).ok()?;
+    Some((segment.transport, segment.part, segment.number))
 }
 
 fn any_size(random: &mut Random) -> usize {
@@ -201,11 +210,11 @@ pub fn fresh(random: &mut Random) -> (Stream, Vec<usize>) {
     }
     let mut seen = BTreeSet::new();
     let mut newest = BTreeMap::new();
-    for (place, group) in groups.iter().enumerate() {
+    for (at, group) in groups.iter().enumerate() {
         match group::read(group) {
             // No object waits for the empty segment.
-            Ok(segment) if segment.length > 0 && seen.insert(group) => {
-                newest.insert(segment.transport, place);
+            Ok(segment) if segment.length > 0 && seen.insert(place(group)) => {
+                newest.insert(segment.transport, at);
             }
             _ => (),
         }
@@ -306,12 +315,12 @@ pub fn patient(random: &mut Random) -> Stream {
 fn all_but_one(random: &mut Random, number: u16, object: &Object) -> (Vec<Vec<u8>>, Vec<u8>) {
     let mut groups = round(random, number, object, 64);
     let one = loop {
-        let place = random.within(0, groups.len() - 1);
-        if group::read(&groups[place]).is_ok() {
-            break groups[place].clone();
+        let group = &groups[random.within(0, groups.len() - 1)];
+        if group::read(group).is_ok() {
+            break group.clone();
         }
     };
-    groups.retain(|group| *group != one);
+    groups.retain(|group| place(group) != place(&one));
     (groups, one)
 }
 
@@ -386,7 +395,8 @@ pub fn in_the_way(random: &mut Random) -> Stream {
     let conflicting: Vec<Vec<u8>> = pieces
         .chain(header)
         .map(|(part, piece)| {
-            Fields::of_segment(number, part, piece.number, piece.last, &piece.bytes).whole()
+            let fields = Fields::of_segment(number, part, piece.number, piece.last, &piece.bytes);
+            groups::sent_anyhow(random, fields).whole()
         })
         .collect();
     let endless = || conflicting.iter().cycle().cloned();
