@@ -104,13 +104,14 @@ impl Head {
 
     /// The report has these lines and no others; it is there only where one was asked for.
     fn has_report(&self, expected: &str, reported: bool) -> Result<(), String> {
+        if self.report.exists() != reported {
+            return Err(format!(
+                "a report asked for: {reported}, and there: {}",
+                !reported
+            ));
+        }
         if !reported {
-            let there = self.report.exists();
-            return if there {
-                Err("a report that was not asked for".to_string())
-            } else {
-                Ok(())
-            };
+            return Ok(());
         }
         let report = fs::read_to_string(&self.report).map_err(said)?;
         if report == expected {
@@ -270,8 +271,8 @@ fn cut(head: &Head, random: &mut Random, seen: &mut [Seen; 3]) -> Result<(), Str
     Ok(())
 }
 
-/// A head that is stopped and started again in the midst of a stream goes on with the record and with the
-/// report, which the halves have or have not as the count of them gives it.
+/// A head that is stopped and started again in the midst of a stream goes on with the record, and where
+/// it has a report again with that.
 fn restarted(head: &Head, random: &mut Random, seen: &mut Seen) -> Result<(), String> {
     let (parts, aired) = streams::crowded(random);
     let stop = random.within(1, parts.len() - 1);
