@@ -130,24 +130,9 @@ fn row_of(answer: Answer) -> Row
     ensures { λ r. ⌜ Reads r (rowOf answer) ⌝ }
 {
     match answer {
-        Answer::Stored(heard, repetition) => entry(
-            0,
-            *b"STORED    ",
-            6,
-            Returned::Sent(heard, repetition),
-        ),
-        Answer::Complete(heard, repetition) => entry(
-            1,
-            *b"COMPLETE  ",
-            8,
-            Returned::Sent(heard, repetition),
-        ),
-        Answer::Repeat(heard, repetition) => entry(
-            2,
-            *b"REPEAT    ",
-            6,
-            Returned::Sent(heard, repetition),
-        ),
+        Answer::Stored(heard, meant) => entry(0, *b"STORED    ", 6, Returned::Sent(heard, meant)),
+        Answer::Complete(heard, meant) => entry(1, *b"COMPLETE  ", 8, Returned::Sent(heard, meant)),
+        Answer::Repeat(heard, meant) => entry(2, *b"REPEAT    ", 6, Returned::Sent(heard, meant)),
         Answer::Dropped(number) => entry(3, *b"DROPPED   ", 7, Returned::Number(number)),
         Answer::Refused(refusal) => refusal_row(refusal),
         Answer::Conflict(heard) => entry(17, *b"CONFLICT  ", 8, Returned::Segment(heard)),

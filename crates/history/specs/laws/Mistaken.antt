@@ -3,17 +3,22 @@
 use mathlib.Core.Path.{_≡_, refl, sym, ap, _∙_}
 use mathlib.Core.Bool.{Bool}
 use mathlib.Core.List.{List, [], _∷_}
-use Prim.Native.Nat.{ℕ, suc, min}
+use Prim.Native.Nat.{ℕ, suc, _+_, min}
 use native.Mathlib.Omega.{arith}
 use lib.Dec.{eqb, ltb}
 use lib.ListN.{length, getD, take, drop}
-use Rattle.octets.specs.Octets.{equal}
+use Rattle.octets.specs.Octets.{equal, part}
 use Rattle.answer.specs.declared.Answer.the-variants as Answer
 use Rattle.answer.specs.declared.Reason.the-variants as Reason
 use Rattle.answer.specs.declared.Part.{Part}
 use Rattle.answer.specs.declared.Part.the-variants.{Header, Body}
 use Rattle.answer.specs.Table.{numberOf}
 use Rattle.counts.specs.Counted.{ceiling, noneYet, oneRefused}
+use Rattle.wire.specs.declared.Reading.{Reading as WireReading}
+use Rattle.wire.specs.declared.Reading.the-variants.{Read, Refused}
+use Rattle.answer.specs.declared.Refusal.the-variants.{BadCheck}
+use Rattle.wire.specs.Wire.{endUserAddress, endUserAddressLength}
+use Rattle.wire.specs.Reading.{readingOf}
 use Rattle.cut.specs.Requirement.{headerSize}
 use Rattle.cut.specs.Lists.{pick}
 use Rattle.header.specs.declared.Reading.the-variants as Reading
@@ -41,9 +46,9 @@ use Rattle.history.specs.Held.{lentOf}
 use Rattle.history.specs.History.{Question}
 use Rattle.history.specs.laws.Stage.{none-finished}
 use Rattle.history.specs.laws.Demands.{run-answered}
-use Rattle.history.specs.Promise.{reachedBy, StateAskExactly, AskedLeaves, NotHeldExactly, UnfinishedExactly, LocatedExactly, CoreShown, ReadExactly, NamesRead, FoundExactly, NotFoundExactly}
+use Rattle.history.specs.Promise.{reachedBy, StateAskExactly, AskedLeaves, AddressExactly, NotHeldExactly, UnfinishedExactly, LocatedExactly, CoreShown, ReadExactly, NamesRead, FoundExactly, NotFoundExactly}
 use Rattle.history.specs.laws.Samples.{computing, small, pair}
-use Rattle.history.specs.laws.Trials.{core, none, one, waiting, namedWaiting, named, spoilt, crossed, withCounts, recounted-bytes, recounted, damaged, is-damaged, uneven, doubted, foundSlot, locatedNumber, askedNumber, askedLength, soughtNumber, locatingBy, showingBy, tellingBy, namingBy, findingBy, askingBy}
+use Rattle.history.specs.laws.Trials.{core, fiveAgain, fiveSpoilt, readAgain, none, one, waiting, namedWaiting, named, spoilt, crossed, withCounts, recounted-bytes, recounted, damaged, is-damaged, uneven, doubted, foundSlot, locatedNumber, askedNumber, askedLength, soughtNumber, locatingBy, showingBy, tellingBy, namingBy, findingBy, addressingBy, askingBy}
 use Rattle.history.specs.laws.Call.{defined}
 
 -- ---- in a damaged state
@@ -347,3 +352,31 @@ unfolding computing small
 slash-kept-breaks p =
     let m = run-answered named .found (0x2F ∷ 0x61 ∷ []) 5 .0 refl in
     p named (0x2F ∷ 0x61 ∷ []) .0 refl 5 (m .object) (m .finished) (m .named)
+
+-- ---- the end user address of a group
+
+-- it starts a byte late
+abbrev lateIn : WireReading → List ℕ → List ℕ
+lateIn (Read carried) bytes = part bytes (carried .«address_start» + 1) (carried .«address_length»)
+lateIn (Refused why) bytes = []
+
+abbrev pub addressesLate : List ℕ → State → List ℕ
+addressesLate bytes s = lateIn (readingOf bytes) bytes
+
+pub addresses-late-breaks : ¬ (AddressExactly (addressingBy addressesLate))
+unfolding computing small
+addresses-late-breaks p =
+    let e : _≡_ {A = ℕ} 0xB2 0xA1 = ap (λ (l : List ℕ). getD l 0 0)
+    (p fiveAgain (reachedBy defined one) .0 readAgain refl) in
+    absurd (omega arith)
+
+-- it is given of a group whose check word is wrong, too
+abbrev pub addressesUnread : List ℕ → State → List ℕ
+addressesUnread bytes s = part bytes (endUserAddress bytes) (endUserAddressLength bytes)
+
+pub addresses-unread-breaks : ¬ (AddressExactly (addressingBy addressesUnread))
+unfolding computing small
+addresses-unread-breaks p =
+    let e : _≡_ {A = ℕ} 2 0 = ap (λ (l : List ℕ). length l)
+    (p fiveSpoilt (reachedBy defined one) .1 BadCheck refl) in
+    absurd (omega arith)

@@ -13,7 +13,7 @@ use Rattle.answer.specs.declared.Part.the-variants.{Header, Body}
 use Rattle.counts.specs.Counted.{noneYet, risen, within}
 use Rattle.wire.specs.declared.Carried.{Carried}
 use Rattle.wire.specs.declared.Reading.the-variants.{Read}
-use Rattle.wire.specs.Reading.{kindOf, checkHolds, sizeWrong, segmentOf, readingOf}
+use Rattle.wire.specs.Reading.{kindOf, checkHolds, sizeWrong, segmentOf, readingOf, addressOf}
 use Rattle.cut.specs.laws.Lists.{bytes-zeros}
 use Rattle.cut.specs.Requirement.{bodySize, headerSize, contentType, contentSubType, Segment}
 use Rattle.cut.specs.Decision.{boundsOf, coreFits, room, largest, alone, settle}
@@ -79,7 +79,7 @@ unfolding parameters name findByName nameData hasName holdsName holderIn lowestF
     soundPart recordRight takeInto decided slotWith sameSegment stageOf partsWith recordWithin recordWith takesIn fitsIn
     coreIn lentOf partsOf
     put settled segmentAt possibleIn settle alone largest room coreFits boundsOf headerSize bodySize within
-    risen largestOf equal zeros over readingOf kindOf checkHolds sizeWrong segmentOf checkWord divided bitsEntered
+    risen largestOf equal zeros over readingOf addressOf kindOf checkHolds sizeWrong segmentOf checkWord divided bitsEntered
     entered step
 computing = tt
 

@@ -16,7 +16,8 @@ use Rattle.counts.specs.Counted.{ceiling, noneYet, within}
 use Rattle.wire.specs.declared.Carried.{Carried}
 use Rattle.wire.specs.declared.Reading.{Reading}
 use Rattle.wire.specs.declared.Reading.the-variants.{Read}
-use Rattle.wire.specs.Reading.{readingOf}
+use Rattle.wire.specs.Ignored.{SameButIgnored}
+use Rattle.wire.specs.Reading.{checkHolds, readingOf}
 use Rattle.cut.specs.Requirement as cut
 use Rattle.cut.specs.Requirement.{bodySize, headerSize, Segment, Fits, Finished}
 use Rattle.cut.specs.laws.Segment.{Numbered}
@@ -162,15 +163,56 @@ abbrev pub broken : List ℕ
 broken = 0x73 ∷ 0x00 ∷ 0x80 ∷ 0x00 ∷ 0x12 ∷ 0x00 ∷ 0x05 ∷ 0x00 ∷ 0x0B ∷ 0x00 ∷ 0x00 ∷ 0x00 ∷ 0x00 ∷ 0x05 ∷ 0x84 ∷ 0x01
     ∷ 0xCC ∷ 0x05 ∷ 0x40 ∷ 0x61 ∷ 0x2C ∷ 0xDF ∷ []
 
+-- the segment of `five` again, with other indices and another repetition count and for some end user; and that group
+-- with a bit turned over on the way
+abbrev pub fiveAgain : List ℕ
+fiveAgain = 0x73 ∷ 0x3A ∷ 0x80 ∷ 0x00 ∷ 0x14 ∷ 0x00 ∷ 0x05 ∷ 0xA1 ∷ 0xB2 ∷ 0xA0 ∷ 0x07 ∷ 0x00 ∷ 0x00 ∷ 0x00 ∷ 0x00
+    ∷ 0x03 ∷ 0x84 ∷ 0x01 ∷ 0xD2 ∷ 0x0B ∷ []
+
+abbrev pub fiveSpoilt : List ℕ
+fiveSpoilt = 0x73 ∷ 0x3A ∷ 0x80 ∷ 0x00 ∷ 0x14 ∷ 0x00 ∷ 0x05 ∷ 0xA1 ∷ 0xB2 ∷ 0xA0 ∷ 0x07 ∷ 0x00 ∷ 0x00 ∷ 0x00 ∷ 0x00
+    ∷ 0x03 ∷ 0x84 ∷ 0x00 ∷ 0xD2 ∷ 0x0B ∷ []
+
+abbrev pub readAgain : Carried
+readAgain = record {
+  number = 5;
+  part = Header;
+  segment = 0;
+  last = true;
+  start = 11;
+  length = 7;
+  repetition = record { index = 10; continuity = 3; count = 5 };
+  «address_start» = 7;
+  «address_length» = 2;
+}
+
+pub sent-again : SameButIgnored five fiveAgain × (checkHolds fiveAgain ≡ true) × Bytes fiveAgain
+unfolding computing
+sent-again = (
+  record {
+    flags = refl;
+    last = refl;
+    number = refl;
+    addressed = refl;
+    indicated = omega arith;
+    transport = refl;
+    size = refl;
+    bytes = refl;
+    long = refl;
+  },
+  refl,
+  omega arith,
+)
+
 -- a group of another kind, its check word wrong
 abbrev pub otherKind : List ℕ
 otherKind = 0x75 ∷ 0x00 ∷ 0x15 ∷ 0x5D ∷ []
 
 pub reads : (readingOf five ≡ Read (readAs 5 Header 0 true 7)) × (readingOf six ≡ Read (readAs 6 Header 0 true 7))
     × (readingOf short ≡ Read (readAs 5 Header 0 true 6)) × (readingOf bodyLast ≡ Read (readAs 5 Body 1 true 4))
-    × (readingOf emptyFive ≡ Read (readAs 5 Body 0 true 0))
+    × (readingOf emptyFive ≡ Read (readAs 5 Body 0 true 0)) × (readingOf fiveAgain ≡ Read readAgain)
 unfolding computing
-reads = (refl, refl, refl, refl, refl)
+reads = (refl, refl, refl, refl, refl, refl)
 
 abbrev passing : (bytes : List ℕ) (carried : Carried) → Bytes bytes → readingOf bytes ≡ Read carried → Passing
 passing bytes carried y e = record {
@@ -194,6 +236,9 @@ groupLast = passing bodyLast (readAs 5 Body 1 true 4) (omega arith) (reads .3)
 
 unfoldable pub groupEmpty : Passing
 groupEmpty = passing emptyFive (readAs 5 Body 0 true 0) (omega arith) (reads .4)
+
+unfoldable pub groupAgain : Passing
+groupAgain = passing fiveAgain readAgain (sent-again .2) (reads .5)
 
 -- ---- the runs, in one slot
 

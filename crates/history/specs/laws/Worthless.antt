@@ -14,7 +14,9 @@ use Rattle.octets.specs.Octets.{zeros}
 use Rattle.answer.specs.declared.Answer.{Answer}
 use Rattle.answer.specs.declared.Part.{Part}
 use Rattle.answer.specs.declared.Part.the-variants.{Header, Body}
-use Rattle.answer.specs.Table.{numberOf}
+use Rattle.answer.specs.declared.Returned.{Returned}
+use Rattle.answer.specs.declared.Returned.the-variants as Returned
+use Rattle.answer.specs.Table.{numberOf, returnedWith}
 use Rattle.answer.specs.declared.Answer.the-variants as Answer
 use Rattle.answer.specs.declared.Reason.the-variants as Reason
 use Rattle.answer.specs.declared.Refusal.the-variants as Refusal
@@ -44,15 +46,15 @@ use Rattle.slots.specs.Alone.{fitsAlone}
 use Rattle.collector.specs.declared.Located.the-variants as Located
 use Rattle.collector.specs.State.{Start, Opened, Reply, State, allFree, find, free}
 use Rattle.collector.specs.Calls.{dropNumber, intoFree, locate, openWith, takeGroup, answering, sound, withSlots}
-use Rattle.collector.specs.Arrival.{arrivalIn, heardIn, segmentIn}
+use Rattle.collector.specs.Arrival.{noRepetition, arrivalIn, heardIn, segmentIn}
 use Rattle.history.specs.Handed.{group}
 use Rattle.history.specs.Held.{limitOf, slotOf, stageFor}
 use Rattle.history.specs.History.{Question, drop, ask, Collecting, told, under}
 use Rattle.history.specs.laws.Stage.{none-finished}
 use Rattle.history.specs.laws.Demands.{run-answered, finished-lengths}
-use Rattle.history.specs.Promise.{Run, reachedBy, toldBy, stored, segmentOf, heardOf, repetitionOf, since, answerTo, StoredFrom, cameUnder, between, answersFrom, RefusedLeaves, NeverState, OthersLeave, ShownJoined, UnfinishedUnshown, CountsTold, ConflictExactly, FullExactly, RepeatExactly, CompleteExactly, StoredExactly, LateStored, LowestFreeTaken, UnreadRefused, DropExactly, UnheldExactly, NoneFreeExactly, FinishedExactly, FinishedLengths, OneCutAgrees, OneCutFinishes}
+use Rattle.history.specs.Promise.{Run, reachedBy, toldBy, stored, segmentOf, heardOf, repetitionOf, since, answerTo, StoredFrom, cameUnder, between, answersFrom, RefusedLeaves, NeverState, OthersLeave, ShownJoined, UnfinishedUnshown, CountsTold, ConflictExactly, FullExactly, RepeatExactly, ResentRepeats, CompleteExactly, StoredExactly, LateStored, LowestFreeTaken, UnreadRefused, DropExactly, UnheldExactly, NoneFreeExactly, FinishedExactly, FinishedLengths, OneCutAgrees, OneCutFinishes}
 use Rattle.history.specs.laws.Samples.{computing, small, pair, bodyLast, bodyFirst, header, readAs, object, oneCut, sent-one, all-sent}
-use Rattle.history.specs.laws.Trials.{core, whole, finished-core, fits-empty, single, six, otherKind, groupFive, groupSix, groupShort, groupLast, groupEmpty, none, one, two, dropped, again, many, later, empty, twice, withCounts, foundSlot, openingBy, takingBy, droppingBy, showingBy, askingBy}
+use Rattle.history.specs.laws.Trials.{core, whole, finished-core, fits-empty, single, five, six, fiveAgain, readAgain, sent-again, reads, otherKind, groupFive, groupSix, groupShort, groupLast, groupEmpty, groupAgain, none, one, two, dropped, again, many, later, empty, twice, withCounts, foundSlot, openingBy, takingBy, droppingBy, showingBy, askingBy}
 use Rattle.history.specs.laws.Call.{defined}
 
 -- ---- what cannot be the same
@@ -664,3 +666,63 @@ unfolding computing small
 length-for-all-breaks p =
     let e : _≡_ {A = ℕ} 10 12 = ap numberOf (p none otherKind Refusal.BadCheck refl) in
     absurd (omega arith)
+
+-- ---- what the sender meant by a repeat
+
+-- the repetition index that an answer passes up
+abbrev indexIn : Returned → ℕ
+indexIn (Returned.Sent heard repetition) = repetition .index
+indexIn (Returned.Segment heard) = 0
+indexIn (Returned.Number number) = 0
+indexIn Returned.Nothing = 0
+
+abbrev indexWith : Answer → ℕ
+indexWith answer = indexIn (returnedWith answer)
+
+-- a REPEAT is answered as somebody likes
+abbrev repeatAs : (Carried → Answer) → Reading → Answer → Answer
+repeatAs say (Read carried) answer = pick (eqb (numberOf answer) 2) (say carried) answer
+repeatAs say (Refused why) answer = answer
+
+abbrev repeatsBy : (Carried → Answer) → List ℕ → State → Reply
+repeatsBy say bytes s = renamed (repeatAs say (readingOf bytes) (takeGroup bytes s .answer)) bytes s
+
+-- with the two indices swapped
+abbrev pub swapsIndices : List ℕ → State → Reply
+swapsIndices = repeatsBy λ carried. Answer.Repeat (heardIn carried) (record {
+  index = carried .repetition .continuity;
+  continuity = carried .repetition .index;
+  count = carried .repetition .count;
+})
+
+pub swaps-indices-breaks : ¬ (RepeatExactly (takingBy swapsIndices))
+unfolding computing small groupAgain
+swaps-indices-breaks p =
+    let e : _≡_ {A = ℕ} 3 10 = ap indexWith (p one groupAgain .1 (inl refl)) in
+    absurd (omega arith)
+
+-- a segment that is sent again with other numbers and for some end user
+resent-breaks : (k : Collecting) (n : ℕ) (about : Answer → ℕ) → stored k one Header 5 ≡ whole ∷ []
+    → about (k .takes (group fiveAgain) (reachedBy k one) .answer) ≡ n
+    → about (Answer.Repeat (heardIn readAgain) (readAgain .repetition)) ≢ n → ¬ (ResentRepeats k)
+unfolding small
+resent-breaks k n about e a x p =
+    x (sym (ap about (p one five fiveAgain (readAs 5 Header 0 true 7) (sent-again .2) (reads .0)
+    (rw e (inl refl)) (sent-again .0) (sent-again .1))) ∙ a)
+
+-- the numbers are forgotten
+abbrev pub forgetsNumbers : List ℕ → State → Reply
+forgetsNumbers = repeatsBy λ carried. Answer.Repeat (heardIn carried) noRepetition
+
+pub forgets-numbers-breaks : ¬ (ResentRepeats (takingBy forgetsNumbers))
+unfolding computing small
+forgets-numbers-breaks = resent-breaks (takingBy forgetsNumbers) 0 indexWith refl refl (λ e. absurd (omega arith))
+
+-- CONFLICT for a repeat that says that it is to be sent again
+abbrev pub conflictsResent : List ℕ → State → Reply
+conflictsResent = repeatsBy λ carried. pick (eqb (carried .repetition .index) 0)
+    (Answer.Repeat (heardIn carried) (carried .repetition)) (Answer.Conflict (heardIn carried))
+
+pub conflicts-resent-breaks : ¬ (ResentRepeats (takingBy conflictsResent))
+unfolding computing small
+conflicts-resent-breaks = resent-breaks (takingBy conflictsResent) 17 numberOf refl refl (λ e. absurd (omega arith))
