@@ -1,3 +1,4 @@
 pub mod Exports
 pub mod Reaches
 pub mod Retired
+pub mod Told

@@ -88,7 +88,7 @@ pub sent-by : (heard : Heard) (repetition : Repetition) → (returnedWith (Store
     × (returnedWith (Repeat heard repetition) ≡ Sent heard repetition)
 sent-by heard repetition = (refl, refl, refl)
 
-unsent-refusal : (refusal : Refusal) (heard : Heard) (repetition : Repetition)
+pub unsent-refusal : (refusal : Refusal) (heard : Heard) (repetition : Repetition)
     → refusalRow refusal .returned ≢ Sent heard repetition
 unsent-refusal Length heard repetition e = let z : _≡_ {A = ℕ} 0 1 = cc in omega arith
 unsent-refusal NoCheck heard repetition e = let z : _≡_ {A = ℕ} 0 1 = cc in omega arith

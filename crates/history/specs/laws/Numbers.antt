@@ -1,15 +1,13 @@
 -- After any run each slot's transport number has 16 bits, as every one that is read off a group has.
 use mathlib.Core.Path.{_≡_, refl, subst}
 use mathlib.Core.List.{List, [], _∷_}
-use Prim.Native.Nat.{ℕ, zero, suc, _+_, _*_, _<_}
+use Prim.Native.Nat.{ℕ, zero, suc, _<_}
 use native.Mathlib.Omega.{arith}
 use lib.ListN.{getD, set, replicate}
-use Rattle.wire.specs.declared.Carried.{Carried}
 use Rattle.wire.specs.declared.Reading.{Reading}
 use Rattle.wire.specs.declared.Reading.the-variants.{Read, Refused}
-use Rattle.wire.specs.Wire.{byteAt, userAccess}
-use Rattle.wire.specs.Reading.{segmentOf, readingOf}
-use Rattle.wire.specs.laws.Theorems.{read-passes}
+use Rattle.wire.specs.Reading.{readingOf}
+use Rattle.wire.specs.laws.Theorems.{narrow}
 use Rattle.cut.specs.Lists.{Each, Bytes}
 use Rattle.object.specs.declared.Slot.{Slot}
 use Rattle.slots.specs.declared.Found.{Found}
@@ -37,18 +35,6 @@ byte-low [] i y = omega arith
 byte-low (x ∷ l) zero y = y .0
 byte-low (x ∷ l) (suc i) y = byte-low l i (y .1)
 
-word-low : (a b : ℕ) → a < 256 → b < 256 → a * 256 + b < 65536
-word-low a b h g = omega arith
-
-carried-low : (bytes : List ℕ) (carried : Carried) → Bytes bytes → readingOf bytes ≡ Read carried
-    → Sixteen (carried .number)
-unfolding segmentOf
-carried-low bytes carried y e =
-    let r = read-passes bytes carried e in
-    subst (λ (c : Carried). Sixteen (c .number)) (r .2)
-    (word-low (byteAt bytes (userAccess bytes + 1)) (byteAt bytes (userAccess bytes + 1 + 1))
-    (byte-low bytes (userAccess bytes + 1) y) (byte-low bytes (userAccess bytes + 1 + 1) y))
-
 brought-low : (given : Handed) (arrived : Arrival) → HandedBytes given → broughtBy given ≡ arrives arrived
     → Sixteen (arrived .number)
 brought-low (group bytes) arrived y e = go (readingOf bytes) refl e
@@ -58,7 +44,7 @@ brought-low (group bytes) arrived y e = go (readingOf bytes) refl e
     go (Refused why) r f = let z : _≡_ {A = ℕ} 0 1 = cc in absurd (omega arith)
     go (Read carried) r f =
         let same : arrivalIn bytes carried ≡ arrived = cc in
-        subst (λ (a : Arrival). Sixteen (a .number)) same (carried-low bytes carried y r)
+        subst (λ (a : Arrival). Sixteen (a .number)) same (narrow bytes carried (λ at. byte-low bytes at y) r .number)
 brought-low (segment heard last bytes) arrived y e =
     let same : byItself heard last bytes ≡ arrived = cc in
     subst (λ (a : Arrival). Sixteen (a .number)) same (y .1)

@@ -3,7 +3,7 @@
 use mathlib.Core.Path.{_≡_, refl, sym, ap, _∙_, subst}
 use mathlib.Core.Bool.{Bool, true, false, not, _||_, _&&_}
 use mathlib.Core.List.{List, []}
-use Prim.Native.Nat.{ℕ, zero, suc, _+_, _-_, _≤_, _<_}
+use Prim.Native.Nat.{ℕ, zero, suc, _+_, _-_, _*_, _≤_, _<_}
 use native.Mathlib.Omega.{arith}
 use lib.ListN.{length, take, drop}
 use lib.Dec.{eqb, ltb}
@@ -16,7 +16,7 @@ use Rattle.wire.specs.declared.Kind.the-variants.{Carries, Other}
 use Rattle.wire.specs.declared.Carried.{Carried}
 use Rattle.wire.specs.declared.Reading.{Reading}
 use Rattle.wire.specs.declared.Reading.the-variants.{Read, Refused}
-use Rattle.wire.specs.Wire.{groupLeast, groupMost, segmentLeast, segmentMost, fullLeast, checkBytes, byteAt, crcFlag, segmentFlag, userAccessFlag, typeNumber, lastFlag, segmentNumber, userAccess, transportFlag, lengthIndicator, transportNumber, segmentSize, segmentStart, checkStart, endUserAddress, endUserAddressLength}
+use Rattle.wire.specs.Wire.{groupLeast, groupMost, segmentLeast, segmentMost, fullLeast, checkBytes, byteAt, crcFlag, segmentFlag, userAccessFlag, typeNumber, lastFlag, segmentNumber, userAccess, transportFlag, lengthIndicator, transportNumber, segmentationHeader, segmentSize, segmentStart, checkStart, endUserAddress, endUserAddressLength}
 use Rattle.wire.specs.Ignored.{SameButIgnored, SameSegment}
 use Rattle.wire.specs.Reading.{_if_otherwise_, kindOf, checkHolds, leastSize, sizeWrong, repetitionIn, segmentOf, carriedBy, readingOf, addressOf}
 
@@ -191,6 +191,40 @@ pub inside : (group : List ℕ) (segment : Carried) → readingOf group ≡ Read
 inside group segment e =
     let read = read-passes group segment e in
     subst (Inside group) (read .2) (inside-passes group (read .0) (read .1))
+
+-- ---- how large the numbers are
+
+-- a transport number has 16 bits, a segment number 15, each index four and the repetition count three
+pub record Narrow (carried : Carried) : Type 0 where
+  pub number : carried .number < 0x10000
+  pub segment : carried .segment < 0x8000
+  pub index : carried .repetition .index < 0x10
+  pub continuity : carried .repetition .continuity < 0x10
+  pub count : carried .repetition .count < 8
+
+word-low : (a b : ℕ) → a < 0x100 → b < 0x100 → a * 0x100 + b < 0x10000
+word-low a b h g = omega arith
+
+narrow-read : (group : List ℕ) (part : Part) → ((at : ℕ) → byteAt group at < 0x100) → Narrow (segmentOf group part)
+unfolding segmentOf
+narrow-read group part low = record {
+  number = word-low (byteAt group (userAccess group + 1)) _ (low (userAccess group + 1)) (low (userAccess group + 1 + 1));
+  segment = omega arith;
+  index = omega arith;
+  continuity = omega (arith, low 1);
+  count = omega (
+    arith,
+    word-low (byteAt group (segmentationHeader group)) _ (low (segmentationHeader group))
+        (low (segmentationHeader group + 1)),
+  );
+}
+
+-- of a group of bytes
+pub narrow : (group : List ℕ) (carried : Carried) → ((at : ℕ) → byteAt group at < 0x100) → readingOf group ≡ Read carried
+    → Narrow carried
+narrow group carried low e =
+    let read = read-passes group carried e in
+    subst Narrow (read .2) (narrow-read group (read .0) low)
 
 -- ---- what is ignored
 
