@@ -4,8 +4,11 @@
 use crate::repository::{Item, Repository};
 
 /// What is promised. Of a file with no names behind it all that stands in it, of another what is named.
-const PROMISED: [(&str, &[&str]); 9] = [
-    ("crates/answer/specs/laws/Table.antt", &["never-retired"]),
+const PROMISED: [(&str, &[&str]); 10] = [
+    (
+        "crates/answer/specs/laws/Table.antt",
+        &["never-retired", "sent-by", "sent-only"],
+    ),
     ("crates/collector/specs/laws/Outcome.antt", &[]),
     ("crates/history/specs/Promise.antt", &[]),
     ("crates/history/specs/Ours.antt", &[]),
@@ -27,6 +30,10 @@ const PROMISED: [(&str, &[&str]); 9] = [
         "crates/yovtirak/specs/laws/Retired.antt",
         &["opened-never", "returned-never"],
     ),
+    (
+        "crates/yovtirak/specs/laws/Told.antt",
+        &["taken-told", "address-there"],
+    ),
     ("crates/listing/specs/laws/Theorems.antt", &["lines-done"]),
 ];
 
@@ -35,7 +42,8 @@ pub const WORDS: &str = "crates/history/specs/Promise.antt";
 
 /// The crates whose public functions are called from outside. What a listing writes has no contract
 /// but that of the crates which read its lines and lay them out, so theirs count too.
-const CALLED: [&str; 7] = [
+const CALLED: [&str; 8] = [
+    "wire",
     "collector",
     "queries",
     "lent_calls",

@@ -2,16 +2,20 @@
 -- just as the one before left them. The latest call comes first, as in a history of the collector.
 use mathlib.Core.Path.{_≡_}
 use mathlib.Core.List.{List, [], _∷_}
-use Prim.Native.Nat.{ℕ, _*_}
+use Prim.Native.Nat.{ℕ, _*_, _/_, _%_}
 use lib.ListN.{length}
+use Rattle.answer.specs.declared.Answer.{Answer}
+use Rattle.answer.specs.declared.Heard.{Heard}
 use Rattle.answer.specs.declared.Part.the-variants.{Header, Body}
+use Rattle.answer.specs.declared.Repetition.{Repetition}
+use Rattle.answer.specs.Table.{numberOf}
 use Rattle.slots.specs.Stores.{Stores}
 use Rattle.collector.specs.State.{State, Start}
 use Rattle.history.specs.Handed.{Handed}
 use Rattle.history.specs.History.{Question, Call, hand, ask, reached}
 use Rattle.history.specs.Ours.{ours}
 use Rattle.layout.specs.Layout.{countsFrom, collectorFrom, wordsOf, countWords}
-use Rattle.yovtirak.specs.Exports.{Called, held, answerWord, openCall, takeCall, dropCall, Told, placeTold, finishedCall, fieldsTold, readCall, soughtWord, findCall, addressWord, addressCall}
+use Rattle.yovtirak.specs.Exports.{Called, held, partWord, answerWord, openCall, takeCall, dropCall, Told, placeTold, finishedCall, fieldsTold, readCall, soughtWord, findCall, addressWord, addressCall}
 use Rattle.octets.specs.Octets.{part}
 use Rattle.wire.specs.Reading.{readingOf}
 use Rattle.cut.specs.Lists.{Bytes}
@@ -120,6 +124,16 @@ pub record Place (number : ℕ) (state counts : List ℕ) (stores : Stores) (pla
       ≡ part (stores .header) (slot * headerMost) header
   pub bodyThere : ours .shows number Body (held state counts stores)
       ≡ part (stores .body) (slot * collectorFrom state .limit) body
+
+-- what the shifts and masks of `yovtirak_reply_of` take out of a word
+pub record Tells (word : ℕ) (answer : Answer) (heard : Heard) (repetition : Repetition) : Type 0 where
+  pub answered : word % 256 ≡ numberOf answer
+  pub which : word / 256 % 256 ≡ partWord (heard .part)
+  pub number : word / 65536 % 65536 ≡ heard .number
+  pub segment : word / 4294967296 % 65536 ≡ heard .segment
+  pub index : word / 281474976710656 % 16 ≡ repetition .index
+  pub continuity : word / 4503599627370496 % 16 ≡ repetition .continuity
+  pub count : word / 72057594037927936 % 8 ≡ repetition .count
 
 -- the words and the lent memory are those of a state
 pub record Words (l : Lent) (s : State) : Type 0 where

@@ -32,7 +32,8 @@ use Rattle.history.specs.Ours.{ours}
 use Rattle.history.specs.laws.Answers.{came-named}
 use Rattle.history.specs.laws.Call.{handed-damaged, unread, came}
 use Rattle.history.specs.laws.Numbers.{byte-low}
-use Rattle.yovtirak.specs.Exports.{partWord, repetitionWord, heardWord, answerWord, addressWord, addressCall}
+use Rattle.yovtirak.specs.Exports.{repetitionWord, heardWord, answerWord, addressWord, addressCall}
+use Rattle.yovtirak.specs.Heads.{Tells}
 use Rattle.yovtirak.specs.laws.Exports.{part-small}
 
 -- ---- an answer's word
@@ -45,16 +46,6 @@ record Small (heard : Heard) (repetition : Repetition) : Type 0 where
   continuity : repetition .continuity < 16
   count : repetition .count < 8
 
--- what the shifts and masks of `yovtirak_reply_of` take out of a word
-pub record Tells (word : ℕ) (answer : Answer) (heard : Heard) (repetition : Repetition) : Type 0 where
-  pub answered : word % 256 ≡ numberOf answer
-  pub part : word / 256 % 256 ≡ partWord (heard .part)
-  pub number : word / 65536 % 65536 ≡ heard .number
-  pub segment : word / 4294967296 % 65536 ≡ heard .segment
-  pub index : word / 281474976710656 % 16 ≡ repetition .index
-  pub continuity : word / 4503599627370496 % 16 ≡ repetition .continuity
-  pub count : word / 72057594037927936 % 8 ≡ repetition .count
-
 word-tells : (answer : Answer) (heard : Heard) (repetition : Repetition) → Small heard repetition
     → Tells (numberOf answer + (heardWord heard + repetitionWord repetition)) answer heard repetition
 word-tells answer heard repetition m =
@@ -62,7 +53,7 @@ word-tells answer heard repetition m =
     let p = part-small (heard .part) in
     record {
       answered = omega (arith, n, p);
-      part = omega (arith, n, p);
+      which = omega (arith, n, p);
       number = omega (arith, n, p, m .number);
       segment = omega (arith, n, p, m .number, m .segment);
       index = omega (arith, n, p, m .number, m .segment, m .index);
