@@ -1,8 +1,9 @@
 -- A history of each kind of answer, computed: document 01's example in a collector of one slot, with a group under
 -- another number, a conflict and each question. It meets all that the promises ask, and a part of it comes from one
--- cut of one object. And a text card with nothing in it, document 02, Item 2, its empty segment before and after its
--- header.
+-- cut of one object. A text card with nothing in it, document 02, Item 2, its empty segment before and after its
+-- header. And a segment that comes by itself, then in a group whose sender says something of repeats, Item 6.
 use mathlib.Core.Path.{_≡_, refl}
+use mathlib.Core.Bool.{true}
 use mathlib.Core.List.{List, [], _∷_}
 use Prim.Native.Nat.{ℕ}
 use native.Mathlib.Omega.{arith}
@@ -24,14 +25,14 @@ use Rattle.queries.specs.declared.Asked.the-variants as Asked
 use Rattle.queries.specs.declared.Sought.the-variants as Sought
 use Rattle.collector.specs.Calls.{show}
 use Rattle.collector.specs.Arrival.{noRepetition}
-use Rattle.history.specs.Handed.{group}
-use Rattle.history.specs.History.{Question, Call, hand, drop, ask, CallBytes, shown, read, named, found, handed, dropped, asked, told}
+use Rattle.history.specs.Handed.{group, segment}
+use Rattle.history.specs.History.{Question, Call, hand, drop, ask, CallBytes, shown, read, named, found, addressed, handed, dropped, asked, told}
 use Rattle.history.specs.Ours.{ours}
 use Rattle.history.specs.Held.{stageFor}
 use Rattle.history.specs.Promise.{Run, reachedBy, since, StoredFrom, cameUnder}
 use Rattle.history.specs.laws.Promises.{promised}
 use Rattle.history.specs.laws.Samples.{bodyLast, bodyFirst, bodyNotLast, header, otherNumber, computing, small, allowed, object, oneCut, of-bytes-one, sent-one, all-sent}
-use Rattle.history.specs.laws.Trials.{five, emptyFive}
+use Rattle.history.specs.laws.Trials.{core as coreOnly, five, fiveAgain, emptyFive}
 
 -- ---- every kind of answer
 
@@ -83,7 +84,7 @@ abbrev inHeader : ℕ → Heard
 inHeader number = record { number = number; part = Header; segment = 0 }
 
 abbrev inBody : ℕ → Heard
-inBody segment = record { number = 5; part = Body; segment = segment }
+inBody at = record { number = 5; part = Body; segment = at }
 
 -- what its header says
 abbrev core : Fields
@@ -116,6 +117,17 @@ pub answers : told ours small calls
     ∷ []
 unfolding computing small
 answers = refl
+
+-- ---- what the sender meant by a repeat
+
+pub repeat-meant : told ours small
+    (ask (Question.address fiveAgain) ∷ hand (group fiveAgain) ∷ hand (segment (inHeader 5) true coreOnly) ∷ [])
+    ≡ asked (Question.address fiveAgain) (addressed (0xA1 ∷ 0xB2 ∷ []))
+    ∷ handed (group fiveAgain) (Answer.Repeat (inHeader 5) (record { index = 10; continuity = 3; count = 5 }))
+    ∷ handed (segment (inHeader 5) true coreOnly) (Answer.Complete (inHeader 5) noRepetition)
+    ∷ []
+unfolding computing small
+repeat-meant = refl
 
 -- ---- a card of no text
 
