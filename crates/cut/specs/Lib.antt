@@ -3,4 +3,5 @@ pub mod Requirement
 pub mod Parts
 pub mod Decision
 pub mod Sums
+pub mod Missing
 pub mod laws

@@ -11,3 +11,5 @@ pub mod Known
 pub mod Marks
 pub mod Cases
 pub mod Sums
+pub mod Missing
+pub mod Arrived

@@ -39,3 +39,9 @@ pub struct Record {
     pub end: usize,
     pub tail: usize,
 }
+
+// A number of bytes, once it is known.
+pub enum Amount {
+    Unknown,
+    Known(u32),
+}

@@ -113,7 +113,7 @@ bytes-step true n s ss xs S e u r i = sent-holds xs S s u
 bytes-step false n s ss xs S e u r (inl i) = absurd (eqb-false (s .number) n e i)
 bytes-step false n s ss xs S e u r (inr i) = r i
 
-bytes-in : (n : ℕ) (ss : List Segment) (xs : List ℕ) (S : ℕ) → Each (Sends xs S) ss → Numbered n ss → bytesOf n ss
+pub bytes-in : (n : ℕ) (ss : List Segment) (xs : List ℕ) (S : ℕ) → Each (Sends xs S) ss → Numbered n ss → bytesOf n ss
     ≡ take S (drop (n * S) xs)
 bytes-in n [] xs S t i = absurd i
 bytes-in n (s ∷ ss) xs S t i = bytes-step (eqb (s .number) n) n s ss xs S refl (t .0) (bytes-in n ss xs S (t .1)) i
