@@ -15,8 +15,9 @@ fn octet(bytes: &[u8], at: usize) -> u32
     0
 }
 
+// It has 28 bits.
 pub fn body_size(bytes: &[u8]) -> u32
-    ensures { λ r. ⌜ r ≡ bodySize (now (bytes .entry)) ⌝ }
+    ensures { λ r. ⌜ (r ≡ bodySize (now (bytes .entry))) × (r < 268435456) ⌝ }
 {
     octet(bytes, 0) * 0x100000
         + octet(bytes, 1) * 0x1000

@@ -2,7 +2,7 @@
 -- last segment when that is number 0 or S is known; otherwise the bytes of header and body that have not arrived.
 use mathlib.Core.Bool.{Bool, true, false}
 use mathlib.Core.List.{List, [], _∷_}
-use Prim.Native.Nat.{ℕ, zero, suc, _+_, _-_, _*_, _/_, _≤_}
+use Prim.Native.Nat.{ℕ, zero, suc, _+_, _-_, _*_, _/_, _≤_, _<_}
 use lib.Dec.{eqb}
 use lib.ListN.{length}
 use Rattle.answer.specs.declared.Part.{Part}
@@ -104,6 +104,11 @@ missingBy core h p b q =
     lacking (lengthKept Header core p) (lengthKept Body core q) (arrivedKept h p + arrivedKept b q)
 
 -- ---- what the code asks
+
+-- the sizes that header segment 0 says have the widths of their fields
+abbrev pub Narrow : Core → Type 0
+Narrow Unseen = Unit {0}
+Narrow (Seen body header) = (body < 0x10000000) × (header < 0x10000)
 
 -- a record's numbers are those of some part
 pub record Small (p : Record) : Type 0 where

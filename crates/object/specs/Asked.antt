@@ -72,4 +72,5 @@ pub record Fitting (tally : Tally) (part : Part) (limit : ℕ) (core : Core) (s 
   pub bits : largestOf (lent .marks) ≤ 1
   pub unmarked : getD (marksOf part (lent .marks)) (s .number) 0 ≡ 0
   pub said : core ≡ coreWith part s (coreIn (partsOf slot lent .header))
+  pub sound : soundParts limit (slot .stage) (partsOf slot lent) ≡ true
   pub fits : takesIn part limit s (partsOf slot lent) ≡ true

@@ -1,5 +1,5 @@
 -- The two parts of an object in a slot and its shares: what is lent, what is kept of each part, what header segment 0
--- says, and the stage that follows.
+-- says, and the stage and the number of bytes still to come that follow.
 use mathlib.Core.Bool.{Bool, true, false}
 use mathlib.Core.List.{List, _++_}
 use Prim.Native.Nat.{ℕ}
@@ -9,10 +9,12 @@ use Rattle.octets.specs.Octets.{sumOf}
 use Rattle.answer.specs.declared.Part.{Part}
 use Rattle.answer.specs.declared.Part.the-variants.{Header, Body}
 use Rattle.cut.specs.Requirement.{headerNumbers, bodySize, headerSize}
+use Rattle.cut.specs.declared.Amount.{Amount}
 use Rattle.cut.specs.declared.Record.{Record}
 use Rattle.cut.specs.declared.Core.{Core}
 use Rattle.cut.specs.declared.Core.the-variants.{Unseen, Seen}
 use Rattle.cut.specs.Decision.{finished}
+use Rattle.cut.specs.Missing.{missingBy}
 use Rattle.cut.specs.Lists.{pick}
 use Rattle.part.specs.Memory.{Memory, memory}
 use Rattle.object.specs.declared.Slot.{Slot}
@@ -48,11 +50,15 @@ shareIn Body header body = body
 abbrev pub shareOf : Part → Lent → List ℕ
 shareOf part lent = shareIn part (lent .header) (lent .body)
 
-unfoldable pub partsOf : Slot → Lent → Parts
-partsOf slot lent = record {
-  header = memory (slot .header) (marksOf Header (lent .marks)) (lent .header);
-  body = memory (slot .body) (marksOf Body (lent .marks)) (lent .body);
+-- by the two records and what is lent
+abbrev pub partsBy : Record → Record → Lent → Parts
+partsBy header body lent = record {
+  header = memory header (marksOf Header (lent .marks)) (lent .header);
+  body = memory body (marksOf Body (lent .marks)) (lent .body);
 }
+
+unfoldable pub partsOf : Slot → Lent → Parts
+partsOf slot lent = partsBy (slot .header) (slot .body) lent
 
 unfoldable pub lentOf : Parts → Lent
 lentOf ps = shares (ps .header .share) (ps .body .share) (ps .header .marks ++ ps .body .marks)
@@ -81,4 +87,10 @@ stageFrom core headers header bodies body = stageBy (finished core headers heade
 unfoldable pub stageOf : Parts → Stage
 stageOf ps =
     stageFrom (coreIn (ps .header))
+    (sumOf (ps .header .marks)) (ps .header .kept) (sumOf (ps .body .marks)) (ps .body .kept)
+
+-- how many bytes are still to come (document 02, Item 4)
+unfoldable pub missingIn : Parts → Amount
+missingIn ps =
+    missingBy (coreIn (ps .header))
     (sumOf (ps .header .marks)) (ps .header .kept) (sumOf (ps .body .marks)) (ps .body .kept)

@@ -5,12 +5,14 @@ use Prim.Native.Nat.{ℕ}
 use lib.Dec.{eqb, leb}
 use Rattle.octets.specs.Octets.{sumOf, largestOf}
 use Rattle.answer.specs.declared.Part.the-variants.{Header, Body}
+use Rattle.cut.specs.declared.Amount.{Amount}
+use Rattle.cut.specs.declared.Amount.the-variants.{Unknown, Known}
 use Rattle.cut.specs.Decision.{both, all, boundsOf, coreFits}
 use Rattle.part.specs.Asked.{soundPart}
 use Rattle.object.specs.declared.Slot.{Slot}
 use Rattle.object.specs.declared.Stage.{Stage}
 use Rattle.object.specs.declared.Stage.the-variants.{Free, Gathering, Finished}
-use Rattle.object.specs.Parts.{Lent, Parts, partsOf, coreIn, stageOf}
+use Rattle.object.specs.Parts.{Lent, Parts, partsOf, coreIn, stageOf, missingIn}
 
 abbrev pub sameStage : Stage → Stage → Bool
 sameStage Free Free = true
@@ -36,6 +38,17 @@ soundParts limit stage ps = all
 abbrev pub marksRight : List ℕ → Bool
 marksRight marks = both (leb (largestOf marks) 1) (leb 1 (sumOf marks))
 
--- and the records and the stage are those that the marked segments give, which fit some object and cut
+abbrev pub sameAmount : Amount → Amount → Bool
+sameAmount Unknown Unknown = true
+sameAmount Unknown (Known bytes) = false
+sameAmount (Known bytes) Unknown = false
+sameAmount (Known bytes) (Known bytes') = eqb bytes bytes'
+
+-- and the records and the stage are those that the marked segments give, which fit some object and cut, and so is the
+-- number of bytes still to come
 unfoldable pub soundSlot : ℕ → Slot → Lent → Bool
-soundSlot limit slot lent = both (marksRight (lent .marks)) (soundParts limit (slot .stage) (partsOf slot lent))
+soundSlot limit slot lent = all
+    (marksRight (lent .marks)
+    ∷ soundParts limit (slot .stage) (partsOf slot lent)
+    ∷ sameAmount (slot .missing) (missingIn (partsOf slot lent))
+    ∷ [])

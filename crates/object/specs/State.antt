@@ -1,4 +1,4 @@
--- A held slot that is not damaged: document 01's list for STATE, in its words and order.
+-- A held slot that is not damaged: document 01's list for STATE, in its words and order, and document 02's Item 4.
 use mathlib.Core.Path.{_≡_}
 use mathlib.Core.Logic.{_⊎_}
 use mathlib.Core.List.{List}
@@ -9,6 +9,7 @@ use Rattle.answer.specs.declared.Part.the-variants.{Header, Body}
 use Rattle.cut.specs.declared.Record.{Record}
 use Rattle.cut.specs.Requirement.{Segment, Fits, Finished}
 use Rattle.cut.specs.Decision.{boundsOf, summary, recordOf, coreOf}
+use Rattle.cut.specs.Missing.{missingOf}
 use Rattle.cut.specs.Lists.{Each}
 use Rattle.object.specs.declared.Slot.{Slot}
 use Rattle.part.specs.Memory.{heldIn}
@@ -43,3 +44,5 @@ pub record Sound (limit : ℕ) (slot : Slot) (lent : Lent) : Type 0 where
   pub body : slot .body ≡ recordGiven Body limit slot lent
   -- and so is the stage
   pub stage : StageFor object (slot .stage)
+  -- and the number of bytes still to come
+  pub missing : slot .missing ≡ missingOf (markedSegments Header slot lent) (markedSegments Body slot lent)

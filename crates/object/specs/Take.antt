@@ -20,7 +20,7 @@ use Rattle.object.specs.declared.Outcome.the-variants as Outcome
 use Rattle.object.specs.declared.Decided.{Decided}
 use Rattle.object.specs.declared.Decided.the-variants.{Repeat, Conflict, Fits}
 use Rattle.object.specs.declared.Took.{Took}
-use Rattle.object.specs.Parts.{Lent, Parts, partsOf, lentOf, memoryOf, coreIn, stageOf}
+use Rattle.object.specs.Parts.{Lent, Parts, partsOf, lentOf, memoryOf, coreIn, stageOf, missingIn}
 
 -- ---- what comes of a segment: it is decided by what is held, and nothing is written
 
@@ -79,7 +79,13 @@ outcomeBy (suc count) (Stage.Finished header body) = Outcome.Complete
 
 -- the slot of two parts that have changed
 unfoldable pub slotWith : ℕ → Parts → Slot
-slotWith number ps = record { number = number; stage = stageOf ps; header = ps .header .kept; body = ps .body .kept }
+slotWith number ps = record {
+  number = number;
+  stage = stageOf ps;
+  header = ps .header .kept;
+  body = ps .body .kept;
+  missing = missingIn ps;
+}
 
 -- ---- the step
 

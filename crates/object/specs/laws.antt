@@ -4,6 +4,7 @@ pub mod Offers
 pub mod Inside
 pub mod HeldSlot
 pub mod StepStage
+pub mod StepMissing
 pub mod StageInside
 pub mod Step
 pub mod StateParts

@@ -1,7 +1,8 @@
 // The decision on an object's numbers (crate cut, specs/Decision): the bounds of its parts, whether the sizes that
-// header segment 0 says are within them, whether what is kept of both parts suits some object and cut, and whether all
-// is in.
+// header segment 0 says are within them, whether what is kept of both parts suits some object and cut, whether all is
+// in, and how much is missing (crate cut, specs/Missing).
 use answer::Part;
+use cut::Amount;
 use cut::BODY_NUMBERS;
 use cut::Bounds;
 use cut::Core;
@@ -11,6 +12,7 @@ use cut::HEADER_NUMBERS;
 use cut::Record;
 ghost use mathlib.Core.Path.{_≡_};
 ghost use Rattle.cut.specs.Decision.{boundsOf, coreFits, suits, finished};
+ghost use Rattle.cut.specs.Missing.{lengthKept, missingBy, Narrow, Small};
 
 pub fn bounds_of(part: Part, limit: usize, core: Core) -> Bounds
     ensures { λ r. ⌜ r ≡ boundsOf part limit core ⌝ }
@@ -91,4 +93,38 @@ pub fn finished(core: Core, h: usize, p: Record, b: usize, q: Record) -> bool
         return part::record::whole(b, q);
     }
     false
+}
+
+// A part's length: from the core, or from its last segment.
+fn length_of(part: Part, core: Core, kept: Record) -> Amount
+    requires { ⌜ Narrow core × Small kept ⌝ }
+    ensures { λ r. ⌜ r ≡ lengthKept part core kept ⌝ }
+{
+    let Core::Seen { body, header } = core else {
+        return part::record::length(kept);
+    };
+    match part {
+        Part::Header => Amount::Known(header as u32),
+        Part::Body => Amount::Known(body as u32),
+    }
+}
+
+// How many bytes are still to come: h segments of the header are in, and b of the body.
+pub fn missing(core: Core, h: u32, p: Record, b: u32, q: Record) -> Amount
+    requires { ⌜ Narrow core × Small p × Small q ⌝ }
+    ensures { λ r. ⌜ r ≡ missingBy core h p b q ⌝ }
+{
+    let Amount::Known(header) = length_of(Part::Header, core, p) else {
+        return Amount::Unknown;
+    };
+    let Amount::Known(body) = length_of(Part::Body, core, q) else {
+        return Amount::Unknown;
+    };
+    let whole = header as usize + body as usize;
+    let came = part::record::arrived(h, p) + part::record::arrived(b, q);
+    if whole < came {
+        return Amount::Known(0);
+    }
+    let rest = whole - came;
+    Amount::Known(rest as u32)
 }

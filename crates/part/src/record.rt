@@ -1,11 +1,14 @@
 // The record of a part, numbers alone (crate cut, specs/Decision): whether one segment more goes with it, the record
-// with that one, the size of the cut once it is settled, and whether the part is whole. Any numbers are taken: the
-// record of a damaged slot may be asked about too.
+// with that one, the size of the cut once it is settled, and whether the part is whole. Any numbers are taken, as the
+// record of a damaged slot may be asked about too; but for the part's length and how much of it has arrived (crate cut,
+// specs/Missing), which are asked of numbers that a part can have.
+use cut::Amount;
 use cut::Bounds;
 use cut::Record;
 ghost use mathlib.Core.Path.{_≡_};
 ghost use Prim.Native.Nat.{_<_};
 ghost use Rattle.cut.specs.Decision.{addPart, joins, derived, settle, whole};
+ghost use Rattle.cut.specs.Missing.{lengthIn, arrivedKept, Small};
 
 // Whether a segment of a new number goes with what is kept: there is one last segment, and full ones have one length.
 pub fn joins(full: bool, last: bool, length: usize, p: Record) -> bool
@@ -76,4 +79,44 @@ pub fn whole(count: usize, p: Record) -> bool
         return false;
     }
     count == p.end
+}
+
+// The part's length, where its last segment gives it: that is number 0, or the size is known.
+pub fn length(p: Record) -> Amount
+    requires { ⌜ Small p ⌝ }
+    ensures { λ r. ⌜ r ≡ lengthIn (p .size) (p .end) (p .tail) ⌝ }
+{
+    let size = p.size;
+    let end = p.end;
+    let tail = p.tail;
+    if end == 0 {
+        return Amount::Unknown;
+    }
+    if end == 1 {
+        return Amount::Known(tail as u32);
+    }
+    if size == 0 {
+        return Amount::Unknown;
+    }
+    let before = (end - 1) * size;
+    let whole = before + tail;
+    Amount::Known(whole as u32)
+}
+
+// The bytes of the part that have arrived, with so many of its segments in.
+pub fn arrived(total: u32, p: Record) -> usize
+    requires { ⌜ Small p ⌝ }
+    ensures { λ r. ⌜ (r ≡ arrivedKept total p) × (r < 70368744177664) ⌝ }
+{
+    let size = p.size;
+    let tail = p.tail;
+    let count = total as usize;
+    if p.end == 0 {
+        return count * size;
+    }
+    if count == 0 {
+        return tail;
+    }
+    let full = (count - 1) * size;
+    full + tail
 }

@@ -1,18 +1,20 @@
-// Questions about finished objects: what a header says, its name as a part of the header store, and
-// whose a name is. A question changes nothing; it checks the state before anything else, the counts
-// too.
+// Questions about objects: what the header of a finished one says, its name as a part of the header
+// store, whose a name is, and how many bytes of an object, finished or not, are still to come. A
+// question changes nothing; it checks the state before anything else, the counts too.
 use answer::Part;
 use answer::Reason;
 use collector::Collector;
 use collector::Located;
 use counts::Counts;
+use cut::Amount;
 use header::Fields;
 use header::Reading;
 use header::Refusal;
 use name_search::Holder;
+use slots::Found;
 ghost use mathlib.Core.Path.{_≡_};
 ghost use Rattle.collector.specs.State.{stores, state};
-ghost use Rattle.queries.specs.Questions.{soughtAs, parameters, name, find};
+ghost use Rattle.queries.specs.Questions.{soughtAs, parameters, name, find, missing};
 ghost use Rattle.queries.specs.Said.{reasonOf, askedAs};
 
 // What a finished object's header says, or why it is not told.
@@ -24,6 +26,12 @@ pub enum Asked {
 // The finished object that has a name, or why none is told.
 pub enum Sought {
     Number(u16),
+    Denied(Reason),
+}
+
+// How many bytes of an object are still to come, once that is known, or why it is not told.
+pub enum Awaited {
+    Bytes(Amount),
     Denied(Reason),
 }
 
@@ -109,4 +117,32 @@ pub fn find(
     }
     let slots = collector.slots;
     sought_as(name_search::find(asked, collector.count, slots, header))
+}
+
+// How many bytes of a number's object are still to come, finished or not: what its slot keeps, so that no more is
+// worked out than STATE asks for.
+pub fn missing(
+    collector: Collector,
+    counts: Counts,
+    number: u16,
+    header: &[u8],
+    body: &[u8],
+    marks: &[u8],
+) -> Awaited
+    ensures { λ r. ⌜ r ≡ missing number
+        (state collector counts (stores (header .entry) (body .entry) (marks .entry))) ⌝ }
+{
+    if !collector.is_sound(counts, header, body, marks) {
+        return Awaited::Denied(Reason::State);
+    }
+    let slots = collector.slots;
+    let Found::At(i) = slots::find(number, collector.count, slots) else {
+        return Awaited::Denied(Reason::NotHeld);
+    };
+    if Collector::SLOTS_MOST <= i {
+        return Awaited::Denied(Reason::NotHeld);
+    }
+    let slot = collector.slots[i];
+    let missing = slot.missing;
+    Awaited::Bytes(missing)
 }

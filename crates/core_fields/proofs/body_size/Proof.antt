@@ -1,5 +1,6 @@
 -- `core_fields::body_size` meets its contract: what each byte gives.
 -- Assumes nothing.
+use native.Mathlib.Omega.{arith}
 use Rattle.cut.specs.Requirement.{bodySize}
 use borrow.Author.Needs.{needs}
 use Rattle.core_fields.proofs.body_size.Statement.{statement}
@@ -37,11 +38,20 @@ add-result-3 c = search needs
 
 returns : tie.Need-returns
 unfolding bodySize
-returns c = simp (
-  c .before .before .before .octet .ensures .0,
-  c .before .before .octet2 .ensures .0,
-  c .before .octet3 .ensures .0,
-  c .octet4 .ensures .0,
+returns c = (
+  simp (
+    c .before .before .before .octet .ensures .0,
+    c .before .before .octet2 .ensures .0,
+    c .before .octet3 .ensures .0,
+    c .octet4 .ensures .0,
+  ),
+  omega (
+    arith,
+    c .before .before .before .octet .ensures .1,
+    c .before .before .octet2 .ensures .1,
+    c .before .octet3 .ensures .1,
+    c .octet4 .ensures .1,
+  ),
 )
 
 pub body-size-spec : {M : Type 1} → statement M

@@ -5,7 +5,7 @@ use mathlib.Core.Logic.{_⊎_, inl, inr, _↔_}
 use mathlib.Core.Bool.{Bool, true, false}
 use mathlib.Core.List.{List, [], _∷_}
 use Prim.Native.Nat.{ℕ, zero, suc, _+_, _-_, _*_, _/_, _≤_, _<_, min}
-use native.Mathlib.Nat.{zero-mul}
+use native.Mathlib.Nat.{zero-mul, mul-le-mul-right}
 use native.Mathlib.Decide.{decLe}
 use native.Mathlib.Omega.{arith}
 use lib.Arith.{digits-div}
@@ -21,10 +21,10 @@ use Rattle.cut.specs.declared.Core.the-variants.{Unseen, Seen}
 use Rattle.cut.specs.declared.Record.{Record}
 use Rattle.cut.specs.Lists.{pick, Each}
 use Rattle.cut.specs.laws.Lists.{each-map}
-use Rattle.cut.specs.Requirement.{bodySize, headerSize, headerNumbers, bodyNumbers, IsCut, Segment, Sends, Fits, Whole, Finished, bytesOf, joined}
+use Rattle.cut.specs.Requirement.{limitMost, sizeMost, bodySize, headerSize, headerNumbers, bodyNumbers, IsCut, Segment, Sends, Fits, Whole, Finished, bytesOf, joined}
 use Rattle.cut.specs.Parts.{headersWith, bodiesWith, those, partOf, cutOf}
 use Rattle.cut.specs.Decision.{addPart, addTop, Summary, summary, coreAfter, coreOf}
-use Rattle.cut.specs.Missing.{sizeShown, lengthBy, lengthFrom, lengthKnown, arrived, lacking, missingOf, isStored, outside, outsideOf, lengthIn}
+use Rattle.cut.specs.Missing.{sizeShown, lengthBy, lengthFrom, lengthKnown, arrived, lacking, missingOf, isStored, outside, outsideOf, lengthIn, lengthKept, Narrow, Small}
 use Rattle.cut.specs.laws.Segment.{Numbered, SitsAs, Sits}
 use Rattle.cut.specs.laws.Decision.{TopSits, EndSits, SumSits, EndIs, JoinsAs, Clear, sits-sum}
 use Rattle.cut.specs.laws.Object.{CoreIs, core-is, fits-within, fits-sits, fits-passes}
@@ -387,3 +387,62 @@ missing-falls kind limit s hs bs f x e =
     let p = missing-outside limit (headersWith kind s hs) (bodiesWith kind s bs) f (r .0) (r .1) in
     let q = missing-outside limit hs bs (fits-less kind limit s hs bs f) x e in
     (r .0, r .1, omega (arith, less-outside kind limit s hs bs f))
+
+-- ---- no length is large
+
+pub whole-low : (p : Record) → Small p → 1 ≤ p .end → (p .end - 1) * p .size + p .tail ≤ bodyNumbers * sizeMost
+whole-low p s h =
+    let l : p .end - 1 ≤ 1023 = omega (arith, s .end) in
+    omega (arith, mul-le-mul-right (p .size) l, s .size, s .tail h)
+
+in-low : (size end tail n : ℕ) → lengthIn size end tail ≡ Known n → (1 ≤ end) × (n ≤ (end - 1) * size + tail)
+in-low size zero tail n e = let y : _≡_ {A = ℕ} 0 1 = cc in absurd (omega arith)
+in-low size (suc zero) tail n e = let y : n ≡ tail = cc in (omega arith, omega arith)
+in-low zero (suc (suc m)) tail n e = let y : _≡_ {A = ℕ} 0 1 = cc in absurd (omega arith)
+in-low (suc size) (suc (suc m)) tail n e =
+    let y : n ≡ suc m * suc size + tail = cc in
+    let d : suc (suc m) - 1 ≡ suc m = omega arith in
+    (omega arith, rw d (omega arith))
+
+last-low : (p : Record) → Small p → (n : ℕ) → lengthIn (p .size) (p .end) (p .tail) ≡ Known n → n < 0x10000000
+last-low p s n e = let r = in-low (p .size) (p .end) (p .tail) n e in omega (arith, r .1, whole-low p s (r .0))
+
+pub length-low : (part : Part) (core : Core) (p : Record) → Narrow core → Small p → (n : ℕ)
+    → lengthKept part core p ≡ Known n → n < 0x10000000
+length-low Header Unseen p w s n e = last-low p s n e
+length-low Body Unseen p w s n e = last-low p s n e
+length-low Header (Seen B H) p w s n e = let y : n ≡ H = cc in omega (arith, w .1)
+length-low Body (Seen B H) p w s n e = let y : n ≡ B = cc in omega (arith, w .0)
+
+-- ---- no number of bytes that is missing is large
+
+-- it has 32 bits
+abbrev pub ThirtyTwo : Amount → Type 0
+ThirtyTwo Unknown = Unit {0}
+ThirtyTwo (Known n) = n < 0x100000000
+
+outside-most : (S : ℕ) (ss : List Segment) (count : ℕ) → outside S ss count ≤ count
+unfolding outside
+outside-most S ss zero = omega arith
+outside-most S ss (suc count) = omega (arith, outside-most S ss count, one (isStored (count / S) ss))
+  where
+    one : (b : Bool) → pick b 0 1 ≤ 1
+    one true = omega arith
+    one false = omega arith
+
+pub missing-narrow : (limit : ℕ) (hs bs : List Segment) → limit ≤ limitMost → Fits limit hs bs
+    → ThirtyTwo (missingOf hs bs)
+missing-narrow limit hs bs z f = go (missingOf hs bs) refl
+  where
+    go : (x : Amount) → missingOf hs bs ≡ x → ThirtyTwo x
+    go Unknown e = tt
+    go (Known n) e =
+        omega (
+          arith,
+          z,
+          missing-outside limit hs bs f n e,
+          outside-most (f .headerCut) hs (length (f .header)),
+          outside-most (f .bodyCut) bs (length (f .body)),
+          f .object .headerHigh,
+          f .object .bodyHigh,
+        )

@@ -27,7 +27,7 @@ unfolding fieldsOf
 returns c =
     let s = c .before .before .before .before .before in
     rw (
-      s .body-size .ensures,
+      s .body-size .ensures .0,
       c .before .before .before .before .header-size .ensures,
       c .before .before .before .content-type .ensures,
       c .before .before .content-sub-type .ensures,

@@ -12,7 +12,7 @@ core-of-requires : tie.Need-core-of-requires
 core-of-requires c κs = search needs
 
 returns : tie.Need-returns
-returns c = rw (c .before .before .enum-told .given .1, c .before .if1 .taken) (c .core-of .ensures)
+returns c = rw (c .before .before .enum-told .given .1, c .before .if1 .taken) (c .core-of .ensures .0)
 
 enum-told-2 : tie.Need-enum-told-2
 enum-told-2 c = search needs

@@ -1,5 +1,6 @@
 -- `object::tally_of` meets its contract: the core, and the two sums.
 -- Assumes nothing.
+use mathlib.Core.Path.{refl}
 use native.Mathlib.Omega.{arith}
 use Rattle.answer.specs.declared.Part.the-variants.{Header, Body}
 use Rattle.object.specs.laws.Inside.{marks-length, marks-bits}
@@ -41,10 +42,10 @@ sum-requires-2 c κs =
 returns : tie.Need-returns
 returns c =
     let core = rw (c .before .before .before .before .marks-of .ensures) at
-    (c .before .before .before .core-from .ensures) in
+    (c .before .before .before .core-from .ensures .0) in
     let headers = rw (c .before .before .before .before .marks-of .ensures) at (c .before .before .sum .ensures) in
     let bodies = rw (c .before .marks-of2 .ensures) at (c .sum2 .ensures) in
-    rw (core, headers, bodies)
+    (rw (core, headers, bodies) refl, c .before .before .before .core-from .ensures .1)
 
 pub tally-of-spec : {M : Type 1} → statement M
 tally-of-spec =

@@ -122,6 +122,7 @@ module _ (part : Part) (limit : ℕ) (s : Segment) (slot : Slot) (lent : Lent) w
             bits = offered .bits;
             unmarked = rw (memory-is part slot lent) at m;
             said = c;
+            sound = offered .sound;
             fits = f;
           }
 

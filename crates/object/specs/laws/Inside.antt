@@ -17,20 +17,22 @@ use Rattle.cut.specs.Requirement.{headerMost, headerNumbers, bodyNumbers, Segme
 use Rattle.cut.specs.declared.Core.{Core}
 use Rattle.cut.specs.declared.Core.the-variants.{Unseen, Seen}
 use Rattle.cut.specs.declared.Bounds.{Bounds}
+use Rattle.cut.specs.declared.Record.{Record}
 use Rattle.cut.specs.Decision.{boundsOf, coreTests, coreFits, coreAfter, coreWith}
 use Rattle.cut.specs.laws.Decision.{Suits, both-true, all-true}
 use Rattle.cut.specs.Parts.{otherPart}
 use Rattle.cut.specs.Sums.{possibleIn, fitsIn}
+use Rattle.cut.specs.Missing.{Small}
 use Rattle.cut.specs.Lists.{Each}
 use Rattle.object.specs.declared.Slot.{Slot}
 use Rattle.object.specs.declared.Stage.{Stage}
-use Rattle.part.specs.Memory.{Memory, lengthOf}
+use Rattle.part.specs.Memory.{Memory, memory, lengthOf}
 use Rattle.object.specs.Take.{takesIn, recordAfter}
 use Rattle.part.specs.Asked.{soundPart, recordWith, recordWithin, recordRight}
-use Rattle.part.specs.laws.Inside.{Placed, Moves, sits-before, each-bit, topIn, right-suits, size-known, marked-sits, sits-number, placed, fits-placed, fits-moves, within-moves}
-use Rattle.object.specs.Sound.{marksRight, sameStage, soundParts, soundSlot}
+use Rattle.part.specs.laws.Inside.{Placed, Moves, sits-before, each-bit, topIn, right-suits, size-known, marked-sits, sits-number, placed, fits-placed, fits-moves, fits-suited, within-moves, within-suited, right-suited, suited-small}
+use Rattle.object.specs.Sound.{marksRight, sameStage, sameAmount, soundParts, soundSlot}
 use Rattle.object.specs.laws.Shape.{widthOf, numbersOf, Shaped, Bits}
-use Rattle.object.specs.Parts.{marksOf, Lent, Parts, partsOf, memoryOf, coreIn, stageOf}
+use Rattle.object.specs.Parts.{marksOf, Lent, Parts, partsOf, memoryOf, coreIn, stageOf, missingIn}
 
 -- ---- the bounds of a part are those of its share
 
@@ -221,11 +223,16 @@ lent-shaped limit slot lent h b m =
 pub sound-slot : (limit : ℕ) (slot : Slot) (lent : Lent) → soundSlot limit slot lent ≡ true
     → (largestOf (lent .marks) ≤ 1) × (1 ≤ sumOf (lent .marks))
     × (soundParts limit (slot .stage) (partsOf slot lent) ≡ true)
+    × (sameAmount (slot .missing) (missingIn (partsOf slot lent)) ≡ true)
 unfolding soundSlot
 sound-slot limit slot lent e =
-    let t = both-true (marksRight (lent .marks)) (soundParts limit (slot .stage) (partsOf slot lent)) e in
+    let t = all-true
+    (marksRight (lent .marks)
+    ∷ soundParts limit (slot .stage) (partsOf slot lent)
+    ∷ sameAmount (slot .missing) (missingIn (partsOf slot lent))
+    ∷ []) e in
     let m = both-true (leb (largestOf (lent .marks)) 1) (leb 1 (sumOf (lent .marks))) (t .0) in
-    (leb-true (largestOf (lent .marks)) 1 (m .0), leb-true 1 (sumOf (lent .marks)) (m .1), t .1)
+    (leb-true (largestOf (lent .marks)) 1 (m .0), leb-true 1 (sumOf (lent .marks)) (m .1), t .1 .0, t .1 .1 .0)
 
 pub marks-bits : (p : Part) (marks : List ℕ) → largestOf marks ≤ 1 → largestOf (marksOf p marks) ≤ 1
 marks-bits Header marks h = omega (arith, largest-part marks 0 headerNumbers)
@@ -238,3 +245,46 @@ marks-bits Body marks h =
 pub lent-bits : (slot : Slot) (lent : Lent) → largestOf (lent .marks) ≤ 1 → Bits (partsOf slot lent)
 unfolding partsOf
 lent-bits slot lent h = (marks-bits Header (lent .marks) h, marks-bits Body (lent .marks) h)
+
+-- ---- the numbers of a record are those of some part
+
+bounds-few : (part : Part) (limit : ℕ) (c : Core) → boundsOf part limit c .numbers ≤ bodyNumbers
+bounds-few part limit c = omega (arith, bounds-numbers part limit c, numbers-most part)
+
+-- of one that is right
+pub right-small : (part : Part) (limit : ℕ) (c : Core) (p : Record) (marks : List ℕ) → largestOf marks ≤ 1
+    → soundPart (boundsOf part limit c) p marks ≡ true → Small p
+unfolding soundPart
+right-small part limit c p marks bits e =
+    let b : Bounds = boundsOf part limit c in
+    let t = both-true (recordRight b p marks) (possibleIn b p marks) e in
+    suited-small b p (bounds-few part limit c)
+    (right-suited b (memory p marks []) (each-bit marks bits) (t .0) (t .1))
+
+-- of the one with a segment that fits
+pub after-small : (part : Part) (limit : ℕ) (s : Segment) (ps : Parts) → takesIn part limit s ps ≡ true
+    → Small (recordAfter part limit s ps)
+unfolding recordWith
+after-small part limit s ps e =
+    let c : Core = coreWith part s (coreIn (ps .header)) in
+    suited-small (boundsOf part limit c) (recordAfter part limit s ps) (bounds-few part limit c)
+    (fits-suited (boundsOf part limit c) (memoryOf part ps .kept) (memoryOf part ps .marks) (s .last) (s .number)
+    (length (s .bytes)) (passed part limit s ps e .own))
+
+-- and of the body's, with a header segment that fits
+pub still-small : (limit : ℕ) (s : Segment) (ps : Parts) → takesIn Header limit s ps ≡ true
+    → Small (recordWithin (boundsOf Body limit (coreWith Header s (coreIn (ps .header)))) (ps .body))
+unfolding recordWithin
+still-small limit s ps e =
+    let c : Core = coreWith Header s (coreIn (ps .header)) in
+    suited-small (boundsOf Body limit c) (recordWithin (boundsOf Body limit c) (ps .body)) (bounds-few Body limit c)
+    (within-suited (boundsOf Body limit c) (ps .body .kept) (ps .body .marks) (passed Header limit s ps e .other))
+
+-- and of a sound slot's header
+pub header-small : (limit : ℕ) (stage : Stage) (ps : Parts) → Bits ps → soundParts limit stage ps ≡ true
+    → Small (ps .header .kept)
+header-small limit stage ps bits e =
+    let r = sound-right Header limit stage ps e in
+    let b : Bounds = boundsOf Header limit (coreIn (ps .header)) in
+    suited-small b (ps .header .kept) (bounds-few Header limit (coreIn (ps .header)))
+    (right-suited b (ps .header) (each-bit (ps .header .marks) (bits .0)) (r .right) (r .can))

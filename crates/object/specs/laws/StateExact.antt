@@ -1,5 +1,5 @@
 -- The test that every call makes of a held slot passes exactly when the slot is sound.
-use mathlib.Core.Path.{_≡_, refl, sym, subst}
+use mathlib.Core.Path.{_≡_, refl, sym, _∙_, subst}
 use mathlib.Core.Logic.{_⊎_, inl, inr, _↔_}
 use mathlib.Core.Bool.{true}
 use mathlib.Core.List.{List, [], _∷_}
@@ -14,7 +14,7 @@ use Rattle.answer.specs.declared.Part.{Part}
 use Rattle.answer.specs.declared.Part.the-variants.{Header, Body}
 use Rattle.cut.specs.laws.Lists.{each-map, each-take, each-drop, each-append}
 use Rattle.cut.specs.Requirement.{limitMost, headerNumbers, Segment}
-use Rattle.cut.specs.laws.Decision.{true-both}
+use Rattle.cut.specs.laws.Decision.{true-both, true-all}
 use Rattle.cut.specs.laws.Segment.{Numbered}
 use Rattle.cut.specs.Parts.{those, partOf, cutOf}
 use Rattle.cut.specs.Decision.{boundsOf, summary, recordOf, coreOf}
@@ -23,7 +23,7 @@ use Rattle.cut.specs.Lists.{Each}
 use Rattle.object.specs.declared.Slot.{Slot}
 use Rattle.object.specs.declared.Stage.{Stage}
 use Rattle.part.specs.Memory.{heldIn}
-use Rattle.object.specs.Sound.{marksRight, soundParts, soundSlot}
+use Rattle.object.specs.Sound.{marksRight, soundParts, sameAmount, soundSlot}
 use Rattle.object.specs.laws.Shape.{IsLent, Shaped}
 use Rattle.object.specs.laws.Inside.{lent-shaped, lent-bits, sound-slot}
 use Rattle.part.specs.laws.Inside.{each-bit}
@@ -35,8 +35,9 @@ use Rattle.part.specs.laws.Held.{held-reads, held-marked}
 use Rattle.part.specs.laws.Step.{reads-keeps}
 use Rattle.object.specs.laws.HeldSlot.{fits-room, part-keeps}
 use Rattle.object.specs.laws.StepStage.{stage-right, stage-one}
+use Rattle.object.specs.laws.StepMissing.{same-amount, amount-same, missing-right}
 use Rattle.object.specs.laws.StateParts.{sound-gathers, gathers-passes}
-use Rattle.object.specs.Parts.{Lent, Parts, partsOf, memoryOf, stageOf}
+use Rattle.object.specs.Parts.{Lent, Parts, partsOf, memoryOf, stageOf, missingIn}
 
 -- ---- marks
 
@@ -76,6 +77,8 @@ sound-holds limit slot lent z l e =
       stage = subst (λ (x : Stage). StageFor (g .object) x)
           (sym (sound-stage limit (slot .stage) ps (t .2)))
           (stage-right limit ps (heldIn (ps .header)) (heldIn (ps .body)) g (g .object));
+      missing = same-amount (slot .missing) (missingIn ps) (t .3)
+          ∙ missing-right limit ps (heldIn (ps .header)) (heldIn (ps .body)) g;
     }
 
 -- ---- a slot that holds segments, one at least, passes
@@ -100,11 +103,20 @@ holds-passes : (limit : ℕ) (slot : Slot) (lent : Lent) (hs bs : List Segment) 
     → 1 ≤ sumOf (lent .marks) → soundSlot limit slot lent ≡ true
 unfolding soundSlot
 holds-passes limit slot lent hs bs h some =
-    true-both (marksRight (lent .marks)) (soundParts limit (slot .stage) (partsOf slot lent))
-    (true-both (leb (largestOf (lent .marks)) 1) (leb 1 (sumOf (lent .marks)))
-    (le-leb (largestOf (lent .marks)) 1 (parts-largest slot lent (g .header .marked .bits) (g .body .marked .bits)))
-    (le-leb 1 (sumOf (lent .marks)) some))
-    (gathers-passes limit (slot .stage) (partsOf slot lent) hs bs g stage)
+    true-all
+    (marksRight (lent .marks)
+    ∷ soundParts limit (slot .stage) (partsOf slot lent)
+    ∷ sameAmount (slot .missing) (missingIn (partsOf slot lent))
+    ∷ []) (
+      true-both (leb (largestOf (lent .marks)) 1) (leb 1 (sumOf (lent .marks)))
+          (le-leb (largestOf (lent .marks)) 1
+          (parts-largest slot lent (g .header .marked .bits) (g .body .marked .bits)))
+          (le-leb 1 (sumOf (lent .marks)) some),
+      (
+        gathers-passes limit (slot .stage) (partsOf slot lent) hs bs g stage,
+        (amount-same (slot .missing) (missingIn (partsOf slot lent)) missing, tt),
+      ),
+    )
   where
     g : Gathers limit (partsOf slot lent) hs bs
     g = h .gathers
@@ -112,6 +124,9 @@ holds-passes limit slot lent hs bs h some =
     stage : slot .stage ≡ stageOf (partsOf slot lent)
     stage = stage-one limit hs bs (g .object) (slot .stage) (stageOf (partsOf slot lent)) (h .stage)
         (stage-right limit (partsOf slot lent) hs bs g (g .object))
+
+    missing : slot .missing ≡ missingIn (partsOf slot lent)
+    missing = h .missing ∙ sym (missing-right limit (partsOf slot lent) hs bs g)
 
 pub holds-sound : (limit : ℕ) (slot : Slot) (lent : Lent) (hs bs : List Segment) → Holds limit slot lent hs bs
     → (part : Part) (n : ℕ) → Numbered n (those part hs bs) → soundSlot limit slot lent ≡ true
@@ -135,6 +150,7 @@ passes-sound limit slot lent z l e =
       header = h .gathers .header .kept;
       body = h .gathers .body .kept;
       stage = h .stage;
+      missing = h .missing;
     }
 
 sound-bits : (part : Part) (slot : Slot) (lent : Lent) → Each (λ m. (m ≡ 0) ⊎ (m ≡ 1)) (lent .marks)
@@ -157,8 +173,8 @@ sound-passes limit slot lent l d =
     holds-passes limit slot lent hs bs
     (record {
       gathers = record { object = d .object; shape = shape; header = keeps Header; body = keeps Body };
-      stage =
-          d .stage;
+      stage = d .stage;
+      missing = d .missing;
     }) (total-some (lent .marks) (d .some .0) (omega (arith, d .some .1)))
   where
     hs : List Segment

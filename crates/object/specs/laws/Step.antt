@@ -34,6 +34,7 @@ use Rattle.object.specs.State.{StageFor}
 use Rattle.part.specs.laws.Held.{at-number, at-among}
 use Rattle.object.specs.laws.HeldSlot.{part-keeps, part-reads, takes-fits, next-gathers}
 use Rattle.object.specs.laws.StepStage.{stage-right}
+use Rattle.object.specs.laws.StepMissing.{missing-right}
 use Rattle.object.specs.Parts.{Lent, Parts, partsOf, lentOf, memoryOf, stageOf}
 
 -- ---- the same segment
@@ -78,7 +79,11 @@ unfolding slotWith
 parts-hold limit number ps hs bs g =
     let k : Gathers limit (partsOf (slotWith number ps) (lentOf ps)) hs bs =
     subst (λ (x : Parts). Gathers limit x hs bs) (sym (parts-back number ps (g .shape .headerMarks))) g in
-    record { gathers = k; stage = stage-right limit ps hs bs g (k .object) }
+    record {
+      gathers = k;
+      stage = stage-right limit ps hs bs g (k .object);
+      missing = missing-right limit ps hs bs g;
+    }
 
 -- ---- what is finished without a segment
 

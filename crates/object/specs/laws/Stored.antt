@@ -16,7 +16,6 @@ use Rattle.cut.specs.Decision.{boundsOf, coreWith}
 use Rattle.part.specs.Memory.{Memory, memory, movedAs, settled, put}
 use Rattle.part.specs.Asked.{recordAdding, recordWith, recordSettled, recordWithin, CanMove, CanPut}
 use Rattle.object.specs.declared.Slot.{Slot}
-use Rattle.object.specs.declared.Stage.{Stage}
 use Rattle.object.specs.declared.Tally.{Tally}
 use Rattle.object.specs.declared.Took.{Took}
 use Rattle.object.specs.Take.{slotWith, partsWith, left, tookOf, storedAs, recordAfter}
@@ -24,7 +23,7 @@ use Rattle.object.specs.Asked.{totalIn, Summed, Fitting}
 use Rattle.object.specs.laws.Shape.{numbersOf, Shaped}
 use Rattle.object.specs.laws.Inside.{numbers-most, marks-length, takes-inside, settled-inside, body-inside, lent-shaped, lent-bits}
 use Rattle.object.specs.laws.Decided.{memory-is, tallied-total}
-use Rattle.object.specs.Parts.{Lent, shares, partsOf, lentOf, keptOf, marksOf, memoryOf, coreIn, stageOf}
+use Rattle.object.specs.Parts.{Lent, shares, partsBy, partsOf, lentOf, keptOf, marksOf, memoryOf, coreIn, stageOf, missingIn}
 
 -- ---- what the code asks of a segment that fits
 
@@ -144,18 +143,18 @@ module _ (tally : Tally) (limit : ℕ) (core : Core) (s : Segment) (slot : Slot)
 -- ---- what storing leaves
 
 -- two parts, where the stage is worked out from their marks
-left-is : (count number : ℕ) (stage : Stage) (h b : Memory) → length (h .marks) ≡ headerNumbers
-    → left (tookOf count number (partsOf (record { number = number; stage = stage; header = h .kept; body = b .kept })
-    (shares (h .share) [] (h .marks ++ b .marks)))) (shares (h .share) (b .share) (h .marks ++ b .marks))
+left-is : (count number : ℕ) (h b : Memory) → length (h .marks) ≡ headerNumbers
+    → left (tookOf count number (partsBy (h .kept) (b .kept) (shares (h .share) [] (h .marks ++ b .marks))))
+    (shares (h .share) (b .share) (h .marks ++ b .marks))
     ≡ storedAs count number (record { header = h; body = b })
-unfolding slotWith stageOf partsOf coreIn lentOf
-left-is count number stage h b e =
+unfolding slotWith stageOf missingIn coreIn lentOf
+left-is count number h b e =
     rw (marks-apart (h .marks) (b .marks) e .0, marks-apart (h .marks) (b .marks) e .1) refl
 
 module _ (limit : ℕ) (s : Segment) (slot : Slot) (lent : Lent)
     (long : length (lent .marks) ≡ headerNumbers + bodyNumbers) where
   -- a header segment put, and the body settled
-  pub stored-header : (r : Took) (new still : Record) (stage : Stage) (marks header body : List ℕ)
+  pub stored-header : (r : Took) (new still : Record) (marks header body : List ℕ)
       → new ≡ recordAfter Header limit s (partsOf slot lent)
       → still ≡ recordWithin (boundsOf Body limit (coreWith Header s (coreIn (partsOf slot lent .header))))
       (partsOf slot lent .body)
@@ -163,44 +162,42 @@ module _ (limit : ℕ) (s : Segment) (slot : Slot) (lent : Lent)
       ≡ put s (settled new (memory (slot .header) (marksOf Header (lent .marks)) (lent .header)))
       → body ≡ movedAs (slot .body .size) (still .size) (slot .body .end) (slot .body .tail) (lent .body)
       → r ≡ tookOf (length (s .bytes)) (slot .number)
-      (partsOf (record { number = slot .number; stage = stage; header = new; body = still })
-      (shares header [] (marks ++ marksOf Body (lent .marks))))
+      (partsBy new still (shares header [] (marks ++ marksOf Body (lent .marks))))
       → left r (shares header body (marks ++ marksOf Body (lent .marks)))
       ≡ storedAs (length (s .bytes)) (slot .number) (partsWith Header limit s (partsOf slot lent))
   unfolding partsWith settled partsOf
-  stored-header r new still stage marks header body e f g h i =
+  stored-header r new still marks header body e f g h i =
       let b : Memory = memory still (marksOf Body (lent .marks)) body in
       let m : Memory = memory new marks header in
       let apart : length marks ≡ headerNumbers = ap (λ (x : Memory). length (x .marks)) g
       ∙ put-long (settled new (memory (slot .header) (marksOf Header (lent .marks)) (lent .header)))
       ∙ simp length-take (omega arith) in
       ap (λ (x : Took). left x (shares header body (marks ++ marksOf Body (lent .marks)))) i
-      ∙ left-is (length (s .bytes)) (slot .number) stage m b apart
+      ∙ left-is (length (s .bytes)) (slot .number) m b apart
       ∙ ap (storedAs (length (s .bytes)) (slot .number)) (rw (g, h, e, f) refl)
     where
       put-long : (x : Memory) → length (put s x .marks) ≡ length (x .marks)
       put-long x = unfold put in (length-set (x .marks) (s .number) 1)
 
   -- a body segment put
-  pub stored-body : (r : Took) (new : Record) (stage : Stage) (marks whole body : List ℕ)
+  pub stored-body : (r : Took) (new : Record) (marks whole body : List ℕ)
       → new ≡ recordAfter Body limit s (partsOf slot lent)
       → memory new marks body ≡ put s (settled new (memory (slot .body) (marksOf Body (lent .marks)) (lent .body)))
       → whole ≡ marksOf Header (lent .marks) ++ marks
       → r ≡ tookOf (length (s .bytes)) (slot .number)
-      (partsOf (record { number = slot .number; stage = stage; header = slot .header; body = new })
-      (shares (lent .header) [] whole))
+      (partsBy (slot .header) new (shares (lent .header) [] whole))
       → left r (shares (lent .header) body whole)
       ≡ storedAs (length (s .bytes)) (slot .number) (partsWith Body limit s (partsOf slot lent))
   unfolding partsWith settled partsOf
-  stored-body r new stage marks whole body e g h i =
+  stored-body r new marks whole body e g h i =
       let b : Memory = memory new marks body in
       let m : Memory = memory (slot .header) (marksOf Header (lent .marks)) (lent .header) in
       let apart : length (marksOf Header (lent .marks)) ≡ headerNumbers = simp length-take (omega arith) in
-      let kept : Slot = record { number = slot .number; stage = stage; header = slot .header; body = new } in
-      let put : left (tookOf (length (s .bytes)) (slot .number) (partsOf kept (shares (lent .header) [] whole)))
+      let put : left (tookOf (length (s .bytes)) (slot .number)
+      (partsBy (slot .header) new (shares (lent .header) [] whole)))
       (shares (lent .header) body whole)
       ≡ storedAs (length (s .bytes)) (slot .number) (record { header = m; body = b }) =
-      rw h (left-is (length (s .bytes)) (slot .number) stage m b apart) in
+      rw h (left-is (length (s .bytes)) (slot .number) m b apart) in
       ap (λ (x : Took). left x (shares (lent .header) body whole)) i
       ∙ put
       ∙ ap (storedAs (length (s .bytes)) (slot .number)) (rw (g, e) refl)

@@ -13,7 +13,7 @@ use lib.Dec.{eqb, leb}
 use borrow.Author.Tests.{eqb-true, eqb-false, eq-eqb, ne-eqb, leb-true, le-leb, lt-leb}
 use Rattle.octets.specs.Octets.{sumOf, largestOf}
 use Rattle.octets.specs.laws.Marks.{sum-split}
-use Rattle.cut.specs.Requirement.{sizeMost}
+use Rattle.cut.specs.Requirement.{sizeMost, bodyNumbers}
 use Rattle.cut.specs.declared.Bounds.{Bounds}
 use Rattle.cut.specs.declared.Record.{Record}
 use Rattle.cut.specs.Decision.{room, possible, addPart, joins, derived, settle}
@@ -23,6 +23,7 @@ use Rattle.cut.specs.laws.Marks.{topFrom, top-high, top-open, top-ended, total-
 use Rattle.cut.specs.laws.Segment.{SitsAs}
 use Rattle.cut.specs.Sums.{ended, possibleIn, acceptsIn, fullIn, fitsIn}
 use Rattle.cut.specs.laws.Sums.{possible-in}
+use Rattle.cut.specs.Missing.{Small}
 use Rattle.cut.specs.Lists.{pick, Each}
 use Rattle.part.specs.Memory.{Memory, placeOf, lengthOf}
 use Rattle.part.specs.Asked.{endRight, recordRight}
@@ -110,6 +111,23 @@ end-lies b S L size (suc n) tail w e t z =
     let r = last-lies b S L size n tail w e z in
     let d : suc n - 1 ≡ n = omega arith in
     rw d (r .0, r .2, r .1)
+
+-- its numbers are those of some part
+pub suited-small : (b : Bounds) (p : Record) → b .numbers ≤ bodyNumbers → Suited b p → Small p
+suited-small b p few u =
+    record { size = size (u .size); end = end (p .end) (u .ended); tail = tail (p .end) (u .ended) }
+  where
+    size : (p .size ≡ 0) ⊎ (p .size ≡ u .cut) → p .size ≤ sizeMost
+    size (inl z) = omega arith
+    size (inr z) = omega (arith, u .within .high)
+
+    end : (end : ℕ) → EndSits (u .cut) (u .long) end (p .tail) → end ≤ bodyNumbers
+    end zero e = omega arith
+    end (suc n) e = omega (arith, last-lies b (u .cut) (u .long) (p .size) n (p .tail) (u .within) e (u .size) .0)
+
+    tail : (end : ℕ) → EndSits (u .cut) (u .long) end (p .tail) → 1 ≤ end → p .tail ≤ sizeMost
+    tail zero e h = absurd (omega arith)
+    tail (suc n) e h = last-lies b (u .cut) (u .long) (p .size) n (p .tail) (u .within) e (u .size) .2
 
 -- ---- a segment at its place
 
@@ -229,13 +247,16 @@ possible-top b p marks e = go (ℕ-discrete (sumOf marks) (ended p))
             at zero y = absurd (s (rw y at past))
             at (suc x) y = omega arith
 
+pub within-suited : (b : Bounds) (p : Record) (marks : List ℕ) → possibleIn b p marks ≡ true
+    → Suited b (settle b (fullIn p marks) p)
+within-suited b p marks e = let t = possible-top b p marks e in rw (t .2) (settled-suited b (t .0) p (t .1))
+
 pub within-moves : (b : Bounds) (p : Record) (marks : List ℕ) (width : ℕ) → b .most ≤ width → possibleIn b p marks
     ≡ true → p .size ≡ 0 → 0 < settle b (fullIn p marks) p .size → 2 ≤ p .end
     → Moves width p (settle b (fullIn p marks) p)
 unfolding settle
 within-moves b p marks width h e z s g =
-    let t = possible-top b p marks e in
-    let u : Suited b (settle b (fullIn p marks) p) = rw (t .2) (settled-suited b (t .0) p (t .1)) in
+    let u = within-suited b p marks e in
     let r = end-lies b (u .cut) (u .long) (settle b (fullIn p marks) p .size) (p .end) (p .tail) (u .within) (u .ended)
     (λ y. absurd (omega arith)) (u .size) in
     record { tail = omega (arith, r .2); place = omega (arith, r .2) }
@@ -324,6 +345,16 @@ module _ (b : Bounds) (m : Memory) (bits : Each (λ x. x ≤ 1) (m .marks)) (rig
           by (inl x) = inl (right-size e ∙ x)
           by (inr x) = inr (right-size e ∙ x)
 
+  pub right-suited : Suited b (m .kept)
+  right-suited =
+      record {
+        cut = right-suits .cut;
+        long = right-suits .long;
+        within = right-suits .within;
+        ended = right-suits .ended;
+        size = size-known;
+      }
+
   -- a marked number is that of a segment of a part so long, cut so
   pub marked-sits : (last : Bool) (n : ℕ) → eqb (suc n) (m .kept .end) ≡ last → 0 < getD (m .marks) n 0
       → SitsAs last (right-suits .cut) (right-suits .long) n (lengthOf last (m .kept))
@@ -345,6 +376,17 @@ module _ (b : Bounds) (p : Record) (marks : List ℕ) (last : Bool) (n k : ℕ) 
     pub fits-placed : (width : ℕ) → b .most ≤ width
         → Placed width (b .numbers) last (settle b (pick last (fullIn p marks) true) (addPart last n k p) .size) n k
     fits-placed width h = accepted-placed b n k p marks width h last (fits-both .0) (fits-both .1)
+
+    pub fits-suited : Suited b (settle b (pick last (fullIn p marks) true) (addPart last n k p))
+    fits-suited = by last (fits-both .0) (fits-both .1)
+      where
+        by : (last : Bool) → joins (fullIn p marks) last k p ≡ true → acceptsIn last n b (addPart last n k p) marks
+            ≡ true → Suited b (settle b (pick last (fullIn p marks) true) (addPart last n k p))
+        by false j e =
+            rw (le-leb 1 (suc n) (omega arith)) at (settled-suited b (suc n) (addPart false n k p)
+            (both-true (leb (suc n) (room b (addPart false n k p))) _ e .0))
+        by true j e = let t = last-top b n k p marks (last-joins (fullIn p marks) k p j) e in
+            rw (t .2) (settled-suited b (t .0) (addPart true n k p) (t .1))
 
     pub fits-moves : (width : ℕ) → b .most ≤ width → 2 ≤ p .end
         → Moves width p (settle b (pick last (fullIn p marks) true) (addPart last n k p))

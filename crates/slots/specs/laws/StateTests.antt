@@ -14,7 +14,7 @@ use Rattle.cut.specs.Decision.{both, all}
 use Rattle.cut.specs.laws.Decision.{all-true}
 use Rattle.object.specs.declared.Slot.{Slot}
 use Rattle.object.specs.Sound.{soundParts, soundSlot}
-use Rattle.object.specs.Parts.{partsOf, coreIn, stageOf}
+use Rattle.object.specs.Parts.{partsOf, coreIn, stageOf, missingIn}
 use Rattle.slots.specs.Stores.{slotsMost, slotMarks, Stores, lentAt, freeSlot, Limits}
 use Rattle.slots.specs.State.{withinLimits, rightSlot, rightBy, rightFrom}
 
@@ -72,7 +72,7 @@ one-more d l count i h g = drop-cons (take count l) i d (rw length-take (omega a
 
 pub right-meets : (limit i : ℕ) (slot : Slot) (stores : Stores) → rightSlot limit slot (lentAt limit i stores)
     ≡ rightBy limit i slot (stores .header) (stores .marks)
-unfolding rightSlot rightBy lentAt soundSlot soundParts partsOf coreIn stageOf
+unfolding rightSlot rightBy lentAt soundSlot soundParts partsOf coreIn stageOf missingIn
 right-meets limit i slot stores = refl
 
 module _ (slots : List Slot) (count i : ℕ) where

@@ -18,7 +18,7 @@ cast-header : tie.Need-cast-header
 cast-header c = search needs
 
 returns : tie.Need-returns
-returns c = rw (c .before .before .if1 .taken, c .before .body-size .ensures, c .header-size .ensures) refl
+returns c = rw (c .before .before .if1 .taken, c .before .body-size .ensures .0, c .header-size .ensures) refl
 
 returns-2 : tie.Need-returns-2
 returns-2 c = rw (ne-eqb (c .before .before .args .number) 0 (c .if1 .left)) refl
