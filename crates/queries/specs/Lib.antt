@@ -1,3 +1,4 @@
 pub mod Said
 pub mod Questions
+pub mod Missing
 pub mod laws

@@ -1,4 +1,4 @@
--- What each question about objects is answered; none changes anything.
+-- What each question about finished objects is answered; none changes anything.
 use mathlib.Core.List.{List, []}
 use Prim.Native.Nat.{ℕ, _≤_}
 use Rattle.answer.specs.declared.Reason.{Reason}
@@ -16,13 +16,7 @@ use Rattle.queries.specs.declared.Asked.{Asked}
 use Rattle.queries.specs.declared.Asked.the-variants as Asked
 use Rattle.queries.specs.declared.Sought.{Sought}
 use Rattle.queries.specs.declared.Sought.the-variants as Sought
-use Rattle.queries.specs.declared.Awaited.{Awaited}
-use Rattle.queries.specs.declared.Awaited.the-variants as Awaited
 use Rattle.queries.specs.Said.{askedAs}
-use Rattle.slots.specs.declared.Found.{Found}
-use Rattle.slots.specs.declared.Found.the-variants.{Nothing, At}
-use Rattle.slots.specs.Find.{findIn}
-use Rattle.slots.specs.Stores.{slotAt}
 use Rattle.collector.specs.State.{State}
 use Rattle.collector.specs.Calls.{locate, show, sound}
 use Rattle.cut.specs.Lists.{pick}
@@ -45,16 +39,6 @@ namedOf (Located.At i) header = nameData header
 -- ContentName's data, as a part of the header that is shown; nothing where it has none, or where none is shown
 unfoldable pub name : ℕ → State → List ℕ
 name number s = namedOf (locate number s) (show number Header s)
-
--- ---- how much is still missing
-
-abbrev pub awaitedIn : Found → State → Awaited
-awaitedIn Nothing s = Awaited.Denied Reason.NotHeld
-awaitedIn (At i) s = Awaited.Bytes (slotAt i (s .collector .slots) .missing)
-
--- STATE, NOTHELD; then the number that the slot keeps, whether the object is finished or not
-unfoldable pub missing : ℕ → State → Awaited
-missing number s = pick (sound s) (awaitedIn (findIn number (s .collector .count) (s .collector .slots)) s) (Awaited.Denied Reason.State)
 
 -- ---- whose a name is
 

@@ -14,7 +14,8 @@ use name_search::Holder;
 use slots::Found;
 ghost use mathlib.Core.Path.{_≡_};
 ghost use Rattle.collector.specs.State.{stores, state};
-ghost use Rattle.queries.specs.Questions.{soughtAs, parameters, name, find, missing};
+ghost use Rattle.queries.specs.Questions.{soughtAs, parameters, name, find};
+ghost use Rattle.queries.specs.Missing.{missing};
 ghost use Rattle.queries.specs.Said.{reasonOf, askedAs};
 
 // What a finished object's header says, or why it is not told.
