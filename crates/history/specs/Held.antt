@@ -43,7 +43,7 @@ pub record Same (number : ℕ) (s t : State) : Type 0 where
   pub limit : limitOf t ≡ limitOf s
   -- the same slot holds it, or none
   pub found : find number t ≡ find number s
-  -- the slot's number, stage and records
+  -- the slot's number, stage, records and number of bytes still to come
   pub slot : (i : ℕ) → find number s ≡ At i → slotOf i t ≡ slotOf i s
   -- its marks, and all bytes of its shares
   pub lent : (i : ℕ) → find number s ≡ At i → lentOf i t ≡ lentOf i s

@@ -18,18 +18,20 @@ use Rattle.collector.specs.declared.Located.{Located}
 use Rattle.collector.specs.State.{Start, Opened, Reply, State}
 use Rattle.collector.specs.Arrival.{Arrival}
 use Rattle.queries.specs.declared.Asked.{Asked}
+use Rattle.queries.specs.declared.Awaited.{Awaited}
 use Rattle.queries.specs.declared.Sought.{Sought}
 use Rattle.history.specs.State.{OfBytes}
 use Rattle.slots.specs.Stores.{Limits}
 use Rattle.history.specs.Handed.{Handed, HandedBytes, Brought, arrives, refused, broughtBy}
 
--- a part of a finished object is asked for, what its header says, its name, or whose a name is; or the end user address
--- of a group
+-- a part of a finished object is asked for, what its header says, its name, or whose a name is; how many bytes of an
+-- object are still to come; or the end user address of a group
 pub data Question : Type 0 where
   show : (number : ℕ) (part : Part) → Question
   parameters : (number : ℕ) → Question
   name : (number : ℕ) → Question
   find : (sought : List ℕ) → Question
+  missing : (number : ℕ) → Question
   address : (bytes : List ℕ) → Question
 
 -- a group or a segment is handed in, a number is dropped, a question is asked
@@ -44,6 +46,12 @@ CallBytes (hand given) = HandedBytes given
 CallBytes (drop number) = Unit {0}
 CallBytes (ask question) = Unit {0}
 
+-- the call does not drop the number
+abbrev pub Keeps : ℕ → Call → Type 0
+Keeps number (hand given) = Unit {0}
+Keeps number (drop other) = number ≢ other
+Keeps number (ask question) = Unit {0}
+
 -- the call is not under the number
 abbrev pub Elsewhere : ℕ → Call → Type 0
 Elsewhere number (hand given) = (arrived : Arrival) → broughtBy given ≡ arrives arrived → number ≢ arrived .number
@@ -51,12 +59,13 @@ Elsewhere number (drop other) = number ≢ other
 Elsewhere number (ask question) = Unit {0}
 
 -- what comes back of a question: where the object is, with the part itself; what its header says; that, with the data
--- of its name; whose the name is; or the address
+-- of its name; whose the name is; how many bytes are still to come; or the address
 pub data Said : Type 0 where
   shown : (located : Located) (bytes : List ℕ) → Said
   read : (fields : Asked) → Said
   named : (fields : Asked) (bytes : List ℕ) → Said
   found : (whose : Sought) → Said
+  awaited : (bytes : Awaited) → Said
   addressed : (bytes : List ℕ) → Said
 
 -- a call with what came back
@@ -88,6 +97,7 @@ pub record Collecting : Type 0 where
   pub tells : ℕ → State → Asked
   pub names : ℕ → State → List ℕ
   pub finds : List ℕ → State → Sought
+  pub awaits : ℕ → State → Awaited
   pub addresses : List ℕ → State → List ℕ
   pub asks : Question → State → State
 
@@ -97,6 +107,7 @@ says k (show number part) s = shown (k .locates number s) (k .shows number part 
 says k (parameters number) s = read (k .tells number s)
 says k (name number) s = named (k .tells number s) (k .names number s)
 says k (find sought) s = found (k .finds sought s)
+says k (missing number) s = awaited (k .awaits number s)
 says k (address bytes) s = addressed (k .addresses bytes s)
 
 abbrev pub leaves : Collecting → Call → State → State

@@ -3,6 +3,7 @@
 -- themselves.
 use Rattle.collector.specs.Calls.{openWith, dropNumber, locate, show}
 use Rattle.queries.specs.Questions.{parameters, name, find}
+use Rattle.queries.specs.Missing.{missing}
 use Rattle.history.specs.History.{Collecting, asking}
 use Rattle.history.specs.Taking.{take, address}
 
@@ -16,6 +17,7 @@ ours = record {
   tells = parameters;
   names = name;
   finds = find;
+  awaits = missing;
   addresses = address;
   asks = asking;
 }

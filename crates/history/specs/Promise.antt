@@ -26,7 +26,9 @@ use Rattle.wire.specs.Reading.{repetitionIn, checkHolds, readingOf}
 use Rattle.wire.specs.Ignored.{SameButIgnored}
 use Rattle.cut.specs.Lists.{pick, Each, Among, Bytes}
 use Rattle.cut.specs.Requirement.{headerLeast, headerNumbers, bodyNumbers, Segment, empty, Fits, Finished, joined}
+use Rattle.cut.specs.declared.Amount.the-variants.{Known}
 use Rattle.cut.specs.Decision.{both}
+use Rattle.cut.specs.Missing.{missingOf, outsideOf}
 use Rattle.cut.specs.Parts.{headersWith, bodiesWith}
 use Rattle.header.specs.declared.Reading.{Reading}
 use Rattle.header.specs.Parameters.{readHeader}
@@ -41,10 +43,11 @@ use Rattle.collector.specs.declared.Opening.the-variants as Opening
 use Rattle.collector.specs.State.{Start, State, find, free, allFree}
 use Rattle.collector.specs.Arrival.{Arrival, heardAs, segmentIn, heardIn}
 use Rattle.queries.specs.declared.Asked.the-variants as Asked
+use Rattle.queries.specs.declared.Awaited.the-variants as Awaited
 use Rattle.queries.specs.declared.Sought.the-variants as Sought
 use Rattle.queries.specs.Said.{askedAs}
 use Rattle.history.specs.Held.{Same, SlotFor, limitOf, slotOf, stageFor, markedUnder}
-use Rattle.history.specs.History.{Question, Call, CallBytes, Elsewhere, shown, read, named, found, addressed, Event, handed, dropped, asked, Within, Allowed, Collecting, after, reached, told, under, storedUnder}
+use Rattle.history.specs.History.{Question, Call, CallBytes, Keeps, Elsewhere, shown, read, named, found, awaited, addressed, Event, handed, dropped, asked, Within, Allowed, Collecting, after, reached, told, under, storedUnder}
 use Rattle.history.specs.State.{OfBytes, InOrder}
 use Rattle.history.specs.Handed.{Handed, group, HandedBytes, arrives, broughtBy}
 
@@ -127,6 +130,7 @@ NotState (asked question (shown located bytes)) = located ≢ Located.Denied Rea
 NotState (asked question (read fields)) = fields ≢ Asked.Denied Reason.State
 NotState (asked question (named fields bytes)) = fields ≢ Asked.Denied Reason.State
 NotState (asked question (found whose)) = whose ≢ Sought.Denied Reason.State
+NotState (asked question (awaited bytes)) = bytes ≢ Awaited.Denied Reason.State
 NotState (asked question (addressed bytes)) = Unit {0}
 
 -- ---- the five counts
@@ -243,11 +247,28 @@ module _ (k : Collecting) (v : View) where
   UnheldBy = (number : ℕ) → (find number (v .state) ≡ Nothing)
       ↔ ((v .kept Header number ≡ []) × (v .kept Body number ≡ []))
 
-  -- An object that is asked for, or its parameters: NOTHELD exactly when its number holds no slot.
+  -- An object that is asked for, its parameters, or how much of it is missing: NOTHELD exactly when its number holds no
+  -- slot.
   abbrev pub NotHeldBy : Type 0
   NotHeldBy = (number : ℕ)
       → ((k .locates number (v .state) ≡ Located.Denied Reason.NotHeld) ↔ (find number (v .state) ≡ Nothing))
       × ((k .tells number (v .state) ≡ Asked.Denied Reason.NotHeld) ↔ (find number (v .state) ≡ Nothing))
+      × ((k .awaits number (v .state) ≡ Awaited.Denied Reason.NotHeld) ↔ (find number (v .state) ≡ Nothing))
+
+  -- How many bytes are still to come, of a number that holds a slot: what the stored segments give.
+  abbrev pub AwaitedBy : Type 0
+  AwaitedBy = (number : ℕ) → find number (v .state) ≢ Nothing
+      → k .awaits number (v .state) ≡ Awaited.Bytes (missingOf (v .kept Header number) (v .kept Body number))
+
+  -- None exactly when every segment is in.
+  abbrev pub NoneAwaitedBy : Type 0
+  NoneAwaitedBy = (number : ℕ) → (k .awaits number (v .state) ≡ Awaited.Bytes (Known 0))
+      ↔ ((f : FitsStored v number) × Finished f)
+
+  -- Every object and cut that fits has exactly that many bytes outside the stored segments.
+  abbrev pub OutsideBy : Type 0
+  OutsideBy = (number bytes : ℕ) → k .awaits number (v .state) ≡ Awaited.Bytes (Known bytes)
+      → (f : FitsStored v number) → outsideOf f ≡ bytes
 
   -- UNFINISHED exactly when it holds one and some segment is missing.
   abbrev pub UnfinishedBy : Type 0
@@ -314,6 +335,9 @@ pub record AnsweredBy (k : Collecting) (v : View) : Type 0 where
   pub dropping : DropBy k v
   pub unheld : UnheldBy k v
   pub notHeld : NotHeldBy k v
+  pub awaited : AwaitedBy k v
+  pub noneAwaited : NoneAwaitedBy k v
+  pub outside : OutsideBy k v
   pub unfinished : UnfinishedBy k v
   pub located : LocatedBy k v
   pub shown : ShownBy k v
@@ -409,6 +433,7 @@ module _ (k : Collecting) where
       × ((number : ℕ) → (k .tells number s ≡ Asked.Denied Reason.State) ↔ (¬ (InOrder s)))
       × ((sought : List ℕ) → (k .finds sought s ≡ Sought.Denied Reason.State) ↔ (¬ (InOrder s)))
       × (¬ (InOrder s) → (number : ℕ) → ((part : Part) → k .shows number part s ≡ []) × (k .names number s ≡ []))
+      × ((number : ℕ) → (k .awaits number s ≡ Awaited.Denied Reason.State) ↔ (¬ (InOrder s)))
 
   -- A question changes nothing, in any state.
   abbrev pub AskedLeaves : Type 0
@@ -479,6 +504,23 @@ module _ (k : Collecting) where
   -- The questions.
   abbrev pub NotHeldExactly : Type 0
   NotHeldExactly = (r : Run) → NotHeldBy k (since k r)
+
+  abbrev pub AwaitedExactly : Type 0
+  AwaitedExactly = (r : Run) → AwaitedBy k (since k r)
+
+  abbrev pub NoneAwaitedExactly : Type 0
+  NoneAwaitedExactly = (r : Run) → NoneAwaitedBy k (since k r)
+
+  abbrev pub OutsideExactly : Type 0
+  OutsideExactly = (r : Run) → OutsideBy k (since k r)
+
+  -- The number of bytes still to come never rises while a number is held: once it is known, calls that do not drop the
+  -- number leave it known, and no larger.
+  abbrev pub NeverRises : Type 0
+  NeverRises = (r : Run) (number bytes : ℕ) (more : List Call) → Each CallBytes more → Each (Keeps number) more
+      → k .awaits number (reachedBy k r) ≡ Awaited.Bytes (Known bytes)
+      → (fewer : ℕ) × (k .awaits number (after k more (reachedBy k r)) ≡ Awaited.Bytes (Known fewer))
+      × (fewer ≤ bytes)
 
   abbrev pub UnfinishedExactly : Type 0
   UnfinishedExactly = (r : Run) → UnfinishedBy k (since k r)
@@ -567,6 +609,10 @@ pub record Promised (k : Collecting) : Type 0 where
   pub finished : FinishedExactly k
   pub lengths : FinishedLengths k
   pub notHeld : NotHeldExactly k
+  pub awaited : AwaitedExactly k
+  pub noneAwaited : NoneAwaitedExactly k
+  pub outside : OutsideExactly k
+  pub neverRises : NeverRises k
   pub unfinished : UnfinishedExactly k
   pub located : LocatedExactly k
   pub reading : ReadExactly k

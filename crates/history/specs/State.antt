@@ -1,5 +1,5 @@
 -- What is said of a state by itself: the slots in use, bytes, the counts, and that it is not damaged, in document 01's
--- words.
+-- words and those of document 02, Item 4.
 use mathlib.Core.List.{List}
 use Prim.Native.Nat.{ℕ, _<_, _≤_}
 use lib.ListN.{length, getD}
@@ -48,7 +48,8 @@ pub record InOrder (s : State) : Type 0 where
   -- no mark is set in a free slot
   pub unmarked : (i : ℕ) → InUse i s → isFree (slotOf i s) ≡ true → (n : ℕ) → getD (lentOf i s .marks) n 0 ≡ 0
   -- the marks of a held slot are 0 or 1 and one is set; its marked segments, with their recorded lengths and stored
-  -- bytes, fit some object and cut; and its record and stage are those that these segments give
+  -- bytes, fit some object and cut; and its record, stage and number of bytes still to come are those that these
+  -- segments give
   pub held : (i : ℕ) → InUse i s → isFree (slotOf i s) ≡ false → Sound (limitOf s) (slotOf i s) (lentOf i s)
   -- no count lies outside 0 to 2147483647
   pub counts : Low (s .counts)

@@ -13,6 +13,7 @@ pub mod Reached
 pub mod Answers
 pub mod Stage
 pub mod Told
+pub mod Awaited
 pub mod Room
 pub mod Numbers
 pub mod Tally

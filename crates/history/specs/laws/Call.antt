@@ -32,6 +32,7 @@ use Rattle.collector.specs.Arrival.{Arrival, heardAs, arrivalIn}
 use Rattle.history.specs.Handed.{Handed, group, segment, byItself, arrives, refused, broughtIn, broughtBy}
 use Rattle.history.specs.History.{Collecting, asking}
 use Rattle.history.specs.Held.{limitOf, slotOf, lentOf}
+use Rattle.queries.specs.Missing.{missing}
 use Rattle.history.specs.Taking.{take, address}
 use Rattle.collector.specs.Calls as calls
 use Rattle.queries.specs.Questions as queries
@@ -241,6 +242,7 @@ defined = record {
   tells = queries.parameters;
   names = queries.name;
   finds = queries.find;
+  awaits = missing;
   addresses = address;
   asks = asking;
 }

@@ -3,7 +3,7 @@
 use mathlib.Core.Path.{_≡_, refl, ap, subst}
 use mathlib.Core.Logic.{_≢_, _⊎_, inl, inr, _↔_}
 use mathlib.Core.List.{List, [], _∷_}
-use Prim.Native.Nat.{ℕ}
+use Prim.Native.Nat.{ℕ, _≤_}
 use native.Mathlib.Omega.{arith}
 use lib.ListN.{length}
 use Rattle.answer.specs.declared.Answer.the-variants as Answer
@@ -21,12 +21,15 @@ use Rattle.slots.specs.declared.Found.{Found}
 use Rattle.slots.specs.declared.Found.the-variants.{Nothing, At}
 use Rattle.collector.specs.State.{Start, Reply, State, find}
 use Rattle.collector.specs.Calls.{answerFor, show}
+use Rattle.cut.specs.declared.Amount.the-variants.{Known}
+use Rattle.queries.specs.declared.Awaited.the-variants as Awaited
+use Rattle.queries.specs.Missing.{missing}
 use Rattle.queries.specs.laws.Theorems.{core-shown}
 use Rattle.history.specs.Held.{SlotFor, Same, limitOf, stageFor, markedUnder}
 use Rattle.history.specs.laws.Call.{dropAnswer, unread, came, none-dropped, found-dropped, defined}
 use Rattle.history.specs.laws.Ready.{used-inside, found-used}
 use Rattle.history.specs.laws.Sound.{Intact, brought-bytes, handed-intact}
-use Rattle.history.specs.laws.State.{in-order-exactly, drop-never, located-never, told-never, found-never, handed-never}
+use Rattle.history.specs.laws.State.{in-order-exactly, drop-never, located-never, told-never, found-never, awaited-never, handed-never}
 use Rattle.wire.specs.declared.Reading.{Reading}
 use Rattle.wire.specs.laws.Theorems.{ignored, read-repetition}
 use Rattle.collector.specs.Arrival.{segmentIn, heardIn, arrivalIn}
@@ -34,14 +37,15 @@ use Rattle.history.specs.laws.Numbers.{byte-low}
 use Rattle.history.specs.Handed.{broughtIn, group}
 use Rattle.history.specs.State.{OfBytes, InOrder}
 use Rattle.history.specs.laws.Others.{same-shown}
-use Rattle.history.specs.History.{Question, Call, hand, drop, ask, CallBytes, Elsewhere, event, after, Allowed, reached, told}
+use Rattle.history.specs.History.{Question, Call, hand, drop, ask, CallBytes, Keeps, Elsewhere, event, after, Allowed, reached, told}
 use Rattle.history.specs.laws.Stands.{StandsFor, came-lowest}
 use Rattle.history.specs.laws.Reached.{reached-intact, reached-stands, reached-limit, others-same}
 use Rattle.history.specs.laws.Answers.{Meets, Room, came-exactly, came-full, marked-stands}
 use Rattle.history.specs.laws.Stage.{none-finished, all-finished, finished-all, finished-shown, unfinished-shown}
 use Rattle.history.specs.laws.Told.{not-held, unfinished, located-exactly, read-exactly, name-finished, name-missing, found-exactly, nobody-exactly}
+use Rattle.history.specs.laws.Awaited.{awaited-exactly, awaited-not-held, none-awaited, outside-exactly, never-rises}
 use Rattle.history.specs.laws.Room.{unheld-exactly}
-use Rattle.history.specs.Promise.{Run, reachedBy, stored, Passing, segmentOf, heardOf, repetitionOf, View, since, byMarks, answerTo, FitsStored, NotState, ConflictBy, FullBy, RepeatBy, ResentBy, CompleteBy, StoredBy, LateBy, LowestFreeBy, UnreadBy, DropBy, UnheldBy, NotHeldBy, UnfinishedBy, LocatedBy, ShownBy, CoreBy, UnshownBy, ReadBy, NamedBy, FoundBy, NotFoundBy, AnsweredBy}
+use Rattle.history.specs.Promise.{Run, reachedBy, stored, Passing, segmentOf, heardOf, repetitionOf, View, since, byMarks, answerTo, FitsStored, NotState, ConflictBy, FullBy, RepeatBy, ResentBy, CompleteBy, StoredBy, LateBy, LowestFreeBy, UnreadBy, DropBy, UnheldBy, NotHeldBy, AwaitedBy, NoneAwaitedBy, OutsideBy, UnfinishedBy, LocatedBy, ShownBy, CoreBy, UnshownBy, ReadBy, NamedBy, FoundBy, NotFoundBy, AnsweredBy}
 use Rattle.history.specs.Taking.{take}
 
 -- ---- by what is stored
@@ -172,7 +176,21 @@ module _ (s : State) (kept : Part → ℕ → List Segment) (whole : Intact s)
   -- ---- the questions
 
   not-held-by : NotHeldBy defined (holding s kept)
-  not-held-by number = not-held number s (kept Header number) (kept Body number) (whole .undamaged) (stands number)
+  not-held-by number =
+      let x = not-held number s (kept Header number) (kept Body number) (whole .undamaged) (stands number) in
+      (x .0, x .1, awaited-not-held number s (kept Header number) (kept Body number) (whole .undamaged) (stands number))
+
+  awaited-by : AwaitedBy defined (holding s kept)
+  awaited-by number = awaited-exactly number s (kept Header number) (kept Body number) (whole .undamaged)
+      (stands number)
+
+  none-awaited-by : NoneAwaitedBy defined (holding s kept)
+  none-awaited-by number = none-awaited number s (kept Header number) (kept Body number) (whole .undamaged)
+      (stands number)
+
+  outside-by : OutsideBy defined (holding s kept)
+  outside-by number = outside-exactly number s (kept Header number) (kept Body number) (whole .undamaged)
+      (stands number)
 
   unfinished-by : UnfinishedBy defined (holding s kept)
   unfinished-by number = unfinished number s (kept Header number) (kept Body number) (whole .undamaged) (stands number)
@@ -230,6 +248,9 @@ module _ (s : State) (kept : Part → ℕ → List Segment) (whole : Intact s)
     dropping = drop-by;
     unheld = unheld-by;
     notHeld = not-held-by;
+    awaited = awaited-by;
+    noneAwaited = none-awaited-by;
+    outside = outside-by;
     unfinished = unfinished-by;
     located = located-by;
     shown = shown-by;
@@ -256,6 +277,7 @@ event-not-state (ask (Question.show number part)) s whole = located-never number
 event-not-state (ask (Question.parameters number)) s whole = told-never number s (whole .undamaged)
 event-not-state (ask (Question.name number)) s whole = told-never number s (whole .undamaged)
 event-not-state (ask (Question.find sought)) s whole = found-never sought s (whole .undamaged)
+event-not-state (ask (Question.missing number)) s whole = awaited-never number s (whole .undamaged)
 event-not-state (ask (Question.address bytes)) s whole = tt
 
 pub never-state : (start : Start) → Allowed start → (calls : List Call) → Each CallBytes calls
@@ -295,6 +317,13 @@ module _ (r : Run) where
         λ part. same-shown number part (reachedBy defined r) (after defined more (reachedBy defined r))
             (whole .undamaged) (same .1 .undamaged) (same .0),
       )
+
+  -- calls that do not drop a number
+  pub never-more : (number bytes : ℕ) (more : List Call) → Each CallBytes more → Each (Keeps number) more
+      → missing number (reachedBy defined r) ≡ Awaited.Bytes (Known bytes) → (fewer : ℕ)
+      × (missing number (after defined more (reachedBy defined r)) ≡ Awaited.Bytes (Known fewer)) × (fewer ≤ bytes)
+  never-more number bytes more y d e =
+      never-rises number bytes more (reachedBy defined r) (told defined (r .start) (r .calls)) y d whole stands e
 
   -- the stage of a number's slot
   module _ (number : ℕ) where

@@ -3,7 +3,7 @@
 use mathlib.Core.Path.{_≡_, refl, sym, ap, _∙_}
 use mathlib.Core.Bool.{Bool}
 use mathlib.Core.List.{List, [], _∷_}
-use Prim.Native.Nat.{ℕ, suc, _+_, min}
+use Prim.Native.Nat.{ℕ, suc, _+_, _-_, _*_, min}
 use native.Mathlib.Omega.{arith}
 use lib.Dec.{eqb, ltb}
 use lib.ListN.{length, getD, take, drop}
@@ -20,12 +20,16 @@ use Rattle.answer.specs.declared.Refusal.the-variants.{BadCheck}
 use Rattle.wire.specs.Wire.{endUserAddress, endUserAddressLength}
 use Rattle.wire.specs.Reading.{readingOf}
 use Rattle.cut.specs.Requirement.{headerSize}
+use Rattle.cut.specs.declared.Amount.the-variants.{Unknown, Known}
+use Rattle.cut.specs.laws.Theorem.{fits-sent}
 use Rattle.cut.specs.Lists.{pick}
 use Rattle.header.specs.declared.Reading.the-variants as Reading
 use Rattle.header.specs.declared.Refusal.the-variants as Refusal
 use Rattle.header.specs.Parameters.{readHeader}
 use Rattle.header.specs.Names.{nameData, hasName}
 use Rattle.object.specs.declared.Slot.{Slot}
+use Rattle.object.specs.declared.Stage.{Stage}
+use Rattle.object.specs.declared.Stage.the-variants as Stage
 use Rattle.slots.specs.declared.Found.{Found}
 use Rattle.slots.specs.declared.Found.the-variants.{Nothing, At}
 use Rattle.name_search.specs.declared.Holder.{Holder}
@@ -38,17 +42,21 @@ use Rattle.collector.specs.Calls.{locate, locatedIn, show, shownAt}
 use Rattle.queries.specs.Questions as queries
 use Rattle.queries.specs.declared.Asked.{Asked}
 use Rattle.queries.specs.declared.Asked.the-variants as Asked
+use Rattle.queries.specs.declared.Awaited.{Awaited}
+use Rattle.queries.specs.declared.Awaited.the-variants as Awaited
+use Rattle.queries.specs.Missing.{awaitedIn, missing}
 use Rattle.queries.specs.declared.Sought.{Sought}
 use Rattle.queries.specs.declared.Sought.the-variants as Sought
 use Rattle.queries.specs.Questions.{askedOf, soughtAs}
 use Rattle.queries.specs.Said.{askedAs}
-use Rattle.history.specs.Held.{lentOf}
-use Rattle.history.specs.History.{Question}
+use Rattle.history.specs.Held.{lentOf, stageFor}
+use Rattle.history.specs.Handed.{group}
+use Rattle.history.specs.History.{Question, hand}
 use Rattle.history.specs.laws.Stage.{none-finished}
 use Rattle.history.specs.laws.Demands.{run-answered}
-use Rattle.history.specs.Promise.{reachedBy, StateAskExactly, AskedLeaves, AddressExactly, NotHeldExactly, UnfinishedExactly, LocatedExactly, CoreShown, ReadExactly, NamesRead, FoundExactly, NotFoundExactly}
-use Rattle.history.specs.laws.Samples.{computing, small, pair}
-use Rattle.history.specs.laws.Trials.{core, fiveAgain, fiveSpoilt, readAgain, none, one, waiting, namedWaiting, named, spoilt, crossed, withCounts, recounted-bytes, recounted, damaged, is-damaged, uneven, doubted, foundSlot, locatedNumber, askedNumber, askedLength, soughtNumber, locatingBy, showingBy, tellingBy, namingBy, findingBy, addressingBy, askingBy}
+use Rattle.history.specs.Promise.{Run, reachedBy, stored, StateAskExactly, AskedLeaves, AddressExactly, NotHeldExactly, AwaitedExactly, NoneAwaitedExactly, OutsideExactly, NeverRises, UnfinishedExactly, LocatedExactly, CoreShown, ReadExactly, NamesRead, FoundExactly, NotFoundExactly}
+use Rattle.history.specs.laws.Samples.{computing, small, allowed, pair, bodyLast, header, object, sent-one}
+use Rattle.history.specs.laws.Trials.{core, emptyFive, fiveAgain, fiveSpoilt, readAgain, none, one, waiting, namedWaiting, named, spoilt, crossed, withCounts, recounted-bytes, recounted, damaged, is-damaged, uneven, doubted, foundSlot, locatedNumber, askedNumber, askedLength, soughtNumber, awaitedNumber, locatingBy, showingBy, tellingBy, namingBy, findingBy, awaitingBy, addressingBy, askingBy}
 use Rattle.history.specs.laws.Call.{defined}
 
 -- ---- in a damaged state
@@ -104,6 +112,7 @@ countsQuestions (Question.show number part) s = countedAs (locate number s) s
 countsQuestions (Question.parameters number) s = countedAs (locate number s) s
 countsQuestions (Question.name number) s = countedAs (locate number s) s
 countsQuestions (Question.find sought) s = s
+countsQuestions (Question.missing number) s = countedAs (locate number s) s
 countsQuestions (Question.address bytes) s = s
 
 pub counts-questions-breaks : ¬ (AskedLeaves (askingBy countsQuestions))
@@ -379,4 +388,99 @@ unfolding computing small
 addresses-unread-breaks p =
     let e : _≡_ {A = ℕ} 2 0 = ap (λ (l : List ℕ). length l)
     (p fiveSpoilt (reachedBy defined one) .1 BadCheck refl) in
+    absurd (omega arith)
+
+-- ---- how many bytes are still to come
+
+-- where that is not known, none
+abbrev zeroFor : Awaited → Awaited
+zeroFor (Awaited.Bytes Unknown) = Awaited.Bytes (Known 0)
+zeroFor (Awaited.Bytes (Known bytes)) = Awaited.Bytes (Known bytes)
+zeroFor (Awaited.Denied why) = Awaited.Denied why
+
+abbrev pub unknownAsNone : ℕ → State → Awaited
+unknownAsNone number s = zeroFor (missing number s)
+
+-- the last segment of a body alone
+abbrev parked : Run
+parked = record { start = small; allowed = allowed; calls = hand (group bodyLast) ∷ []; bytes = (omega arith, tt) }
+
+pub unknown-as-none-breaks : ¬ (NoneAwaitedExactly (awaitingBy unknownAsNone))
+unfolding computing small
+unknown-as-none-breaks p =
+    let x = p parked 5 .0 refl in
+    none-finished 1024 [] (stored (awaitingBy unknownAsNone) parked Body 5) (x .0) (x .1) refl
+
+-- all that the object has, whether it has arrived or not
+abbrev lengthsIn : Stage → Awaited → Awaited
+lengthsIn Stage.Free said = said
+lengthsIn Stage.Gathering said = said
+lengthsIn (Stage.Finished header body) said = Awaited.Bytes (Known (header + body))
+
+abbrev pub arrivedUncounted : ℕ → State → Awaited
+arrivedUncounted number s = lengthsIn (stageFor number s) (missing number s)
+
+pub arrived-uncounted-breaks : ¬ (AwaitedExactly (awaitingBy arrivedUncounted))
+unfolding computing small
+arrived-uncounted-breaks p =
+    let e : _≡_ {A = ℕ} 107 100 = ap awaitedNumber (p one 5 λ n. let z : _≡_ {A = ℕ} 0 1 = cc in absurd (omega arith)) in
+    absurd (omega arith)
+
+-- a repeat is counted as if its bytes were new
+abbrev lessBy : ℕ → Awaited → Awaited
+lessBy count (Awaited.Bytes Unknown) = Awaited.Bytes Unknown
+lessBy count (Awaited.Bytes (Known bytes)) = Awaited.Bytes (Known (bytes - count * 7))
+lessBy count (Awaited.Denied why) = Awaited.Denied why
+
+abbrev pub repeatsArrive : ℕ → State → Awaited
+repeatsArrive number s = lessBy (s .counts .repeated) (missing number s)
+
+-- a header of 7 bytes, twice; its body of 20 is still to come
+abbrev repeating : Run
+repeating = record {
+  start = small;
+  allowed = allowed;
+  calls = hand (group header) ∷ hand (group header) ∷ [];
+  bytes = (omega arith, (omega arith, tt));
+}
+
+pub repeats-arrive-breaks : ¬ (OutsideExactly (awaitingBy repeatsArrive))
+unfolding computing small object
+repeats-arrive-breaks p =
+    let e : _≡_ {A = ℕ} 20 13 = p repeating 5 13 refl (fits-sent object _ [] (sent-one .0, tt) tt) in
+    absurd (omega arith)
+
+-- as many as segments were taken
+abbrev pub countsUp : ℕ → State → Awaited
+countsUp number s = Awaited.Bytes (Known (s .counts .taken))
+
+pub counts-up-breaks : ¬ (NeverRises (awaitingBy countsUp))
+unfolding computing small
+counts-up-breaks p =
+    let x = p one 5 1 (hand (group emptyFive) ∷ []) (omega arith, tt) (tt, tt) refl in
+    let e : _≡_ {A = ℕ} 102 (100 + x .0) = ap awaitedNumber (x .1) in
+    absurd (omega (arith, x .2))
+
+-- a question is answered in any state
+abbrev pub awaitsDamaged : ℕ → State → Awaited
+awaitsDamaged number s = awaitedIn (find number s) s
+
+pub awaits-damaged-breaks : ¬ (StateAskExactly (awaitingBy awaitsDamaged))
+unfolding computing small
+awaits-damaged-breaks p =
+    let e : _≡_ {A = ℕ} 100 26 = ap awaitedNumber (p damaged (recounted-bytes one) .4 5 .1 is-damaged) in
+    absurd (omega arith)
+
+-- of a number that holds no slot, that it is not known
+abbrev unheldAs : Found → Awaited → Awaited
+unheldAs Nothing said = Awaited.Bytes Unknown
+unheldAs (At i) said = said
+
+abbrev pub unheldUnknown : ℕ → State → Awaited
+unheldUnknown number s = unheldAs (find number s) (missing number s)
+
+pub unheld-unknown-breaks : ¬ (NotHeldExactly (awaitingBy unheldUnknown))
+unfolding computing small
+unheld-unknown-breaks p =
+    let e : _≡_ {A = ℕ} 99 19 = ap awaitedNumber (p none 5 .2 .1 refl) in
     absurd (omega arith)

@@ -4,8 +4,8 @@ use Rattle.wire.specs.laws.Theorems.{address-exactly}
 use Rattle.history.specs.laws.Refused.{refused-handed, unanswered-handed, refused-drop, repeated-handed, drop-stores, limits-exactly, opened-leaves, unopened-leaves}
 use Rattle.history.specs.laws.State.{handed-state, drop-state, ask-state}
 use Rattle.history.specs.Ours.{ours}
-use Rattle.history.specs.Promise.{RefusedLeaves, UnansweredLeaves, RepeatLeaves, StateExactly, MarkedExactly, LimitsExactly, OpenedLeaves, UnopenedLeaves, NeverState, UndroppedLeaves, StateDropExactly, DropKeepsStores, StateAskExactly, AskedLeaves, AddressExactly, OthersLeave, ShownJoined, CoreShown, UnfinishedUnshown, CountsTold, ConflictExactly, FullExactly, RepeatExactly, ResentRepeats, CompleteExactly, StoredExactly, LateStored, LowestFreeTaken, UnreadRefused, DropExactly, UnheldExactly, NoneFreeExactly, FinishedExactly, FinishedLengths, NotHeldExactly, UnfinishedExactly, LocatedExactly, ReadExactly, NamesRead, FoundExactly, NotFoundExactly, OneCutAgrees, OneCutFinishes, Promised}
-use Rattle.history.specs.laws.Demands.{marked-answered, never-state, others-held, run-answered, finished-exactly, finished-lengths}
+use Rattle.history.specs.Promise.{RefusedLeaves, UnansweredLeaves, RepeatLeaves, StateExactly, MarkedExactly, LimitsExactly, OpenedLeaves, UnopenedLeaves, NeverState, UndroppedLeaves, StateDropExactly, DropKeepsStores, StateAskExactly, AskedLeaves, AddressExactly, OthersLeave, ShownJoined, CoreShown, UnfinishedUnshown, CountsTold, ConflictExactly, FullExactly, RepeatExactly, ResentRepeats, CompleteExactly, StoredExactly, LateStored, LowestFreeTaken, UnreadRefused, DropExactly, UnheldExactly, NoneFreeExactly, FinishedExactly, FinishedLengths, NotHeldExactly, AwaitedExactly, NoneAwaitedExactly, OutsideExactly, NeverRises, UnfinishedExactly, LocatedExactly, ReadExactly, NamesRead, FoundExactly, NotFoundExactly, OneCutAgrees, OneCutFinishes, Promised}
+use Rattle.history.specs.laws.Demands.{marked-answered, never-state, others-held, never-more, run-answered, finished-exactly, finished-lengths}
 use Rattle.history.specs.laws.Room.{none-free-exactly}
 use Rattle.history.specs.laws.Tally.{reached-counts}
 use Rattle.history.specs.laws.OneCut.{one-cut-agrees, one-cut-finishes}
@@ -129,6 +129,18 @@ finishes-promised = one-cut-finishes
 pub not-held-promised : NotHeldExactly ours
 not-held-promised r = run-answered r .notHeld
 
+pub awaited-promised : AwaitedExactly ours
+awaited-promised r = run-answered r .awaited
+
+pub none-awaited-promised : NoneAwaitedExactly ours
+none-awaited-promised r = run-answered r .noneAwaited
+
+pub outside-promised : OutsideExactly ours
+outside-promised r = run-answered r .outside
+
+pub never-rises-promised : NeverRises ours
+never-rises-promised = never-more
+
 pub unfinished-promised : UnfinishedExactly ours
 unfinished-promised r = run-answered r .unfinished
 
@@ -186,6 +198,10 @@ promised = record {
   finished = finished-promised;
   lengths = lengths-promised;
   notHeld = not-held-promised;
+  awaited = awaited-promised;
+  noneAwaited = none-awaited-promised;
+  outside = outside-promised;
+  neverRises = never-rises-promised;
   unfinished = unfinished-promised;
   located = located-promised;
   reading = reading-promised;

@@ -93,12 +93,12 @@ leaves-bounds (ask question) s whole = record { limit = refl; count = refl }
 
 -- ---- one call
 
-leaves-intact : (call : Call) (s : State) → CallBytes call → Intact s → Intact (leaves defined call s)
+pub leaves-intact : (call : Call) (s : State) → CallBytes call → Intact s → Intact (leaves defined call s)
 leaves-intact (hand given) s y whole = handed-intact given s y whole
 leaves-intact (drop number) s y whole = drop-intact number s whole
 leaves-intact (ask question) s y whole = whole
 
-leaves-stands : (call : Call) (s : State) (events : List Event) → CallBytes call → Intact s → Stands s events
+pub leaves-stands : (call : Call) (s : State) (events : List Event) → CallBytes call → Intact s → Stands s events
     → Stands (leaves defined call s) (event defined call s ∷ events)
 unfolding under
 leaves-stands (hand given) s events y whole w = handed-stands given s events y whole w

@@ -15,9 +15,10 @@ use Rattle.wire.specs.declared.Carried.{Carried}
 use Rattle.wire.specs.declared.Reading.the-variants.{Read}
 use Rattle.wire.specs.Reading.{kindOf, checkHolds, sizeWrong, segmentOf, readingOf, addressOf}
 use Rattle.cut.specs.laws.Lists.{bytes-zeros}
-use Rattle.cut.specs.Requirement.{bodySize, headerSize, contentType, contentSubType, Segment}
+use Rattle.cut.specs.Requirement.{bodySize, headerSize, contentType, contentSubType, Segment, joined}
 use Rattle.cut.specs.Decision.{boundsOf, coreFits, room, largest, alone, settle}
 use Rattle.cut.specs.Sums.{possibleIn, fitsIn}
+use Rattle.cut.specs.Missing.{missingOf, outside, missingBy}
 use Rattle.cut.specs.laws.Segment.{Numbered}
 use Rattle.cut.specs.laws.Finished.{whole-numbers}
 use Rattle.cut.specs.Lists.{Each, Among}
@@ -28,7 +29,7 @@ use Rattle.object.specs.Take.{takesIn, decided, partsWith, slotWith, takeInto}
 use Rattle.part.specs.Asked.{recordWith, recordWithin, sameSegment, recordRight, soundPart}
 use Rattle.object.specs.Sound.{soundParts, soundSlot}
 use Rattle.object.specs.Source.{Source, SegmentOf, SentBy}
-use Rattle.object.specs.Parts.{partsOf, lentOf, coreIn, stageOf}
+use Rattle.object.specs.Parts.{partsOf, lentOf, coreIn, stageOf, missingIn}
 use Rattle.slots.specs.Alone.{fitsAlone}
 use Rattle.slots.specs.Find.{isFree, holds, firstFrom, findIn, freeIn}
 use Rattle.slots.specs.State.{withinLimits, heldAmong, unlike, distinct, rightSlot, rightFrom, soundSlots}
@@ -40,6 +41,7 @@ use Rattle.collector.specs.State.{Start}
 use Rattle.collector.specs.Calls.{takeSegment, takeGroup, dropNumber, openWith, locate, show, sound}
 use Rattle.collector.specs.Arrival.{noRepetition, segmentIn}
 use Rattle.queries.specs.Questions.{parameters, name, find as findByName}
+use Rattle.queries.specs.Missing.{missing}
 use Rattle.history.specs.Handed.{group}
 use Rattle.history.specs.History.{Call, hand, CallBytes, Allowed, under}
 
@@ -77,7 +79,7 @@ unfolding parameters name findByName nameData hasName holdsName holderIn lowestF
     locate show shownOf startOf takeAt takeNew dropAt slotAt freshSlot freeSlot withLent lentAt soundSlots rightFrom
     rightSlot distinct unlike heldAmong withinLimits freeIn findIn firstFrom holds isFree fitsAlone soundSlot soundParts
     soundPart recordRight takeInto decided slotWith sameSegment stageOf partsWith recordWithin recordWith takesIn fitsIn
-    coreIn lentOf partsOf
+    coreIn lentOf partsOf missingIn missingBy missingOf joined outside missing
     put settled segmentAt possibleIn settle alone largest room coreFits boundsOf headerSize bodySize within
     risen largestOf equal zeros over readingOf addressOf kindOf checkHolds sizeWrong segmentOf checkWord divided bitsEntered
     entered step

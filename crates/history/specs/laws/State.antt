@@ -48,6 +48,8 @@ use Rattle.queries.specs.Questions as queries
 use Rattle.queries.specs.declared.Asked.the-variants as Asked
 use Rattle.queries.specs.declared.Sought.the-variants as Sought
 use Rattle.queries.specs.Questions.{askedOf, parameters, name, soughtAs, find as findByName}
+use Rattle.queries.specs.declared.Awaited.the-variants as Awaited
+use Rattle.queries.specs.Missing.{awaitedIn, missing}
 use Rattle.queries.specs.Said.{askedAs}
 use Rattle.history.specs.laws.Slots.{undamaged-sound}
 use Rattle.history.specs.Held.{lentOf, limitOf, slotOf}
@@ -175,6 +177,14 @@ unfolding findByName
 found-never sought s good d = sought-never
     (foundByName sought (s .collector .count) (s .collector .slots) (s .stores .header)) (rw good at d)
 
+awaited-in : (found : Found) (s : State) → awaitedIn found s ≢ Awaited.Denied Reason.State
+awaited-in Nothing s e = let z : _≡_ {A = ℕ} 0 1 = cc in absurd (omega arith)
+awaited-in (At i) s e = let z : _≡_ {A = ℕ} 0 1 = cc in absurd (omega arith)
+
+pub awaited-never : (number : ℕ) (s : State) → sound s ≡ true → missing number s ≢ Awaited.Denied Reason.State
+unfolding missing
+awaited-never number s good d = awaited-in (find number s) s (rw good at d)
+
 -- ---- STATE exactly when the state is damaged
 
 tested : (s : State) (b : Bool) → sound s ≡ b → OfBytes (s .stores) → ¬ (InOrder s) → sound s ≡ false
@@ -216,11 +226,16 @@ found-damaged : (sought : List ℕ) (s : State) → sound s ≡ false → querie
 unfolding findByName
 found-damaged sought s d = rw d refl
 
+awaited-damaged : (number : ℕ) (s : State) → sound s ≡ false → missing number s ≡ Awaited.Denied Reason.State
+unfolding missing
+awaited-damaged number s d = rw d refl
+
 pub ask-state : (s : State) → OfBytes (s .stores)
     → ((number : ℕ) → (locate number s ≡ Located.Denied Reason.State) ↔ (¬ (InOrder s)))
     × ((number : ℕ) → (queries.parameters number s ≡ Asked.Denied Reason.State) ↔ (¬ (InOrder s)))
     × ((sought : List ℕ) → (queries.find sought s ≡ Sought.Denied Reason.State) ↔ (¬ (InOrder s)))
     × (¬ (InOrder s) → (number : ℕ) → ((part : Part) → show number part s ≡ []) × (queries.name number s ≡ []))
+    × ((number : ℕ) → (missing number s ≡ Awaited.Denied Reason.State) ↔ (¬ (InOrder s)))
 ask-state s y = (
   (λ number. (
     (λ e w. located-never number s (in-order-exactly s y .1 w) e),
@@ -236,4 +251,8 @@ ask-state s y = (
   )),
   (λ n number. let d = tested s (sound s) refl y n in
       ((λ part. shown-damaged number part s d), named-damaged number s d)),
+  (λ number. (
+    (λ e w. awaited-never number s (in-order-exactly s y .1 w) e),
+    (λ n. awaited-damaged number s (tested s (sound s) refl y n)),
+  )),
 )

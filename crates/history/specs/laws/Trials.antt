@@ -4,7 +4,7 @@ use mathlib.Core.Path.{_≡_, refl, ap}
 use mathlib.Core.Logic.{inl}
 use mathlib.Core.Bool.{true}
 use mathlib.Core.List.{List, [], _∷_}
-use Prim.Native.Nat.{ℕ, zero, suc, _*_, _<_}
+use Prim.Native.Nat.{ℕ, zero, suc, _+_, _*_, _<_}
 use native.Mathlib.Omega.{arith}
 use lib.ListN.{replicate}
 use Rattle.answer.specs.declared.Answer.the-variants as Answer
@@ -20,6 +20,8 @@ use Rattle.wire.specs.Ignored.{SameButIgnored}
 use Rattle.wire.specs.Reading.{checkHolds, readingOf}
 use Rattle.cut.specs.Requirement as cut
 use Rattle.cut.specs.Requirement.{bodySize, headerSize, Segment, Fits, Finished}
+use Rattle.cut.specs.declared.Amount.{Amount}
+use Rattle.cut.specs.declared.Amount.the-variants.{Unknown, Known}
 use Rattle.cut.specs.laws.Segment.{Numbered}
 use Rattle.cut.specs.laws.Decision.{true-both}
 use Rattle.cut.specs.laws.Finished.{whole-numbers, whole-empty}
@@ -40,6 +42,9 @@ use Rattle.collector.specs.Arrival.{arrivalIn}
 use Rattle.queries.specs.Questions as queries
 use Rattle.queries.specs.declared.Asked.{Asked}
 use Rattle.queries.specs.declared.Asked.the-variants as Asked
+use Rattle.queries.specs.declared.Awaited.{Awaited}
+use Rattle.queries.specs.declared.Awaited.the-variants as Awaited
+use Rattle.queries.specs.Missing.{missing}
 use Rattle.queries.specs.declared.Sought.{Sought}
 use Rattle.queries.specs.declared.Sought.the-variants as Sought
 use Rattle.history.specs.Held.{limitOf}
@@ -443,6 +448,15 @@ abbrev pub soughtNumber : Sought → ℕ
 soughtNumber (Sought.Number number) = 0
 soughtNumber (Sought.Denied why) = numberOf (Answer.Denied why)
 
+-- by a number: what is still to come and 100, so that none and unknown differ, or the number of the refusal
+abbrev amountNumber : Amount → ℕ
+amountNumber Unknown = 99
+amountNumber (Known bytes) = 100 + bytes
+
+abbrev pub awaitedNumber : Awaited → ℕ
+awaitedNumber (Awaited.Bytes amount) = amountNumber amount
+awaitedNumber (Awaited.Denied why) = numberOf (Answer.Denied why)
+
 abbrev pub foundSlot : Found → ℕ
 foundSlot Nothing = slotsMost
 foundSlot (At i) = i
@@ -465,6 +479,7 @@ calling opens takes drops = record {
   tells = queries.parameters;
   names = queries.name;
   finds = queries.find;
+  awaits = missing;
   addresses = address;
   asks = asking;
 }
@@ -480,8 +495,9 @@ droppingBy drops = calling openWith take drops
 
 -- a question
 abbrev questioning : (ℕ → State → Located) → (ℕ → Part → State → List ℕ) → (ℕ → State → Asked) → (ℕ → State → List ℕ)
-    → (List ℕ → State → Sought) → (List ℕ → State → List ℕ) → (Question → State → State) → Collecting
-questioning locates shows tells names finds addresses asks = record {
+    → (List ℕ → State → Sought) → (ℕ → State → Awaited) → (List ℕ → State → List ℕ) → (Question → State → State)
+    → Collecting
+questioning locates shows tells names finds awaits addresses asks = record {
   opens = openWith;
   takes = take;
   drops = dropNumber;
@@ -490,28 +506,33 @@ questioning locates shows tells names finds addresses asks = record {
   tells = tells;
   names = names;
   finds = finds;
+  awaits = awaits;
   addresses = addresses;
   asks = asks;
 }
 
 abbrev pub locatingBy : (ℕ → State → Located) → Collecting
-locatingBy locates = questioning locates show queries.parameters queries.name queries.find address asking
+locatingBy locates = questioning locates show queries.parameters queries.name queries.find missing address asking
 
 abbrev pub showingBy : (ℕ → Part → State → List ℕ) → Collecting
-showingBy shows = questioning locate shows queries.parameters queries.name queries.find address asking
+showingBy shows = questioning locate shows queries.parameters queries.name queries.find missing address asking
 
 abbrev pub tellingBy : (ℕ → State → Asked) → Collecting
-tellingBy tells = questioning locate show tells queries.name queries.find address asking
+tellingBy tells = questioning locate show tells queries.name queries.find missing address asking
 
 abbrev pub namingBy : (ℕ → State → List ℕ) → Collecting
-namingBy names = questioning locate show queries.parameters names queries.find address asking
+namingBy names = questioning locate show queries.parameters names queries.find missing address asking
 
 abbrev pub findingBy : (List ℕ → State → Sought) → Collecting
-findingBy finds = questioning locate show queries.parameters queries.name finds address asking
+findingBy finds = questioning locate show queries.parameters queries.name finds missing address asking
+
+abbrev pub awaitingBy : (ℕ → State → Awaited) → Collecting
+awaitingBy awaits =
+    questioning locate show queries.parameters queries.name queries.find awaits address asking
 
 abbrev pub addressingBy : (List ℕ → State → List ℕ) → Collecting
 addressingBy addresses =
-    questioning locate show queries.parameters queries.name queries.find addresses asking
+    questioning locate show queries.parameters queries.name queries.find missing addresses asking
 
 abbrev pub askingBy : (Question → State → State) → Collecting
-askingBy asks = questioning locate show queries.parameters queries.name queries.find address asks
+askingBy asks = questioning locate show queries.parameters queries.name queries.find missing address asks

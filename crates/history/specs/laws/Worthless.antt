@@ -128,6 +128,7 @@ dropsAsked (Question.show number part) s = dropNumber number s .left
 dropsAsked (Question.parameters number) s = dropNumber number s .left
 dropsAsked (Question.name number) s = dropNumber number s .left
 dropsAsked (Question.find sought) s = s
+dropsAsked (Question.missing number) s = dropNumber number s .left
 dropsAsked (Question.address bytes) s = s
 
 -- nor does a question change anything
@@ -509,6 +510,7 @@ withStage lengths (Stage.Finished header body) slot = record {
   stage = lengths header body;
   header = slot .header;
   body = slot .body;
+  missing = slot .missing;
 }
 
 -- the body's length first
