@@ -1,12 +1,14 @@
--- Which word holds what. A state is the limit on a body, the number of slots, and ten words for each of sixteen slots;
--- the counts are five words of their own.
+-- Which word holds what. A state is the limit on a body, the number of slots, and eleven words for each of sixteen
+-- slots; the counts are five words of their own.
 use mathlib.Core.Bool.{Bool, true, false}
 use mathlib.Core.List.{List, [], _∷_, _++_}
-use Prim.Native.Nat.{ℕ, zero, suc, _+_}
+use Prim.Native.Nat.{ℕ, zero, suc, _+_, _-_}
 use lib.Dec.{eqb, leb, ltb}
 use lib.ListN.{length, getD}
 use Rattle.counts.specs.declared.Counts.{Counts}
 use Rattle.cut.specs.Decision.{both}
+use Rattle.cut.specs.declared.Amount.{Amount}
+use Rattle.cut.specs.declared.Amount.the-variants.{Unknown, Known}
 use Rattle.cut.specs.declared.Record.{Record}
 use Rattle.cut.specs.Lists.{pick}
 use Rattle.object.specs.declared.Slot.{Slot}
@@ -36,12 +38,18 @@ bodyWord Free = 0
 bodyWord Gathering = 0
 bodyWord (Finished header body) = body
 
--- a slot's number, stage and lengths, and the records of its header and its body
+-- how many bytes are still to come: 1 + that number, 0 while it isn't known
+abbrev pub amountWord : Amount → ℕ
+amountWord Unknown = 0
+amountWord (Known bytes) = bytes + 1
+
+-- a slot's number, stage and lengths, the records of its header and its body, and how many bytes are still to come
 abbrev pub slotWords : Slot → List ℕ
 slotWords slot =
     five (slot .number) (stageTag (slot .stage)) (headerWord (slot .stage)) (bodyWord (slot .stage))
     (slot .header .size)
     ++ five (slot .header .end) (slot .header .tail) (slot .body .size) (slot .body .end) (slot .body .tail)
+    ++ amountWord (slot .missing) ∷ []
 
 unfoldable pub slotsWords : List Slot → List ℕ
 slotsWords [] = []
@@ -65,6 +73,13 @@ stageFrom tag header body = pick (eqb tag 0) Free (pick (eqb tag 1) Gathering (F
 abbrev pub numberFrom : ℕ → ℕ
 numberFrom n = pick (ltb n 65536) n 0
 
+-- a number of bytes has 32 bits, so this is its largest word
+abbrev pub amountMost : ℕ
+amountMost = 4294967296
+
+abbrev pub amountFrom : ℕ → Amount
+amountFrom n = pick (eqb n 0) Unknown (pick (leb n amountMost) (Known (n - 1)) Unknown)
+
 unfoldable pub stageAt : List ℕ → ℕ → Stage
 stageAt words at = stageFrom (word words at) (word words (at + 1)) (word words (at + 2))
 
@@ -78,11 +93,12 @@ slotIn words at = record {
   header =
       recordAt words (at + 4);
   body = recordAt words (at + 7);
+  missing = amountFrom (word words (at + 10));
 }
 
 unfoldable pub slotsFrom : List ℕ → ℕ → ℕ → List Slot
 slotsFrom words zero at = []
-slotsFrom words (suc n) at = slotIn words at ∷ slotsFrom words n (at + 10)
+slotsFrom words (suc n) at = slotIn words at ∷ slotsFrom words n (at + 11)
 
 unfoldable pub collectorFrom : List ℕ → Collector
 collectorFrom words = record { limit = word words 0; count = word words 1; slots = slotsFrom words slotsMost 2 }
@@ -99,16 +115,18 @@ countsFrom words = record {
 
 -- ---- whether words hold a state
 
--- a slot's stage is one of the three, and a number that is held has 16 bits; a free slot's other words play no part
+-- a slot's stage is one of the three, and of one that is held the number has 16 bits and the bytes still to come have
+-- 32; a free slot's other words play no part
 unfoldable pub slotReadable : List ℕ → ℕ → Bool
 slotReadable words at = pick (eqb (word words (at + 1)) 0) true
-    (pick (leb (word words (at + 1)) 2) (ltb (word words at) 65536) false)
+    (pick (leb (word words (at + 1)) 2)
+    (both (ltb (word words at) 65536) (leb (word words (at + 10)) amountMost)) false)
 
 unfoldable pub readableFrom : List ℕ → ℕ → ℕ → Bool
 readableFrom words zero at = true
-readableFrom words (suc n) at = both (slotReadable words at) (readableFrom words n (at + 10))
+readableFrom words (suc n) at = both (slotReadable words at) (readableFrom words n (at + 11))
 
 -- so are the slots up to the number of slots
 unfoldable pub readable : List ℕ → Bool
-readable words = pick (eqb (length words) 162)
+readable words = pick (eqb (length words) 178)
     (pick (leb (word words 1) slotsMost) (readableFrom words (word words 1) 2) false) false

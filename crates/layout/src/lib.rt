@@ -5,6 +5,7 @@
 // a collector that is written reads back as it was.
 use collector::Collector;
 use counts::Counts;
+use cut::Amount;
 use cut::Record;
 use object::Slot;
 use object::Stage;
@@ -14,13 +15,16 @@ ghost use mathlib.Core.List.{_++_};
 ghost use Prim.Native.Nat.{_+_, _*_, _≤_};
 ghost use lib.ListN.{length, take};
 ghost use Rattle.slots.specs.Stores.{slotsMost};
-ghost use Rattle.layout.specs.Layout.{stageTag, headerWord, bodyWord, five, slotWords, slotsWords, wordsOf, countWords, stageFrom, stageAt, numberFrom, recordAt, slotIn, slotsFrom, collectorFrom, countsFrom, slotReadable, readableFrom, readable};
+ghost use Rattle.layout.specs.Layout.{stageTag, headerWord, bodyWord, amountWord, five, slotWords, slotsWords, wordsOf, countWords, stageFrom, stageAt, numberFrom, amountFrom, recordAt, slotIn, slotsFrom, collectorFrom, countsFrom, slotReadable, readableFrom, readable};
 
 // Words before those of the slots: the limit and the number of slots.
 const BEFORE_SLOTS: usize = 2;
 
 // Words of a slot.
-pub const SLOT: usize = 10;
+pub const SLOT: usize = 11;
+
+// The largest word that holds a number of bytes, which has 32 bits.
+const AMOUNT_MOST: u64 = 4294967296;
 
 // Words of a state: the limit, the number of slots, and those of all the slots.
 pub const STATE: usize = BEFORE_SLOTS + SLOTS_MOST * SLOT;
@@ -60,6 +64,16 @@ pub fn body_word(stage: Stage) -> u64
     }
 }
 
+// 1 + the number of bytes still to come, 0 while it isn't known.
+fn amount_word(missing: Amount) -> u64
+    ensures { λ r. ⌜ r ≡ amountWord missing ⌝ }
+{
+    match missing {
+        Amount::Unknown => 0,
+        Amount::Known(bytes) => bytes as u64 + 1,
+    }
+}
+
 fn stage_from(tag: u64, header: u64, body: u64) -> Stage
     ensures { λ r. ⌜ r ≡ stageFrom tag header body ⌝ }
 {
@@ -79,6 +93,18 @@ fn number_from(word: u64) -> u16
         return word as u16;
     }
     0
+}
+
+fn amount_from(word: u64) -> Amount
+    ensures { λ r. ⌜ r ≡ amountFrom word ⌝ }
+{
+    if word == 0 {
+        return Amount::Unknown;
+    }
+    if AMOUNT_MOST < word {
+        return Amount::Unknown;
+    }
+    Amount::Known((word - 1) as u32)
 }
 
 // A stage, from three words.
@@ -103,21 +129,23 @@ fn record_at(words: &[u64], at: usize) -> Record
 
 // A slot, from the words that begin at `at`.
 fn slot_at(words: &[u64], at: usize) -> Slot
-    requires { ⌜ at + 10 ≤ length (now words) ⌝ }
+    requires { ⌜ at + 11 ≤ length (now words) ⌝ }
     ensures { λ r. ⌜ r ≡ slotIn (now (words .entry)) at ⌝ }
 {
     let number = words[at];
+    let missing = words[at + 10];
     Slot {
         number: number_from(number),
         stage: stage_at(words, at + 1),
         header: record_at(words, at + 4),
         body: record_at(words, at + 7),
+        missing: amount_from(missing),
     }
 }
 
 // Whether the words that begin at `at` hold a slot.
 fn slot_readable(words: &[u64], at: usize) -> bool
-    requires { ⌜ at + 10 ≤ length (now words) ⌝ }
+    requires { ⌜ at + 11 ≤ length (now words) ⌝ }
     ensures { λ r. ⌜ r ≡ slotReadable (now (words .entry)) at ⌝ }
 {
     let tag = words[at + 1];
@@ -127,12 +155,15 @@ fn slot_readable(words: &[u64], at: usize) -> bool
     if 2 < tag {
         return false;
     }
-    words[at] < 65536
+    if 65536 <= words[at] {
+        return false;
+    }
+    words[at + 10] <= AMOUNT_MOST
 }
 
 // Whether the words of the first `count` slots hold slots.
 fn all_readable(words: &[u64], count: usize) -> bool
-    requires { ⌜ 2 + count * 10 ≤ length (now words) ⌝ }
+    requires { ⌜ 2 + count * 11 ≤ length (now words) ⌝ }
     ensures { λ r. ⌜ r ≡ readableFrom (now (words .entry)) count 2 ⌝ }
 {
     let mut i = 0;
@@ -163,7 +194,7 @@ pub fn readable(words: &[u64]) -> bool
 
 // The slots that the words of a state hold.
 fn slots_from(words: &[u64]) -> [Slot; SLOTS_MOST]
-    requires { ⌜ length (now words) ≡ 162 ⌝ }
+    requires { ⌜ length (now words) ≡ 178 ⌝ }
     ensures { λ r. ⌜ r ≡ slotsFrom (now (words .entry)) slotsMost 2 ⌝ }
 {
     let free = slots::free_slot();
@@ -181,7 +212,7 @@ fn slots_from(words: &[u64]) -> [Slot; SLOTS_MOST]
 
 // The collector whose state the words hold.
 pub fn collector_from(words: &[u64]) -> Collector
-    requires { ⌜ length (now words) ≡ 162 ⌝ }
+    requires { ⌜ length (now words) ≡ 178 ⌝ }
     ensures { λ r. ⌜ r ≡ collectorFrom (now (words .entry)) ⌝ }
 {
     let slots = slots_from(words);
@@ -205,12 +236,13 @@ fn put_five(words: &mut [u64], a: u64, b: u64, c: u64, d: u64, e: u64)
 }
 
 fn put_slot(words: &mut [u64], slot: Slot)
-    requires { ⌜ length (now words) ≡ 10 ⌝ }
+    requires { ⌜ length (now words) ≡ 11 ⌝ }
     ensures { λ r. ⌜ now (words .exit) ≡ slotWords slot ⌝ }
 {
     let stage = slot.stage;
     let header = slot.header;
     let body = slot.body;
+    let missing = slot.missing;
     put_five(
         &mut words[0..5],
         slot.number as u64,
@@ -220,17 +252,18 @@ fn put_slot(words: &mut [u64], slot: Slot)
         header.size as u64,
     );
     put_five(
-        &mut words[5..SLOT],
+        &mut words[5..10],
         header.end as u64,
         header.tail as u64,
         body.size as u64,
         body.end as u64,
         body.tail as u64,
     );
+    words[10] = amount_word(missing);
 }
 
 fn put_slots(words: &mut [u64], slots: [Slot; SLOTS_MOST])
-    requires { ⌜ length (now words) ≡ 162 ⌝ }
+    requires { ⌜ length (now words) ≡ 178 ⌝ }
     ensures { λ r. ⌜ now (words .exit) ≡ take 2 (now (words .entry)) ++ slotsWords slots ⌝ }
 {
     let mut i = 0;
@@ -245,7 +278,7 @@ fn put_slots(words: &mut [u64], slots: [Slot; SLOTS_MOST])
 
 // The collector's state, into the words.
 pub fn put_collector(words: &mut [u64], collector: Collector)
-    requires { ⌜ length (now words) ≡ 162 ⌝ }
+    requires { ⌜ length (now words) ≡ 178 ⌝ }
     ensures { λ r. ⌜ now (words .exit) ≡ wordsOf collector ⌝ }
 {
     let slots = collector.slots;

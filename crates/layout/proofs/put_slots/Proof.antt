@@ -15,7 +15,7 @@ use Rattle.layout.proofs.put_slots.Tie as tie
 
 abbrev Inv-loop : tie.InvT-loop
 Inv-loop words₀ slots i₀ at₀ words i at =
-    (i ≤ 16) × (at ≡ 2 + i * 10) × (length words ≡ 162)
+    (i ≤ 16) × (at ≡ 2 + i * 11) × (length words ≡ 178)
     × (take 2 words₀ ++ slotsWords slots ≡ take at words ++ slotsWords (drop i slots))
 
 abbrev μ-loop : tie.MeasureT-loop
@@ -59,10 +59,10 @@ unfolding freeSlot
 loop-again c =
     let k = c .before .before .before .before .before .before in
     let a = k .before .before .args in
-    let e : length (c .before .before .put-slot .last .0) ≡ 10 = rw (c .before .before .put-slot .ensures) refl in (
+    let e : length (c .before .before .put-slot .last .0) ≡ 11 = rw (c .before .before .put-slot .ensures) refl in (
       omega arith,
       omega arith,
-      put-length (k .loop .words) (k .loop .at) (k .loop .at + 10) (c .before .before .put-slot .last .0) (omega arith)
+      put-length (k .loop .words) (k .loop .at) (k .loop .at + 11) (c .before .before .put-slot .last .0) (omega arith)
           (omega arith) ∙ k .loop .inv .2,
       k .loop .inv .3 ∙ rw (c .before .before .put-slot .ensures)
           (put-turn (k .loop .words) (a .t2) (k .loop .i) (k .loop .at) freeSlot (omega arith) (omega arith)),

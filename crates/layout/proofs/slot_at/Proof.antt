@@ -12,6 +12,15 @@ mul-number c = search needs
 shared-slice-read-number : tie.Need-shared-slice-read-number
 shared-slice-read-number c = search needs
 
+add-missing : tie.Need-add-missing
+add-missing c = search needs
+
+mul-missing : tie.Need-mul-missing
+mul-missing c = search needs
+
+shared-slice-read-missing : tie.Need-shared-slice-read-missing
+shared-slice-read-missing c = search needs
+
 number-from-requires : tie.Need-number-from-requires
 number-from-requires c κs = search needs
 
@@ -33,16 +42,21 @@ add-record-at-2 c = search needs
 record-at-requires-2 : tie.Need-record-at-requires-2
 record-at-requires-2 c κs = search needs
 
+amount-from-requires : tie.Need-amount-from-requires
+amount-from-requires c κs = search needs
+
 returns : tie.Need-returns
 unfolding slotIn
 returns c = rw (
-  c .before .before .before .number-from .ensures,
-  c .before .before .stage-at .ensures,
-  c .before .record-at .ensures,
-  c .record-at2 .ensures,
+  c .before .before .before .before .number-from .ensures,
+  c .before .before .before .stage-at .ensures,
+  c .before .before .record-at .ensures,
+  c .before .record-at2 .ensures,
+  c .amount-from .ensures,
 ) refl
 
 pub slot-at-spec : {M : Type 1} → statement M
 slot-at-spec =
-    tie.close (tie.spec mul-number shared-slice-read-number number-from-requires add-stage-at stage-at-requires
-    add-record-at record-at-requires add-record-at-2 record-at-requires-2 returns)
+    tie.close (tie.spec mul-number shared-slice-read-number add-missing mul-missing shared-slice-read-missing
+    number-from-requires add-stage-at stage-at-requires add-record-at record-at-requires add-record-at-2
+    record-at-requires-2 amount-from-requires returns)

@@ -7,7 +7,7 @@ use Prim.Native.Nat.{ℕ, suc, _+_, _-_, _≤_, _<_}
 use native.Mathlib.Numerals.{add-one}
 use native.Mathlib.Omega.{arith}
 use borrow.Rule.Slice.PartMut.{putMid}
-use lib.ListN.{length, getD, set, take, drop, length-append, length-take, drop-of-length-le}
+use lib.ListN.{length, getD, set, take, drop, length-append, length-take, length-drop, drop-of-length-le}
 use lib.Seq.{take-at, drop-drop, take-suc-set, drop-cons, append-snoc}
 use Rattle.octets.specs.Octets.{over}
 use Rattle.octets.specs.laws.Over.{over-exact, over-length}
@@ -27,16 +27,23 @@ five-put (v ∷ w ∷ x ∷ y ∷ []) a b c d e h = absurd (omega (arith, h))
 five-put (v ∷ w ∷ x ∷ y ∷ z ∷ []) a b c d e h = refl
 five-put (v ∷ w ∷ x ∷ y ∷ z ∷ u ∷ l) a b c d e h = absurd (omega (arith, h))
 
-pub two-put : (l : List ℕ) (a b : ℕ) → length l ≡ 162 → take 2 (set (set l 0 a) 1 b) ≡ a ∷ b ∷ []
+pub two-put : (l : List ℕ) (a b : ℕ) → length l ≡ 178 → take 2 (set (set l 0 a) 1 b) ≡ a ∷ b ∷ []
 two-put [] a b h = absurd (omega (arith, h))
 two-put (x ∷ []) a b h = absurd (omega (arith, h))
 two-put (x ∷ y ∷ l) a b h = refl
 
--- ten, in two runs
-pub ten-put : (l : List ℕ) (a b c d e f g h i j : ℕ) → length l ≡ 10
-    → putMid 5 5 (five a b c d e ++ drop 5 l) (five f g h i j) ≡ five a b c d e ++ five f g h i j
-ten-put l a b c d e f g h i j n = let few : length l ≤ 10 = omega (arith, n) in
-    rw (drop-drop 5 5 l, drop-of-length-le l few) refl
+one-put : (l : List ℕ) (a : ℕ) → length l ≡ 1 → set l 0 a ≡ a ∷ []
+one-put [] a h = absurd (omega (arith, h))
+one-put (x ∷ []) a h = refl
+one-put (x ∷ y ∷ l) a h = absurd (omega (arith, h))
+
+-- eleven, in two runs of five and the last
+pub eleven-put : (l : List ℕ) (a b c d e f g h i j k : ℕ) → length l ≡ 11
+    → set (putMid 5 5 (five a b c d e ++ drop 5 l) (five f g h i j)) 10 k
+    ≡ five a b c d e ++ five f g h i j ++ k ∷ []
+eleven-put l a b c d e f g h i j k n =
+    let one : length (drop 10 l) ≡ 1 = simp length-drop (omega (arith, n)) in
+    rw (drop-drop 5 5 l, one-put (drop 10 l) k one) refl
 
 -- the words up to the end of a run
 pub put-more : (l : List ℕ) (at e : ℕ) (run : List ℕ) → at + length run ≡ e → e ≤ length l
@@ -55,20 +62,20 @@ put-length l at e run h g = rw (over-exact l at e run h) (over-length l at run (
 -- a slot is read
 pub from-turn : (words : List ℕ) (slots : List Slot) (i at : ℕ) → i < 16 → i < length slots
     → take i slots ++ slotsFrom words (16 - i) at
-    ≡ take (i + 1) (set slots i (slotIn words at)) ++ slotsFrom words (16 - (i + 1)) (at + 10)
+    ≡ take (i + 1) (set slots i (slotIn words at)) ++ slotsFrom words (16 - (i + 1)) (at + 11)
 unfolding slotsFrom
 from-turn words slots i at h g =
     let e : 16 - i ≡ suc (16 - (i + 1)) = omega arith in
     rw (e, add-one, take-suc-set slots i (slotIn words at) g)
-    (sym (append-snoc (take i slots) (slotIn words at) (slotsFrom words (16 - suc i) (at + 10))))
+    (sym (append-snoc (take i slots) (slotIn words at) (slotsFrom words (16 - suc i) (at + 11))))
 
 -- a slot is put
-pub put-turn : (l : List ℕ) (slots : List Slot) (i at : ℕ) (d : Slot) → i < length slots → at + 10 ≤ length l
+pub put-turn : (l : List ℕ) (slots : List Slot) (i at : ℕ) (d : Slot) → i < length slots → at + 11 ≤ length l
     → take at l ++ slotsWords (drop i slots)
-    ≡ take (at + 10) (putMid at (at + 10 - at) l (slotWords (getD slots i d))) ++ slotsWords (drop (i + 1) slots)
+    ≡ take (at + 11) (putMid at (at + 11 - at) l (slotWords (getD slots i d))) ++ slotsWords (drop (i + 1) slots)
 unfolding slotsWords
 put-turn l slots i at d h g =
-    rw (drop-cons slots i d h, add-one, put-more l at (at + 10) (slotWords (getD slots i d)) refl g)
+    rw (drop-cons slots i d h, add-one, put-more l at (at + 11) (slotWords (getD slots i d)) refl g)
     (sym (append-assoc (take at l) (slotWords (getD slots i d)) (slotsWords (drop (suc i) slots))))
 
 -- all are
@@ -81,6 +88,6 @@ unfolding readableFrom
 readable-none words n i at h = let e : n - i ≡ 0 = omega arith in rw e
 
 pub readable-more : (words : List ℕ) (n i at : ℕ) → i < n
-    → readableFrom words (n - i) at ≡ both (slotReadable words at) (readableFrom words (n - (i + 1)) (at + 10))
+    → readableFrom words (n - i) at ≡ both (slotReadable words at) (readableFrom words (n - (i + 1)) (at + 11))
 unfolding readableFrom
 readable-more words n i at h = let e : n - i ≡ suc (n - (i + 1)) = omega arith in rw e

@@ -1,0 +1,27 @@
+-- `layout::amount_word` meets its contract.
+-- Assumes nothing.
+use mathlib.Core.Path.{refl}
+use borrow.Author.Needs.{needs}
+use Rattle.layout.proofs.amount_word.Statement.{statement}
+use Rattle.layout.proofs.amount_word.Tie as tie
+
+enum-told : tie.Need-enum-told
+enum-told c = search needs
+
+enum-known-missing : tie.Need-enum-known-missing
+enum-known-missing c = search needs
+
+cast-result : tie.Need-cast-result
+cast-result c = search needs
+
+add-result : tie.Need-add-result
+add-result c = search needs
+
+returns : tie.Need-returns
+returns c = search needs
+
+returns-2 : tie.Need-returns-2
+returns-2 c = rw (c .before .missing .given .1) refl
+
+pub amount-word-spec : {M : Type 1} → statement M
+amount-word-spec = tie.close (tie.spec enum-told enum-known-missing cast-result add-result returns returns-2)
