@@ -12,7 +12,7 @@ use object::Stage;
 use slots::SLOTS_MOST;
 ghost use mathlib.Core.Path.{_≡_};
 ghost use mathlib.Core.List.{_++_};
-ghost use Prim.Native.Nat.{_+_, _*_, _≤_};
+ghost use Prim.Native.Nat.{_+_, _*_, _≤_, _<_};
 ghost use lib.ListN.{length, take};
 ghost use Rattle.slots.specs.Stores.{slotsMost};
 ghost use Rattle.layout.specs.Layout.{stageTag, headerWord, bodyWord, amountWord, five, slotWords, slotsWords, wordsOf, countWords, stageFrom, stageAt, numberFrom, amountFrom, recordAt, slotIn, slotsFrom, collectorFrom, countsFrom, slotReadable, readableFrom, readable};
@@ -65,8 +65,8 @@ pub fn body_word(stage: Stage) -> u64
 }
 
 // 1 + the number of bytes still to come, 0 while it isn't known.
-fn amount_word(missing: Amount) -> u64
-    ensures { λ r. ⌜ r ≡ amountWord missing ⌝ }
+pub fn amount_word(missing: Amount) -> u64
+    ensures { λ r. ⌜ (r ≡ amountWord missing) × (r < 8589934592) ⌝ }
 {
     match missing {
         Amount::Unknown => 0,

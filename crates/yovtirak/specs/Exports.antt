@@ -33,13 +33,16 @@ use Rattle.queries.specs.declared.Asked.{Asked}
 use Rattle.queries.specs.declared.Asked.the-variants as Asked
 use Rattle.queries.specs.declared.Sought.{Sought}
 use Rattle.queries.specs.declared.Sought.the-variants as Sought
+use Rattle.queries.specs.declared.Awaited.{Awaited}
+use Rattle.queries.specs.declared.Awaited.the-variants as Awaited
 use Rattle.queries.specs.Questions.{parameters, find}
+use Rattle.queries.specs.Missing.{missing}
 use Rattle.header.specs.declared.Fields.{Fields}
 use Rattle.header.specs.declared.Name.{Name}
 use Rattle.header.specs.declared.Name.the-variants as Name
 use Rattle.header.specs.declared.Priority.{Priority}
 use Rattle.header.specs.declared.Priority.the-variants as Priority
-use Rattle.layout.specs.Layout.{headerWord, bodyWord, wordsOf, countWords, collectorFrom, countsFrom, readable}
+use Rattle.layout.specs.Layout.{headerWord, bodyWord, amountWord, wordsOf, countWords, collectorFrom, countsFrom, readable}
 
 -- ---- an answer in one word: its number, then the part, the transport number and the segment's number, and what the
 -- sender meant by a repeat
@@ -135,7 +138,7 @@ leftOpen o words =
 -- LIMITS too where the words lent are too few or too many
 unfoldable pub openCall : ℕ → ℕ → List ℕ → List ℕ → Stores → Called
 openCall limit slots words counts stores =
-    pick (both (eqb (length words) 162) (eqb (length counts) 5))
+    pick (both (eqb (length words) 178) (eqb (length counts) 5))
     (leftOpen (openWith (start limit slots (countsFrom counts) stores)) words)
     (called (numberOf (Denied Reason.Limits)) words counts stores)
 
@@ -209,6 +212,18 @@ soughtWord (Sought.Denied why) = numberOf (Denied why)
 unfoldable pub findCall : List ℕ → List ℕ → List ℕ → Stores → ℕ
 findCall name words counts stores =
     pick (lentRight words counts) (soughtWord (find name (held words counts stores))) (numberOf (Denied Reason.State))
+
+-- ---- how many bytes are still to come
+
+-- 1 more than that, or 0 while it is not known
+abbrev pub awaitedWord : Awaited → ℕ
+awaitedWord (Awaited.Bytes amount) = amountWord amount * 65536
+awaitedWord (Awaited.Denied why) = numberOf (Denied why)
+
+unfoldable pub missingCall : ℕ → List ℕ → List ℕ → Stores → ℕ
+missingCall number words counts stores =
+    pick (lentRight words counts) (awaitedWord (missing number (held words counts stores)))
+    (numberOf (Denied Reason.State))
 
 -- ---- where the end user address of a group stands
 

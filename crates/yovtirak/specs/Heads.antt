@@ -5,6 +5,7 @@ use mathlib.Core.List.{List, [], _∷_}
 use Prim.Native.Nat.{ℕ, _*_, _/_, _%_}
 use lib.ListN.{length}
 use Rattle.answer.specs.declared.Answer.{Answer}
+use Rattle.answer.specs.declared.Answer.the-variants as Answer
 use Rattle.answer.specs.declared.Heard.{Heard}
 use Rattle.answer.specs.declared.Part.the-variants.{Header, Body}
 use Rattle.answer.specs.declared.Repetition.{Repetition}
@@ -14,8 +15,10 @@ use Rattle.collector.specs.State.{State, Start}
 use Rattle.history.specs.Handed.{Handed}
 use Rattle.history.specs.History.{Question, Call, hand, ask, reached}
 use Rattle.history.specs.Ours.{ours}
-use Rattle.layout.specs.Layout.{countsFrom, collectorFrom, wordsOf, countWords}
-use Rattle.yovtirak.specs.Exports.{Called, held, partWord, answerWord, openCall, takeCall, dropCall, Told, placeTold, finishedCall, fieldsTold, readCall, soughtWord, findCall, addressWord, addressCall}
+use Rattle.queries.specs.declared.Awaited.{Awaited}
+use Rattle.queries.specs.declared.Awaited.the-variants as Awaited
+use Rattle.layout.specs.Layout.{amountWord, countsFrom, collectorFrom, wordsOf, countWords}
+use Rattle.yovtirak.specs.Exports.{Called, held, partWord, answerWord, openCall, takeCall, dropCall, Told, placeTold, finishedCall, fieldsTold, readCall, soughtWord, findCall, awaitedWord, missingCall, addressWord, addressCall}
 use Rattle.octets.specs.Octets.{part}
 use Rattle.wire.specs.Reading.{readingOf}
 use Rattle.cut.specs.Lists.{Bytes}
@@ -34,6 +37,7 @@ pub data HeadCall : Type 0 where
   finished : (number : ℕ) (place : List ℕ) → HeadCall
   read : (number : ℕ) (told : List ℕ) → HeadCall
   find : (name : List ℕ) → HeadCall
+  missing : (number : ℕ) → HeadCall
   address : (group : List ℕ) → HeadCall
 
 -- a group is bytes, as all memory is
@@ -43,6 +47,7 @@ GroupBytes (drop number) = Unit {0}
 GroupBytes (finished number place) = Unit {0}
 GroupBytes (read number told) = Unit {0}
 GroupBytes (find name) = Unit {0}
+GroupBytes (missing number) = Unit {0}
 GroupBytes (address group) = Unit {0}
 
 abbrev pub leftBy : Called → Lent
@@ -58,6 +63,7 @@ leaves (drop number) l = leftBy (dropCall number (l .state) (l .counts) (l .stor
 leaves (finished number place) l = l
 leaves (read number told) l = l
 leaves (find name) l = l
+leaves (missing number) l = l
 leaves (address group) l = l
 
 -- what it returns, and what a question writes
@@ -67,6 +73,7 @@ returns (drop number) l = record { result = dropCall number (l .state) (l .count
 returns (finished number place) l = finishedCall number (l .state) (l .counts) (l .stores) place
 returns (read number told) l = readCall number (l .state) (l .counts) (l .stores) told
 returns (find name) l = record { result = findCall name (l .state) (l .counts) (l .stores); told = [] }
+returns (missing number) l = record { result = missingCall number (l .state) (l .counts) (l .stores); told = [] }
 returns (address group) l = record { result = addressCall group; told = [] }
 
 -- after an opening and these calls
@@ -85,6 +92,7 @@ asCall (drop number) = Call.drop number
 asCall (finished number place) = ask (Question.show number Header)
 asCall (read number told) = ask (Question.parameters number)
 asCall (find name) = ask (Question.find name)
+asCall (missing number) = ask (Question.missing number)
 asCall (address group) = ask (Question.address group)
 
 abbrev pub asCalls : List HeadCall → List Call
@@ -102,6 +110,7 @@ inWords (drop number) s = record { result = answerWord (ours .drops number s .an
 inWords (finished number place) s = placeTold (ours .locates number s) (s .collector) place
 inWords (read number told) s = fieldsTold (ours .tells number s) told
 inWords (find name) s = record { result = soughtWord (ours .finds name s); told = [] }
+inWords (missing number) s = record { result = awaitedWord (ours .awaits number s); told = [] }
 inWords (address group) s = record { result = addressWord (readingOf group); told = [] }
 
 -- what a question writes into is as long as it must be
@@ -111,6 +120,7 @@ Fitting (drop number) = Unit {0}
 Fitting (finished number place) = length place ≡ 3
 Fitting (read number told) = length told ≡ 7
 Fitting (find name) = Unit {0}
+Fitting (missing number) = Unit {0}
 Fitting (address group) = Unit {0}
 
 -- where a finished object stands, in any words: the slot, h and b that are told, such that the first h bytes of the
@@ -140,3 +150,17 @@ pub record Words (l : Lent) (s : State) : Type 0 where
   pub state : l .state ≡ wordsOf (s .collector)
   pub counts : l .counts ≡ countWords (s .counts)
   pub stores : l .stores ≡ s .stores
+
+abbrev pub denialIn : Awaited → ℕ
+denialIn (Awaited.Bytes amount) = 0
+denialIn (Awaited.Denied why) = numberOf (Answer.Denied why)
+
+abbrev pub amountIn : Awaited → ℕ
+amountIn (Awaited.Bytes amount) = amountWord amount
+amountIn (Awaited.Denied why) = 0
+
+-- what the shifts and the mask of `yovtirak_tell_missing` take out of a word: the answer's number, 0 where the number of
+-- bytes is told, and 1 more than that number, or 0 while it is not known
+pub record TellsMissing (word : ℕ) (awaited : Awaited) : Type 0 where
+  pub answered : word % 256 ≡ denialIn awaited
+  pub amount : word / 65536 ≡ amountIn awaited

@@ -17,6 +17,7 @@ use header::Priority;
 use object::Slot;
 use object::Stage;
 use queries::Asked;
+use queries::Awaited;
 use queries::Sought;
 use wire::Reading;
 ghost use mathlib.Core.Path.{_≡_};
@@ -25,7 +26,7 @@ ghost use lib.ListN.{length};
 ghost use Rattle.slots.specs.Stores.{slotAt};
 ghost use Rattle.layout.specs.Layout.{wordsOf, countWords};
 ghost use Rattle.collector.specs.State.{stores};
-ghost use Rattle.yovtirak.specs.Exports.{called, openingWord, isOpen, openCall, partWord, heardWord, repetitionWord, returnedWord, answerWord, changes, takeCall, dropCall, refusedWord, placeWords, finishedCall, priorityWord, nameStart, nameLength, fieldWords, unreadWord, readCall, soughtWord, findCall, refusalWord, addressCall};
+ghost use Rattle.yovtirak.specs.Exports.{called, openingWord, isOpen, openCall, partWord, heardWord, repetitionWord, returnedWord, answerWord, changes, takeCall, dropCall, refusedWord, placeWords, finishedCall, priorityWord, nameStart, nameLength, fieldWords, unreadWord, readCall, soughtWord, findCall, awaitedWord, missingCall, refusalWord, addressCall};
 ghost use Rattle.cut.specs.Lists.{pick};
 
 // The answers that are given of wrong words, before there is a collector.
@@ -99,7 +100,7 @@ fn changes(answer: Answer) -> bool
 
 // The state's words are written only where the answer says that it changed.
 fn keep(state: &mut [u64], answer: Answer, next: Collector)
-    requires { ⌜ length (now state) ≡ 162 ⌝ }
+    requires { ⌜ length (now state) ≡ 178 ⌝ }
     ensures { λ r. ⌜ now (state .exit) ≡ pick (changes answer) (wordsOf next) (now (state .entry)) ⌝ }
 {
     if !changes(answer) {
@@ -110,7 +111,7 @@ fn keep(state: &mut [u64], answer: Answer, next: Collector)
 
 // What a call leaves in words, and its answer's word.
 fn leave(state: &mut [u64], counts: &mut [u32], after: Reply) -> u64
-    requires { ⌜ (length (now state) ≡ 162) × (length (now counts) ≡ 5) ⌝ }
+    requires { ⌜ (length (now state) ≡ 178) × (length (now counts) ≡ 5) ⌝ }
     ensures { λ r. ⌜ (r ≡ answerWord (after .answer))
         × (now (state .exit) ≡ pick (changes (after .answer)) (wordsOf (after .collector)) (now (state .entry)))
         × (now (counts .exit) ≡ countWords (after .counts)) ⌝ }
@@ -152,7 +153,7 @@ fn is_open(opening: Opening) -> bool
 
 // The state's words are written only where the collector is open.
 fn keep_opened(state: &mut [u64], opening: Opening, fresh: Collector)
-    requires { ⌜ length (now state) ≡ 162 ⌝ }
+    requires { ⌜ length (now state) ≡ 178 ⌝ }
     ensures { λ r. ⌜ now (state .exit) ≡ pick (isOpen opening) (wordsOf fresh) (now (state .entry)) ⌝ }
 {
     if !is_open(opening) {
@@ -417,6 +418,39 @@ pub extern "C" fn yovtirak_find(
     let collector = layout::collector_from(state);
     let counted = layout::counts_from(counts);
     sought_word(queries::find(collector, counted, name, header, body, marks))
+}
+
+fn awaited_word(awaited: Awaited) -> u64
+    ensures { λ r. ⌜ r ≡ awaitedWord awaited ⌝ }
+{
+    match awaited {
+        Awaited::Bytes(amount) => layout::amount_word(amount) * 65536,
+        Awaited::Denied(why) => answer::number_of(Answer::Denied(why)) as u64,
+    }
+}
+
+// How many bytes of a number's object are still to come.
+#[no_mangle]
+pub extern "C" fn yovtirak_missing(
+    state: &[u64],
+    counts: &[u32],
+    number: u16,
+    header: &[u8],
+    body: &[u8],
+    marks: &[u8],
+) -> u64
+    ensures { λ r. ⌜ r ≡ missingCall number (now (state .entry)) (now (counts .entry))
+        (stores (header .entry) (body .entry) (marks .entry)) ⌝ }
+{
+    if counts.len() != layout::COUNTS {
+        return STATE;
+    }
+    if !layout::readable(state) {
+        return STATE;
+    }
+    let collector = layout::collector_from(state);
+    let counted = layout::counts_from(counts);
+    awaited_word(queries::missing(collector, counted, number, header, body, marks))
 }
 
 fn refusal_word(reading: Reading) -> u64

@@ -1,6 +1,7 @@
 -- `layout::amount_word` meets its contract.
 -- Assumes nothing.
 use mathlib.Core.Path.{refl}
+use native.Mathlib.Omega.{arith}
 use borrow.Author.Needs.{needs}
 use Rattle.layout.proofs.amount_word.Statement.{statement}
 use Rattle.layout.proofs.amount_word.Tie as tie
@@ -18,10 +19,10 @@ add-result : tie.Need-add-result
 add-result c = search needs
 
 returns : tie.Need-returns
-returns c = search needs
+returns c = (rw (c .enum-told .given .1) refl, omega arith)
 
 returns-2 : tie.Need-returns-2
-returns-2 c = rw (c .before .missing .given .1) refl
+returns-2 c = (rw (c .before .missing .given .1) refl, omega arith)
 
 pub amount-word-spec : {M : Type 1} → statement M
 amount-word-spec = tie.close (tie.spec enum-told enum-known-missing cast-result add-result returns returns-2)

@@ -57,7 +57,7 @@ returns c =
     rw (
       k .put-five .ensures,
       c .before .before .before .put-five2 .ensures,
-      c .amount-word .ensures,
+      c .amount-word .ensures .0,
       k .before .before .before .stage-tag .ensures,
       k .before .before .header-word .ensures,
       k .before .body-word .ensures,

@@ -17,13 +17,13 @@ part-small Header = omega arith
 part-small Body = omega arith
 
 -- words that hold a state are as many as a state has
-pub readable-length : (words : List ℕ) → readable words ≡ true → length words ≡ 162
+pub readable-length : (words : List ℕ) → readable words ≡ true → length words ≡ 178
 unfolding readable
-readable-length words e = go (ℕ-discrete (length words) 162)
+readable-length words e = go (ℕ-discrete (length words) 178)
   where
-    go : Dec (length words ≡ 162) → length words ≡ 162
+    go : Dec (length words ≡ 178) → length words ≡ 178
     go (yes d) = d
-    go (no d) = let f : false ≡ true = rw (ne-eqb (length words) 162 d) at e in let z : _≡_ {A = ℕ} 0 1 = cc in
+    go (no d) = let f : false ≡ true = rw (ne-eqb (length words) 178 d) at e in let z : _≡_ {A = ℕ} 0 1 = cc in
         absurd (omega arith)
 
 pub three-put : (l : List ℕ) (a b c : ℕ) → length l ≡ 3 → set (set (set l 0 a) 1 b) 2 c ≡ a ∷ b ∷ c ∷ []

@@ -34,33 +34,33 @@ use Rattle.history.specs.Handed.{Handed}
 use Rattle.history.specs.History.{CallBytes, Within, Allowed, told}
 use Rattle.history.specs.laws.Reached.{reached-count}
 use Rattle.history.specs.laws.Room.{reached-slots}
-use Rattle.history.specs.laws.Numbers.{Sixteen, reached-low}
+use Rattle.history.specs.laws.Numbers.{Narrow as NarrowSlot, reached-low}
 use Rattle.history.specs.Ours.{ours}
 use Rattle.history.specs.Promise.{Run, tallied}
 use Rattle.history.specs.laws.Promises.{promised}
 use Rattle.history.specs.State.{OfBytes}
 use Rattle.layout.specs.Layout.{wordsOf, countWords, collectorFrom, countsFrom}
-use Rattle.layout.specs.laws.ReadBack.{Numbered, written-back, written-reads}
-use Rattle.yovtirak.specs.Exports.{answerWord, held, changes, lentRight, left, takeCall, dropCall, leftOpen, openCall, finishedCall, readCall, findCall, addressCall}
+use Rattle.layout.specs.laws.ReadBack.{Narrow, written-back, written-reads}
+use Rattle.yovtirak.specs.Exports.{answerWord, held, changes, lentRight, left, takeCall, dropCall, leftOpen, openCall, finishedCall, readCall, findCall, missingCall, addressCall}
 use Rattle.yovtirak.specs.Heads.{Place, Lent, HeadCall, GroupBytes, leftBy, begins, leaves, returns, after, asStart, asCalls, reachedBy, inWords, Fitting, Words}
 
 -- ---- words and the state that they hold
 
-numbered : (slots : List Slot) → ((j : ℕ) → Sixteen (slotAt j slots .number)) → Numbered slots
+each-narrow : (slots : List Slot) → ((j : ℕ) → NarrowSlot (slotAt j slots)) → Narrow slots
 unfolding slotAt
-numbered [] low = tt
-numbered (slot ∷ slots) low = (low 0, numbered slots (λ j. low (suc j)))
+each-narrow [] low = tt
+each-narrow (slot ∷ slots) low = (low 0 .0, low 0 .1, each-narrow slots (λ j. low (suc j)))
 
 -- a state that can be written and read back
 record Written (s : State) : Type 0 where
   slots : length (s .collector .slots) ≡ 16
   count : s .collector .count ≤ 16
-  numbers : (j : ℕ) → Sixteen (slotAt j (s .collector .slots) .number)
+  numbers : (j : ℕ) → NarrowSlot (slotAt j (s .collector .slots))
 
 module _ (l : Lent) (s : State) (w : Words l s) (r : Written s) where
   read-back : collectorFrom (l .state) ≡ s .collector
   read-back = ap collectorFrom (w .state) ∙ written-back (s .collector) (r .slots)
-      (numbered (s .collector .slots) (r .numbers))
+      (each-narrow (s .collector .slots) (r .numbers))
 
   counts-back : countsFrom (l .counts) ≡ s .counts
   counts-back = ap countsFrom (w .counts)
@@ -69,7 +69,7 @@ module _ (l : Lent) (s : State) (w : Words l s) (r : Written s) where
   lent-right = rw (
     w .counts,
     w .state,
-    written-reads (s .collector) (r .slots) (numbered (s .collector .slots) (r .numbers)) (r .count),
+    written-reads (s .collector) (r .slots) (each-narrow (s .collector .slots) (r .numbers)) (r .count),
   ) refl
 
 -- ---- one call
@@ -115,7 +115,7 @@ module _ (l : Lent) (s : State) (w : Words l s) (r : Written s) where
 
   -- and what each call returns and tells
   words-returned : (call : HeadCall) → Fitting call → returns call l ≡ inWords call s
-  unfolding finishedCall readCall findCall addressCall
+  unfolding finishedCall readCall findCall missingCall addressCall
   words-returned (HeadCall.take group) f = ap (λ (n : ℕ). record { result = n; told = [] }) (take-words group .0)
   words-returned (HeadCall.drop number) f = ap (λ (n : ℕ). record { result = n; told = [] }) (drop-words number .0)
   words-returned (HeadCall.finished number place) f =
@@ -123,6 +123,8 @@ module _ (l : Lent) (s : State) (w : Words l s) (r : Written s) where
   words-returned (HeadCall.read number told) f =
       rw (f, lent-right l s w r, read-back l s w r, counts-back l s w r, w .stores) refl
   words-returned (HeadCall.find name) f =
+      rw (lent-right l s w r, read-back l s w r, counts-back l s w r, w .stores) refl
+  words-returned (HeadCall.missing number) f =
       rw (lent-right l s w r, read-back l s w r, counts-back l s w r, w .stores) refl
   words-returned (HeadCall.address group) f = refl
 
@@ -136,7 +138,7 @@ module _ (limit slots : ℕ) (l : Lent) where
   opening-words e = go lengths refl limits refl
     where
       lengths : Bool
-      lengths = both (eqb (length (l .state)) 162) (eqb (length (l .counts)) 5)
+      lengths = both (eqb (length (l .state)) 178) (eqb (length (l .counts)) 5)
 
       limits : Bool
       limits = withinLimits limit slots (length (l .stores .header)) (length (l .stores .body))
@@ -159,6 +161,7 @@ call-bytes (HeadCall.drop number ∷ calls) y = (tt, call-bytes calls (y .1))
 call-bytes (HeadCall.finished number place ∷ calls) y = (tt, call-bytes calls (y .1))
 call-bytes (HeadCall.read number told ∷ calls) y = (tt, call-bytes calls (y .1))
 call-bytes (HeadCall.find name ∷ calls) y = (tt, call-bytes calls (y .1))
+call-bytes (HeadCall.missing number ∷ calls) y = (tt, call-bytes calls (y .1))
 call-bytes (HeadCall.address group ∷ calls) y = (tt, call-bytes calls (y .1))
 
 module _ (limit slots : ℕ) (l : Lent) (bytes : OfBytes (l .stores)) (zero : begins limit slots l .result ≡ 0) where
@@ -199,6 +202,7 @@ module _ (limit slots : ℕ) (l : Lent) (bytes : OfBytes (l .stores)) (zero : be
   words-reached (HeadCall.finished number place ∷ calls) y = words-reached calls (y .1)
   words-reached (HeadCall.read number told ∷ calls) y = words-reached calls (y .1)
   words-reached (HeadCall.find name ∷ calls) y = words-reached calls (y .1)
+  words-reached (HeadCall.missing number ∷ calls) y = words-reached calls (y .1)
   words-reached (HeadCall.address group ∷ calls) y = words-reached calls (y .1)
 
   -- WHAT COMES BACK of the next call is what the collector answers there

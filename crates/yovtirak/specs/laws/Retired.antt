@@ -30,9 +30,12 @@ use Rattle.queries.specs.declared.Asked.{Asked}
 use Rattle.queries.specs.declared.Asked.the-variants as Asked
 use Rattle.queries.specs.declared.Sought.{Sought}
 use Rattle.queries.specs.declared.Sought.the-variants as Sought
+use Rattle.queries.specs.declared.Awaited.{Awaited}
+use Rattle.queries.specs.declared.Awaited.the-variants as Awaited
 use Rattle.queries.specs.Questions.{parameters, find}
+use Rattle.queries.specs.Missing.{missing}
 use Rattle.layout.specs.Layout.{countsFrom}
-use Rattle.yovtirak.specs.Exports.{returnedWord, answerWord, Called, called, held, lentRight, left, noState, takeCall, dropCall, openingWord, leftOpen, openCall, Told, placeTold, finishedCall, fieldsTold, readCall, soughtWord, findCall, addressWord, addressCall}
+use Rattle.yovtirak.specs.Exports.{returnedWord, answerWord, Called, called, held, lentRight, left, noState, takeCall, dropCall, openingWord, leftOpen, openCall, Told, placeTold, finishedCall, fieldsTold, readCall, soughtWord, findCall, awaitedWord, missingCall, addressWord, addressCall}
 use Rattle.yovtirak.specs.Heads.{Lent, HeadCall, begins, returns}
 
 -- the answer's number that a result has is not the retired one
@@ -69,6 +72,10 @@ sought-never : (sought : Sought) → Never (soughtWord sought)
 sought-never (Sought.Number number) e = omega arith
 sought-never (Sought.Denied why) e = denied-never why e
 
+awaited-never : (awaited : Awaited) → Never (awaitedWord awaited)
+awaited-never (Awaited.Bytes amount) e = omega arith
+awaited-never (Awaited.Denied why) e = denied-never why e
+
 address-never : (reading : Reading) → Never (addressWord reading)
 address-never (Reading.Refused why) e = never-retired (Refused why) (omega (arith, number-byte (Refused why)))
 address-never (Reading.Read carried) e = omega arith
@@ -89,12 +96,12 @@ pub opened-never : (limit slots : ℕ) (l : Lent) → begins limit slots l .resu
 unfolding openCall leftOpen
 opened-never limit slots l =
     let opened = openWith (start limit slots (countsFrom (l .counts)) (l .stores)) in
-    either-never (λ (c : Called). c .result) (both (eqb (length (l .state)) 162) (eqb (length (l .counts)) 5))
+    either-never (λ (c : Called). c .result) (both (eqb (length (l .state)) 178) (eqb (length (l .counts)) 5))
     (leftOpen opened (l .state)) (called (numberOf (Denied Reason.Limits)) (l .state) (l .counts) (l .stores))
     (opening-never (opened .opening)) (denied-never Reason.Limits)
 
 pub returned-never : (call : HeadCall) (l : Lent) → returns call l .result % 256 ≢ retired
-unfolding takeCall dropCall left finishedCall readCall findCall addressCall
+unfolding takeCall dropCall left finishedCall readCall findCall missingCall addressCall
 returned-never call l = go call
   where
     right : Bool
@@ -125,4 +132,7 @@ returned-never call l = go call
     go (HeadCall.find name) =
         either-never (λ (n : ℕ). n) right (soughtWord (find name here)) (numberOf (Denied Reason.State))
         (sought-never (find name here)) (denied-never Reason.State)
+    go (HeadCall.missing number) =
+        either-never (λ (n : ℕ). n) right (awaitedWord (missing number here)) (numberOf (Denied Reason.State))
+        (awaited-never (missing number here)) (denied-never Reason.State)
     go (HeadCall.address group) = address-never (readingOf group)

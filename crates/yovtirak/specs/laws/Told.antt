@@ -1,6 +1,6 @@
 -- WHAT A HEAD TAKES OUT OF A WORD is what was answered: with STORED, COMPLETE and REPEAT to a group the answer's number,
--- the part, the transport number, the segment's number and the three numbers that the sender set. And where an end user
--- address is told to stand, there it stands.
+-- the part, the transport number, the segment's number and the three numbers that the sender set; how many bytes are
+-- still to come. And where an end user address is told to stand, there it stands.
 use mathlib.Core.Path.{_≡_, refl, ap, subst}
 use mathlib.Core.Bool.{Bool, true, false}
 use mathlib.Core.List.{List}
@@ -32,8 +32,10 @@ use Rattle.history.specs.Ours.{ours}
 use Rattle.history.specs.laws.Answers.{came-named}
 use Rattle.history.specs.laws.Call.{handed-damaged, unread, came}
 use Rattle.history.specs.laws.Numbers.{byte-low}
-use Rattle.yovtirak.specs.Exports.{repetitionWord, heardWord, answerWord, addressWord, addressCall}
-use Rattle.yovtirak.specs.Heads.{Tells}
+use Rattle.queries.specs.declared.Awaited.{Awaited}
+use Rattle.queries.specs.declared.Awaited.the-variants as Awaited
+use Rattle.yovtirak.specs.Exports.{awaitedWord, repetitionWord, heardWord, answerWord, addressWord, addressCall}
+use Rattle.yovtirak.specs.Heads.{Tells, TellsMissing}
 use Rattle.yovtirak.specs.laws.Exports.{part-small}
 
 -- ---- an answer's word
@@ -117,6 +119,14 @@ module _ (bytes : List ℕ) (y : Bytes bytes) (s : State) where
     pub taken-told : returnedWith (takeGroup bytes s .answer) ≡ Sent heard repetition
         → Tells (answerWord (takeGroup bytes s .answer)) (takeGroup bytes s .answer) heard repetition
     taken-told e = rw e (word-tells (takeGroup bytes s .answer) heard repetition (sent-small e))
+
+-- ---- how many bytes are still to come
+
+pub missing-told : (awaited : Awaited) → TellsMissing (awaitedWord awaited) awaited
+missing-told (Awaited.Bytes amount) = record { answered = omega arith; amount = omega arith }
+missing-told (Awaited.Denied why) =
+    let n = number-byte (Answer.Denied why) in
+    record { answered = omega (arith, n); amount = omega (arith, n) }
 
 -- ---- where an address stands
 
