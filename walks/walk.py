@@ -407,6 +407,12 @@ class Walk:
         s.ab('Post', 'Val → SProp 𝓤', 'walkOf 𝓤 H A f.ended stayed (f.clauses 𝓤 H A at-mem run) .post ((κs, qs, tt, a, vals), tt)')
         s.A('  typedC : (r : {0}) → Is R r (machC r ∷ []) → Holds (hasTy {1} (machC r)) × WT (machC r)\n  typedC r is = {2} .typed r _ is .0\n'.format(s.Rec, s.rec['mir'], s.rec['lawful']))
 
+    def field(s, at, number, mir, value):
+        """A field that is read: its type and its value are named, as what the prover would fill in spells them out."""
+        given = '{τ = %s}' % mir
+        read = 'look-in ! %d %s {v = %s} (sub ! %d %s refl (whole !))' % (at, given, value, number, given)
+        return '{v = %s} (of-opd ! (load ! {v = %s} (from ! (fld ! %s refl (stop !))) (%s)))' % (value, value, given, read)
+
     def said(s):
         """Said, and the names of the last values: in the order of the caller's parameters."""
         s.zb = ' '.join('z-' + p['id'] for p in s.muts)
@@ -601,8 +607,8 @@ class Walk:
         t = c.at('_%d' % tl)
         c.say('land ! (from ! (stop !)) (init ! {0} refl ({1} .typed r _ is .0)) $ rewrite ! {0} (λ (u : Val). ‵ (fat fullShare {2} l{3} 0 u)) (ap only ({4} r _ is)) refl $'.format(t, s.K['lawful'], s.K['mir'], tl, s.K['tells']))
         c.say('-- the record is stored, and the rest returned')
-        c.say('assigns ! (of-opd ! (load ! (from ! (fld ! refl (stop !))) (look-in ! %d (sub ! 0 refl (whole !))))) (from ! (hop ! (look ! %d refl) (stop !))) (store-raw ! %d refl (typedC (r .%s) (is-rec r w is))) $' % (t, c.at(me), c.at('cell'), cf))
-        c.say('assigns ! (of-opd ! (load ! (from ! (fld ! refl (stop !))) (look-in ! %d (sub ! 1 refl (whole !))))) (from ! (stop !)) (init ! %d refl (%s .typed (r .%s) _ (is-rest r w is) .0)) $' % (t, c.at('_0'), s.rest['lawful'], rf))
+        c.say('assigns ! %s (from ! (hop ! (look ! %d refl) (stop !))) (store-raw ! %d refl (typedC (r .%s) (is-rec r w is))) $' % (s.field(t, 0, s.rec['mir'], 'machC (r .%s)' % cf), c.at(me), c.at('cell'), cf))
+        c.say('assigns ! %s (from ! (stop !)) (init ! %d {τ = %s} {v = machP (r .%s)} refl (%s .typed (r .%s) _ (is-rest r w is) .0)) $' % (s.field(t, 1, s.rest['mir'], 'machP (r .%s)' % rf), c.at('_0'), s.rest['mir'], rf, s.rest['lawful'], rf))
         c.rep(0, ['ownC'], s.makeC('(r .%s)' % cf, '(is-rec r w is)'))
         c.move('cell', 'ownC', 'obor', 'obs', 'auth')
         c.rep(5, ['obs', 'bor', 'lft'], 'closes ! tt R (r .%s) (machC (r .%s) ∷ []) b o $' % (cf, cf))

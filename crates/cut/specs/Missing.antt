@@ -103,6 +103,17 @@ unfoldable pub missingBy : Core → ℕ → Record → ℕ → Record → Amount
 missingBy core h p b q =
     lacking (lengthKept Header core p) (lengthKept Body core q) (arrivedKept h p + arrivedKept b q)
 
+-- ---- as a slot keeps it
+
+-- 1 more than the number, or 0 while it is not known
+abbrev pub amountKept : Amount → ℕ
+amountKept Unknown = 0
+amountKept (Known bytes) = suc bytes
+
+abbrev pub amountOf : ℕ → Amount
+amountOf zero = Unknown
+amountOf (suc bytes) = Known bytes
+
 -- ---- what the code asks
 
 -- the sizes that header segment 0 says have the widths of their fields

@@ -2,13 +2,11 @@
 -- slots; the counts are five words of their own.
 use mathlib.Core.Bool.{Bool, true, false}
 use mathlib.Core.List.{List, [], _∷_, _++_}
-use Prim.Native.Nat.{ℕ, zero, suc, _+_, _-_}
+use Prim.Native.Nat.{ℕ, zero, suc, _+_}
 use lib.Dec.{eqb, leb, ltb}
 use lib.ListN.{length, getD}
 use Rattle.counts.specs.declared.Counts.{Counts}
 use Rattle.cut.specs.Decision.{both}
-use Rattle.cut.specs.declared.Amount.{Amount}
-use Rattle.cut.specs.declared.Amount.the-variants.{Unknown, Known}
 use Rattle.cut.specs.declared.Record.{Record}
 use Rattle.cut.specs.Lists.{pick}
 use Rattle.object.specs.declared.Slot.{Slot}
@@ -38,18 +36,13 @@ bodyWord Free = 0
 bodyWord Gathering = 0
 bodyWord (Finished header body) = body
 
--- how many bytes are still to come: 1 + that number, 0 while it isn't known
-abbrev pub amountWord : Amount → ℕ
-amountWord Unknown = 0
-amountWord (Known bytes) = bytes + 1
-
 -- a slot's number, stage and lengths, the records of its header and its body, and how many bytes are still to come
 abbrev pub slotWords : Slot → List ℕ
 slotWords slot =
     five (slot .number) (stageTag (slot .stage)) (headerWord (slot .stage)) (bodyWord (slot .stage))
     (slot .header .size)
     ++ five (slot .header .end) (slot .header .tail) (slot .body .size) (slot .body .end) (slot .body .tail)
-    ++ amountWord (slot .missing) ∷ []
+    ++ slot .missing ∷ []
 
 unfoldable pub slotsWords : List Slot → List ℕ
 slotsWords [] = []
@@ -73,12 +66,9 @@ stageFrom tag header body = pick (eqb tag 0) Free (pick (eqb tag 1) Gathering (F
 abbrev pub numberFrom : ℕ → ℕ
 numberFrom n = pick (ltb n 65536) n 0
 
--- a number of bytes has 32 bits, so this is its largest word
-abbrev pub amountMost : ℕ
-amountMost = 4294967296
-
-abbrev pub amountFrom : ℕ → Amount
-amountFrom n = pick (eqb n 0) Unknown (pick (leb n amountMost) (Known (n - 1)) Unknown)
+-- what a slot keeps of the bytes still to come has 32
+abbrev pub missingFrom : ℕ → ℕ
+missingFrom n = pick (ltb n 4294967296) n 0
 
 unfoldable pub stageAt : List ℕ → ℕ → Stage
 stageAt words at = stageFrom (word words at) (word words (at + 1)) (word words (at + 2))
@@ -93,7 +83,7 @@ slotIn words at = record {
   header =
       recordAt words (at + 4);
   body = recordAt words (at + 7);
-  missing = amountFrom (word words (at + 10));
+  missing = missingFrom (word words (at + 10));
 }
 
 unfoldable pub slotsFrom : List ℕ → ℕ → ℕ → List Slot
@@ -120,7 +110,7 @@ countsFrom words = record {
 unfoldable pub slotReadable : List ℕ → ℕ → Bool
 slotReadable words at = pick (eqb (word words (at + 1)) 0) true
     (pick (leb (word words (at + 1)) 2)
-    (both (ltb (word words at) 65536) (leb (word words (at + 10)) amountMost)) false)
+    (both (ltb (word words at) 65536) (ltb (word words (at + 10)) 4294967296)) false)
 
 unfoldable pub readableFrom : List ℕ → ℕ → ℕ → Bool
 readableFrom words zero at = true

@@ -5,26 +5,22 @@
 // a collector that is written reads back as it was.
 use collector::Collector;
 use counts::Counts;
-use cut::Amount;
 use cut::Record;
 use object::Slot;
 use object::Stage;
 use slots::SLOTS_MOST;
 ghost use mathlib.Core.Path.{_≡_};
 ghost use mathlib.Core.List.{_++_};
-ghost use Prim.Native.Nat.{_+_, _*_, _≤_, _<_};
+ghost use Prim.Native.Nat.{_+_, _*_, _≤_};
 ghost use lib.ListN.{length, take};
 ghost use Rattle.slots.specs.Stores.{slotsMost};
-ghost use Rattle.layout.specs.Layout.{stageTag, headerWord, bodyWord, amountWord, five, slotWords, slotsWords, wordsOf, countWords, stageFrom, stageAt, numberFrom, amountFrom, recordAt, slotIn, slotsFrom, collectorFrom, countsFrom, slotReadable, readableFrom, readable};
+ghost use Rattle.layout.specs.Layout.{stageTag, headerWord, bodyWord, five, slotWords, slotsWords, wordsOf, countWords, stageFrom, stageAt, numberFrom, missingFrom, recordAt, slotIn, slotsFrom, collectorFrom, countsFrom, slotReadable, readableFrom, readable};
 
 // Words before those of the slots: the limit and the number of slots.
 const BEFORE_SLOTS: usize = 2;
 
 // Words of a slot.
 pub const SLOT: usize = 11;
-
-// The largest word that holds a number of bytes, which has 32 bits.
-const AMOUNT_MOST: u64 = 4294967296;
 
 // Words of a state: the limit, the number of slots, and those of all the slots.
 pub const STATE: usize = BEFORE_SLOTS + SLOTS_MOST * SLOT;
@@ -64,16 +60,6 @@ pub fn body_word(stage: Stage) -> u64
     }
 }
 
-// 1 + the number of bytes still to come, 0 while it isn't known.
-pub fn amount_word(missing: Amount) -> u64
-    ensures { λ r. ⌜ (r ≡ amountWord missing) × (r < 8589934592) ⌝ }
-{
-    match missing {
-        Amount::Unknown => 0,
-        Amount::Known(bytes) => bytes as u64 + 1,
-    }
-}
-
 fn stage_from(tag: u64, header: u64, body: u64) -> Stage
     ensures { λ r. ⌜ r ≡ stageFrom tag header body ⌝ }
 {
@@ -95,16 +81,13 @@ fn number_from(word: u64) -> u16
     0
 }
 
-fn amount_from(word: u64) -> Amount
-    ensures { λ r. ⌜ r ≡ amountFrom word ⌝ }
+fn missing_from(word: u64) -> u32
+    ensures { λ r. ⌜ r ≡ missingFrom word ⌝ }
 {
-    if word == 0 {
-        return Amount::Unknown;
+    if word < 4294967296 {
+        return word as u32;
     }
-    if AMOUNT_MOST < word {
-        return Amount::Unknown;
-    }
-    Amount::Known((word - 1) as u32)
+    0
 }
 
 // A stage, from three words.
@@ -139,7 +122,7 @@ fn slot_at(words: &[u64], at: usize) -> Slot
         stage: stage_at(words, at + 1),
         header: record_at(words, at + 4),
         body: record_at(words, at + 7),
-        missing: amount_from(missing),
+        missing: missing_from(missing),
     }
 }
 
@@ -158,7 +141,7 @@ fn slot_readable(words: &[u64], at: usize) -> bool
     if 65536 <= words[at] {
         return false;
     }
-    words[at + 10] <= AMOUNT_MOST
+    words[at + 10] < 4294967296
 }
 
 // Whether the words of the first `count` slots hold slots.
@@ -259,7 +242,7 @@ fn put_slot(words: &mut [u64], slot: Slot)
         body.end as u64,
         body.tail as u64,
     );
-    words[10] = amount_word(missing);
+    words[10] = missing as u64;
 }
 
 fn put_slots(words: &mut [u64], slots: [Slot; SLOTS_MOST])

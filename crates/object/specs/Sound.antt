@@ -5,9 +5,8 @@ use Prim.Native.Nat.{ℕ}
 use lib.Dec.{eqb, leb}
 use Rattle.octets.specs.Octets.{sumOf, largestOf}
 use Rattle.answer.specs.declared.Part.the-variants.{Header, Body}
-use Rattle.cut.specs.declared.Amount.{Amount}
-use Rattle.cut.specs.declared.Amount.the-variants.{Unknown, Known}
 use Rattle.cut.specs.Decision.{both, all, boundsOf, coreFits}
+use Rattle.cut.specs.Missing.{amountKept}
 use Rattle.part.specs.Asked.{soundPart}
 use Rattle.object.specs.declared.Slot.{Slot}
 use Rattle.object.specs.declared.Stage.{Stage}
@@ -38,17 +37,11 @@ soundParts limit stage ps = all
 abbrev pub marksRight : List ℕ → Bool
 marksRight marks = both (leb (largestOf marks) 1) (leb 1 (sumOf marks))
 
-abbrev pub sameAmount : Amount → Amount → Bool
-sameAmount Unknown Unknown = true
-sameAmount Unknown (Known bytes) = false
-sameAmount (Known bytes) Unknown = false
-sameAmount (Known bytes) (Known bytes') = eqb bytes bytes'
-
 -- and the records and the stage are those that the marked segments give, which fit some object and cut, and so is the
 -- number of bytes still to come
 unfoldable pub soundSlot : ℕ → Slot → Lent → Bool
 soundSlot limit slot lent = all
     (marksRight (lent .marks)
     ∷ soundParts limit (slot .stage) (partsOf slot lent)
-    ∷ sameAmount (slot .missing) (missingIn (partsOf slot lent))
+    ∷ eqb (slot .missing) (amountKept (missingIn (partsOf slot lent)))
     ∷ [])

@@ -9,7 +9,7 @@ use Rattle.answer.specs.declared.Part.the-variants.{Header, Body}
 use Rattle.cut.specs.declared.Record.{Record}
 use Rattle.cut.specs.Requirement.{Segment, Fits, Finished}
 use Rattle.cut.specs.Decision.{boundsOf, summary, recordOf, coreOf}
-use Rattle.cut.specs.Missing.{missingOf}
+use Rattle.cut.specs.Missing.{missingOf, amountKept}
 use Rattle.cut.specs.Lists.{Each}
 use Rattle.object.specs.declared.Slot.{Slot}
 use Rattle.part.specs.Memory.{heldIn}
@@ -45,4 +45,5 @@ pub record Sound (limit : ℕ) (slot : Slot) (lent : Lent) : Type 0 where
   -- and so is the stage
   pub stage : StageFor object (slot .stage)
   -- and the number of bytes still to come
-  pub missing : slot .missing ≡ missingOf (markedSegments Header slot lent) (markedSegments Body slot lent)
+  pub missing : slot .missing
+      ≡ amountKept (missingOf (markedSegments Header slot lent) (markedSegments Body slot lent))

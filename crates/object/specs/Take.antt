@@ -10,6 +10,7 @@ use Rattle.cut.specs.declared.Core.{Core}
 use Rattle.cut.specs.Parts.{otherPart}
 use Rattle.cut.specs.Decision.{boundsOf, coreWith}
 use Rattle.cut.specs.Sums.{takes}
+use Rattle.cut.specs.Missing.{amountKept}
 use Rattle.part.specs.Memory.{segmentAt, settled, put}
 use Rattle.part.specs.Asked.{sameSegment, recordWith, recordWithin}
 use Rattle.object.specs.declared.Slot.{Slot}
@@ -84,7 +85,7 @@ slotWith number ps = record {
   stage = stageOf ps;
   header = ps .header .kept;
   body = ps .body .kept;
-  missing = missingIn ps;
+  missing = amountKept (missingIn ps);
 }
 
 -- ---- the step

@@ -12,7 +12,7 @@ use cut::HEADER_NUMBERS;
 use cut::Record;
 ghost use mathlib.Core.Path.{_≡_};
 ghost use Rattle.cut.specs.Decision.{boundsOf, coreFits, suits, finished};
-ghost use Rattle.cut.specs.Missing.{lengthKept, missingBy, Narrow, Small};
+ghost use Rattle.cut.specs.Missing.{lengthKept, missingBy, amountKept, Narrow, Small};
 
 pub fn bounds_of(part: Part, limit: usize, core: Core) -> Bounds
     ensures { λ r. ⌜ r ≡ boundsOf part limit core ⌝ }
@@ -109,22 +109,23 @@ fn length_of(part: Part, core: Core, kept: Record) -> Amount
     }
 }
 
-// How many bytes are still to come: h segments of the header are in, and b of the body.
-pub fn missing(core: Core, h: u32, p: Record, b: u32, q: Record) -> Amount
+// How many bytes are still to come, as a slot keeps it: 1 more, or 0 while it isn't known. Of the header h segments are
+// in, and b of the body.
+pub fn missing(core: Core, h: u32, p: Record, b: u32, q: Record) -> u32
     requires { ⌜ Narrow core × Small p × Small q ⌝ }
-    ensures { λ r. ⌜ r ≡ missingBy core h p b q ⌝ }
+    ensures { λ r. ⌜ r ≡ amountKept (missingBy core h p b q) ⌝ }
 {
     let Amount::Known(header) = length_of(Part::Header, core, p) else {
-        return Amount::Unknown;
+        return 0;
     };
     let Amount::Known(body) = length_of(Part::Body, core, q) else {
-        return Amount::Unknown;
+        return 0;
     };
     let whole = header as usize + body as usize;
     let came = part::record::arrived(h, p) + part::record::arrived(b, q);
     if whole < came {
-        return Amount::Known(0);
+        return 1;
     }
-    let rest = whole - came;
-    Amount::Known(rest as u32)
+    let rest = (whole - came) as u32;
+    rest + 1
 }

@@ -2,6 +2,7 @@
 use Prim.Native.Nat.{ℕ}
 use Rattle.answer.specs.declared.Reason.the-variants as Reason
 use Rattle.cut.specs.Lists.{pick}
+use Rattle.cut.specs.Missing.{amountOf}
 use Rattle.slots.specs.declared.Found.{Found}
 use Rattle.slots.specs.declared.Found.the-variants.{Nothing, At}
 use Rattle.slots.specs.Stores.{slotAt}
@@ -12,7 +13,7 @@ use Rattle.queries.specs.declared.Awaited.the-variants.{Bytes, Denied}
 
 abbrev pub awaitedIn : Found → State → Awaited
 awaitedIn Nothing s = Denied Reason.NotHeld
-awaitedIn (At i) s = Bytes (slotAt i (s .collector .slots) .missing)
+awaitedIn (At i) s = Bytes (amountOf (slotAt i (s .collector .slots) .missing))
 
 -- STATE, NOTHELD; then the number that the slot keeps, whether the object is finished or not
 unfoldable pub missing : ℕ → State → Awaited

@@ -13,6 +13,7 @@ use header::Refusal;
 use name_search::Holder;
 use slots::Found;
 ghost use mathlib.Core.Path.{_≡_};
+ghost use Rattle.cut.specs.Missing.{amountOf};
 ghost use Rattle.collector.specs.State.{stores, state};
 ghost use Rattle.queries.specs.Questions.{soughtAs, parameters, name, find};
 ghost use Rattle.queries.specs.Missing.{missing};
@@ -120,6 +121,16 @@ pub fn find(
     sought_as(name_search::find(asked, collector.count, slots, header))
 }
 
+// The number of bytes that a slot keeps so: 1 more, or 0 while it isn't known.
+fn amount_of(kept: u32) -> Amount
+    ensures { λ r. ⌜ r ≡ amountOf kept ⌝ }
+{
+    if kept == 0 {
+        return Amount::Unknown;
+    }
+    Amount::Known(kept - 1)
+}
+
 // How many bytes of a number's object are still to come, finished or not: what its slot keeps, so that no more is
 // worked out than STATE asks for.
 pub fn missing(
@@ -144,6 +155,6 @@ pub fn missing(
         return Awaited::Denied(Reason::NotHeld);
     }
     let slot = collector.slots[i];
-    let missing = slot.missing;
-    Awaited::Bytes(missing)
+    let kept = slot.missing;
+    Awaited::Bytes(amount_of(kept))
 }

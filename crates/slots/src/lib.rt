@@ -4,7 +4,6 @@
 // marks stands here; the collector above has the type, the answers and the counts. Each function is one definition
 // (specs/), and slot i has share i of each store and of the marks.
 use answer::Part;
-use cut::Amount;
 use cut::Core;
 use cut::Record;
 use object::Decided;
@@ -61,7 +60,7 @@ pub fn free_slot() -> Slot
         stage: Stage::Free,
         header: no_record(),
         body: no_record(),
-        missing: Amount::Unknown,
+        missing: 0,
     }
 }
 
@@ -84,7 +83,7 @@ pub fn fresh_slot(transport: u16) -> Slot
         stage: Stage::Gathering,
         header: no_record(),
         body: no_record(),
-        missing: Amount::Unknown,
+        missing: 0,
     }
 }
 

@@ -20,6 +20,7 @@ use Rattle.wire.specs.declared.Reading.the-variants as Reading
 use Rattle.wire.specs.Reading.{readingOf}
 use Rattle.cut.specs.Decision.{both}
 use Rattle.cut.specs.Lists.{pick}
+use Rattle.cut.specs.Missing.{amountKept}
 use Rattle.object.specs.declared.Stage.{Stage}
 use Rattle.slots.specs.Stores.{Stores, slotAt}
 use Rattle.collector.specs.declared.Collector.{Collector}
@@ -42,7 +43,7 @@ use Rattle.header.specs.declared.Name.{Name}
 use Rattle.header.specs.declared.Name.the-variants as Name
 use Rattle.header.specs.declared.Priority.{Priority}
 use Rattle.header.specs.declared.Priority.the-variants as Priority
-use Rattle.layout.specs.Layout.{headerWord, bodyWord, amountWord, wordsOf, countWords, collectorFrom, countsFrom, readable}
+use Rattle.layout.specs.Layout.{headerWord, bodyWord, wordsOf, countWords, collectorFrom, countsFrom, readable}
 
 -- ---- an answer in one word: its number, then the part, the transport number and the segment's number, and what the
 -- sender meant by a repeat
@@ -215,9 +216,9 @@ findCall name words counts stores =
 
 -- ---- how many bytes are still to come
 
--- 1 more than that, or 0 while it is not known
+-- as a slot keeps it: 1 more, or 0 while it is not known
 abbrev pub awaitedWord : Awaited → ℕ
-awaitedWord (Awaited.Bytes amount) = amountWord amount * 65536
+awaitedWord (Awaited.Bytes amount) = amountKept amount * 65536
 awaitedWord (Awaited.Denied why) = numberOf (Denied why)
 
 unfoldable pub missingCall : ℕ → List ℕ → List ℕ → Stores → ℕ

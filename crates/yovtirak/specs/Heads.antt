@@ -17,11 +17,12 @@ use Rattle.history.specs.History.{Question, Call, hand, ask, reached}
 use Rattle.history.specs.Ours.{ours}
 use Rattle.queries.specs.declared.Awaited.{Awaited}
 use Rattle.queries.specs.declared.Awaited.the-variants as Awaited
-use Rattle.layout.specs.Layout.{amountWord, countsFrom, collectorFrom, wordsOf, countWords}
+use Rattle.layout.specs.Layout.{countsFrom, collectorFrom, wordsOf, countWords}
 use Rattle.yovtirak.specs.Exports.{Called, held, partWord, answerWord, openCall, takeCall, dropCall, Told, placeTold, finishedCall, fieldsTold, readCall, soughtWord, findCall, awaitedWord, missingCall, addressWord, addressCall}
 use Rattle.octets.specs.Octets.{part}
 use Rattle.wire.specs.Reading.{readingOf}
 use Rattle.cut.specs.Lists.{Bytes}
+use Rattle.cut.specs.Missing.{amountKept}
 use Rattle.cut.specs.Requirement.{headerMost}
 
 -- what a head has in hand between two calls
@@ -156,7 +157,7 @@ denialIn (Awaited.Bytes amount) = 0
 denialIn (Awaited.Denied why) = numberOf (Answer.Denied why)
 
 abbrev pub amountIn : Awaited → ℕ
-amountIn (Awaited.Bytes amount) = amountWord amount
+amountIn (Awaited.Bytes amount) = amountKept amount
 amountIn (Awaited.Denied why) = 0
 
 -- what the shifts and the mask of `yovtirak_tell_missing` take out of a word: the answer's number, 0 where the number of

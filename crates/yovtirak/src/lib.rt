@@ -11,6 +11,7 @@ use collector::Collector;
 use collector::Located;
 use collector::Opening;
 use collector::Reply;
+use cut::Amount;
 use header::Fields;
 use header::Name;
 use header::Priority;
@@ -28,6 +29,7 @@ ghost use Rattle.layout.specs.Layout.{wordsOf, countWords};
 ghost use Rattle.collector.specs.State.{stores};
 ghost use Rattle.yovtirak.specs.Exports.{called, openingWord, isOpen, openCall, partWord, heardWord, repetitionWord, returnedWord, answerWord, changes, takeCall, dropCall, refusedWord, placeWords, finishedCall, priorityWord, nameStart, nameLength, fieldWords, unreadWord, readCall, soughtWord, findCall, awaitedWord, missingCall, refusalWord, addressCall};
 ghost use Rattle.cut.specs.Lists.{pick};
+ghost use Rattle.cut.specs.Missing.{amountKept};
 
 // The answers that are given of wrong words, before there is a collector.
 const LIMITS: u64 = answer::LIMITS as u64;
@@ -420,11 +422,21 @@ pub extern "C" fn yovtirak_find(
     sought_word(queries::find(collector, counted, name, header, body, marks))
 }
 
+// 1 more than a number of bytes, or 0 while it isn't known.
+fn amount_word(amount: Amount) -> u64
+    ensures { λ r. ⌜ (r ≡ amountKept amount) × (r < 8589934592) ⌝ }
+{
+    match amount {
+        Amount::Unknown => 0,
+        Amount::Known(bytes) => bytes as u64 + 1,
+    }
+}
+
 fn awaited_word(awaited: Awaited) -> u64
     ensures { λ r. ⌜ r ≡ awaitedWord awaited ⌝ }
 {
     match awaited {
-        Awaited::Bytes(amount) => layout::amount_word(amount) * 65536,
+        Awaited::Bytes(amount) => amount_word(amount) * 65536,
         Awaited::Denied(why) => answer::number_of(Answer::Denied(why)) as u64,
     }
 }

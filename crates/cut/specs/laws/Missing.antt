@@ -24,7 +24,7 @@ use Rattle.cut.specs.laws.Lists.{each-map}
 use Rattle.cut.specs.Requirement.{limitMost, sizeMost, bodySize, headerSize, headerNumbers, bodyNumbers, IsCut, Segment, Sends, Fits, Whole, Finished, bytesOf, joined}
 use Rattle.cut.specs.Parts.{headersWith, bodiesWith, those, partOf, cutOf}
 use Rattle.cut.specs.Decision.{addPart, addTop, Summary, summary, coreAfter, coreOf}
-use Rattle.cut.specs.Missing.{sizeShown, lengthBy, lengthFrom, lengthKnown, arrived, lacking, missingOf, isStored, outside, outsideOf, lengthIn, lengthKept, Narrow, Small}
+use Rattle.cut.specs.Missing.{sizeShown, lengthBy, lengthFrom, lengthKnown, arrived, lacking, missingOf, isStored, outside, outsideOf, lengthIn, lengthKept, amountKept, amountOf, Narrow, Small}
 use Rattle.cut.specs.laws.Segment.{Numbered, SitsAs, Sits}
 use Rattle.cut.specs.laws.Decision.{TopSits, EndSits, SumSits, EndIs, JoinsAs, Clear, sits-sum}
 use Rattle.cut.specs.laws.Object.{CoreIs, core-is, fits-within, fits-sits, fits-passes}
@@ -414,12 +414,11 @@ length-low Body Unseen p w s n e = last-low p s n e
 length-low Header (Seen B H) p w s n e = let y : n ≡ H = cc in omega (arith, w .1)
 length-low Body (Seen B H) p w s n e = let y : n ≡ B = cc in omega (arith, w .0)
 
--- ---- no number of bytes that is missing is large
+-- ---- as a slot keeps it
 
--- it has 32 bits
-abbrev pub ThirtyTwo : Amount → Type 0
-ThirtyTwo Unknown = Unit {0}
-ThirtyTwo (Known n) = n < 0x100000000
+pub amount-back : (x : Amount) → amountOf (amountKept x) ≡ x
+amount-back Unknown = refl
+amount-back (Known bytes) = refl
 
 outside-most : (S : ℕ) (ss : List Segment) (count : ℕ) → outside S ss count ≤ count
 unfolding outside
@@ -430,12 +429,13 @@ outside-most S ss (suc count) = omega (arith, outside-most S ss count, one (isSt
     one true = omega arith
     one false = omega arith
 
+-- it has 32 bits
 pub missing-narrow : (limit : ℕ) (hs bs : List Segment) → limit ≤ limitMost → Fits limit hs bs
-    → ThirtyTwo (missingOf hs bs)
+    → amountKept (missingOf hs bs) < 0x100000000
 missing-narrow limit hs bs z f = go (missingOf hs bs) refl
   where
-    go : (x : Amount) → missingOf hs bs ≡ x → ThirtyTwo x
-    go Unknown e = tt
+    go : (x : Amount) → missingOf hs bs ≡ x → amountKept x < 0x100000000
+    go Unknown e = omega arith
     go (Known n) e =
         omega (
           arith,

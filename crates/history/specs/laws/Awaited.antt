@@ -17,8 +17,8 @@ use Rattle.cut.specs.Parts.{headersWith, bodiesWith}
 use Rattle.cut.specs.declared.Amount.{Amount}
 use Rattle.cut.specs.declared.Amount.the-variants.{Unknown, Known}
 use Rattle.cut.specs.Lists.{pick, Each}
-use Rattle.cut.specs.Missing.{missingOf, outsideOf}
-use Rattle.cut.specs.laws.Missing.{missing-outside, missing-none, missing-falls}
+use Rattle.cut.specs.Missing.{missingOf, outsideOf, amountOf}
+use Rattle.cut.specs.laws.Missing.{missing-outside, missing-none, missing-falls, amount-back}
 use Rattle.slots.specs.declared.Found.{Found}
 use Rattle.slots.specs.declared.Found.the-variants.{Nothing, At}
 use Rattle.collector.specs.State.{State, find}
@@ -53,7 +53,8 @@ nothing-known hs bs h b bytes f =
 module _ (number : ℕ) (s : State) (hs bs : List Segment) (good : sound s ≡ true) (w : StandsFor number s hs bs) where
   awaited-held : (i : ℕ) → find number s ≡ At i → missing number s ≡ Awaited.Bytes (missingOf hs bs)
   unfolding missing
-  awaited-held i e = rw (good, e) (ap Awaited.Bytes (w .held i e .missing))
+  awaited-held i e =
+      rw (good, e) (ap Awaited.Bytes (ap amountOf (w .held i e .missing) ∙ amount-back (missingOf hs bs)))
 
   awaited-unheld : find number s ≡ Nothing → missing number s ≡ Awaited.Denied Reason.NotHeld
   unfolding missing

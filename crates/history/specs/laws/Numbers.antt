@@ -14,7 +14,7 @@ use Rattle.answer.specs.declared.Part.the-variants.{Header, Body}
 use Rattle.cut.specs.Lists.{Each, Bytes}
 use Rattle.cut.specs.Requirement.{limitMost, Segment}
 use Rattle.cut.specs.Parts.{headersWith, bodiesWith}
-use Rattle.cut.specs.laws.Missing.{ThirtyTwo, missing-narrow}
+use Rattle.cut.specs.laws.Missing.{missing-narrow}
 use Rattle.object.specs.declared.Slot.{Slot}
 use Rattle.object.specs.declared.Outcome.{Outcome}
 use Rattle.object.specs.declared.Outcome.the-variants.{Stored, Complete, Repeat, Conflict}
@@ -62,6 +62,10 @@ brought-low (segment heard last bytes) arrived y e =
     let same : byItself heard last bytes ≡ arrived = cc in
     subst (λ (a : Arrival). Sixteen (a .number)) same (y .1)
 
+-- one of 32
+abbrev pub ThirtyTwo : ℕ → Type 0
+ThirtyTwo number = number < 0x100000000
+
 -- a slot's numbers
 abbrev pub Narrow : Slot → Type 0
 Narrow slot = Sixteen (slot .number) × ThirtyTwo (slot .missing)
@@ -79,8 +83,8 @@ set-low (x ∷ slots) (suc i) slot h low (suc j) = set-low slots i slot h (λ k.
 -- all are free
 free-low : (n j : ℕ) → Narrow (slotAt j (replicate n freeSlot))
 unfolding slotAt freeSlot
-free-low zero j = (omega arith, tt)
-free-low (suc n) zero = (omega arith, tt)
+free-low zero j = (omega arith, omega arith)
+free-low (suc n) zero = (omega arith, omega arith)
 free-low (suc n) (suc j) = free-low n j
 
 -- whatever comes of a segment, the number of bytes still to come has 32 bits
@@ -122,7 +126,7 @@ module _ (s : State) (low : (j : ℕ) → Narrow (slotOf j s)) (whole : Intact s
       (offered-low (arrived .part) (arrived .segment) (freshSlot (arrived .number)) (lentOf i s) [] [] y
       (fresh-gathers (arrived .part) (limitOf s) (arrived .number) (arrived .segment) (lentOf i s) limit-most y
       (used-lent s (whole .undamaged) i (free-used s (whole .undamaged) i f) (whole .bytes))
-      (free-marks s (whole .undamaged) i f)) (h, tt)) low)
+      (free-marks s (whole .undamaged) i f)) (h, omega arith)) low)
   came-low arrived t h y (more i n e) =
       rw e (set-low (s .collector .slots) i _
       (offered-low (arrived .part) (arrived .segment) (slotOf i s) (lentOf i s)
@@ -143,7 +147,7 @@ module _ (s : State) (low : (j : ℕ) → Narrow (slotOf j s)) (whole : Intact s
       go Nothing e = rw (none-dropped number s (whole .undamaged) e) low
       go (At i) e = rw (found-dropped number s (whole .undamaged) i
           (used-inside s (whole .undamaged) i (found-used s (whole .undamaged) number i e)) e)
-          (set-low (s .collector .slots) i freeSlot (omega arith, tt) low)
+          (set-low (s .collector .slots) i freeSlot (omega arith, omega arith) low)
   leaves-low (ask question) y = low
 
 pub reached-low : (start : Start) → Allowed start → (calls : List Call) → Each CallBytes calls → (j : ℕ)

@@ -42,8 +42,8 @@ add-record-at-2 c = search needs
 record-at-requires-2 : tie.Need-record-at-requires-2
 record-at-requires-2 c κs = search needs
 
-amount-from-requires : tie.Need-amount-from-requires
-amount-from-requires c κs = search needs
+missing-from-requires : tie.Need-missing-from-requires
+missing-from-requires c κs = search needs
 
 returns : tie.Need-returns
 unfolding slotIn
@@ -52,11 +52,11 @@ returns c = rw (
   c .before .before .before .stage-at .ensures,
   c .before .before .record-at .ensures,
   c .before .record-at2 .ensures,
-  c .amount-from .ensures,
+  c .missing-from .ensures,
 ) refl
 
 pub slot-at-spec : {M : Type 1} → statement M
 slot-at-spec =
     tie.close (tie.spec mul-number shared-slice-read-number add-missing mul-missing shared-slice-read-missing
     number-from-requires add-stage-at stage-at-requires add-record-at record-at-requires add-record-at-2
-    record-at-requires-2 amount-from-requires returns)
+    record-at-requires-2 missing-from-requires returns)

@@ -5,40 +5,26 @@ use mathlib.Core.List.{List, [], _∷_, _++_}
 use Prim.Native.Nat.{ℕ, zero, suc, _+_, _-_, _*_, _≤_, _<_}
 use native.Mathlib.Nat.{add-zero, add-assoc}
 use native.Mathlib.Omega.{arith}
-use borrow.Author.Tests.{lt-ltb, eq-eqb, ne-eqb, le-leb}
+use borrow.Author.Tests.{lt-ltb, eq-eqb, le-leb}
 use lib.Dec.{eqb, leb}
 use lib.ListN.{length, getD, drop}
 use lib.Seq.{getD-drop, drop-drop}
-use Rattle.cut.specs.declared.Amount.{Amount}
-use Rattle.cut.specs.declared.Amount.the-variants.{Unknown, Known}
-use Rattle.cut.specs.laws.Missing.{ThirtyTwo}
 use Rattle.object.specs.declared.Slot.{Slot}
 use Rattle.object.specs.declared.Stage.{Stage}
 use Rattle.object.specs.declared.Stage.the-variants.{Free, Gathering, Finished}
 use Rattle.collector.specs.declared.Collector.{Collector}
-use Rattle.layout.specs.Layout.{word, stageTag, headerWord, bodyWord, amountWord, slotWords, slotsWords, wordsOf, stageFrom, amountMost, amountFrom, stageAt, recordAt, slotIn, slotsFrom, collectorFrom, slotReadable, readableFrom, readable}
+use Rattle.layout.specs.Layout.{word, stageTag, headerWord, bodyWord, slotWords, slotsWords, wordsOf, stageFrom, stageAt, recordAt, slotIn, slotsFrom, collectorFrom, slotReadable, readableFrom, readable}
 use Rattle.cut.specs.Lists.{pick}
 
 -- transport numbers of 16 bits and bytes still to come of 32, as a slot's always are
 abbrev pub Narrow : List Slot → Type 0
 Narrow [] = Unit
-Narrow (slot ∷ slots) = (slot .number < 65536) × ThirtyTwo (slot .missing) × Narrow slots
+Narrow (slot ∷ slots) = (slot .number < 65536) × (slot .missing < 4294967296) × Narrow slots
 
 stage-back : (stage : Stage) → stageFrom (stageTag stage) (headerWord stage) (bodyWord stage) ≡ stage
 stage-back Free = refl
 stage-back Gathering = refl
 stage-back (Finished header body) = refl
-
-amount-most : (missing : Amount) → ThirtyTwo missing → amountWord missing ≤ amountMost
-amount-most Unknown n = omega arith
-amount-most (Known bytes) n = omega (arith, n)
-
-amount-back : (missing : Amount) → ThirtyTwo missing → amountFrom (amountWord missing) ≡ missing
-amount-back Unknown n = refl
-amount-back (Known bytes) n =
-    let less : bytes + 1 - 1 ≡ bytes = omega arith in
-    rw (ne-eqb (bytes + 1) 0 (λ e. omega (arith, e)), le-leb (bytes + 1) amountMost (amount-most (Known bytes) n), less)
-    refl
 
 module _ (words : List ℕ) (at : ℕ) (slot : Slot) (rest : List ℕ) (here : drop at words ≡ slotWords slot ++ rest) where
   word-here : (j : ℕ) → word words (at + j) ≡ word (slotWords slot ++ rest) j
@@ -47,7 +33,7 @@ module _ (words : List ℕ) (at : ℕ) (slot : Slot) (rest : List ℕ) (here : d
   first-here : word words at ≡ slot .number
   first-here = ap (λ (j : ℕ). word words j) (sym (add-zero at)) ∙ word-here 0
 
-  pub slot-back : slot .number < 65536 → ThirtyTwo (slot .missing) → slotIn words at ≡ slot
+  pub slot-back : slot .number < 65536 → slot .missing < 4294967296 → slotIn words at ≡ slot
   unfolding slotIn stageAt recordAt
   slot-back n m =
       simp (
@@ -56,10 +42,10 @@ module _ (words : List ℕ) (at : ℕ) (slot : Slot) (rest : List ℕ) (here : d
         word-here,
         lt-ltb (slot .number) 65536 n,
         stage-back (slot .stage),
-        amount-back (slot .missing) m,
+        lt-ltb (slot .missing) 4294967296 m,
       ) refl
 
-  pub slot-reads : slot .number < 65536 → ThirtyTwo (slot .missing) → slotReadable words at ≡ true
+  pub slot-reads : slot .number < 65536 → slot .missing < 4294967296 → slotReadable words at ≡ true
   unfolding slotReadable
   slot-reads n m =
       rw (
@@ -67,7 +53,7 @@ module _ (words : List ℕ) (at : ℕ) (slot : Slot) (rest : List ℕ) (here : d
         first-here,
         word-here 10,
         lt-ltb (slot .number) 65536 n,
-        le-leb (amountWord (slot .missing)) amountMost (amount-most (slot .missing) m),
+        lt-ltb (slot .missing) 4294967296 m,
       )
       (three (slot .stage))
     where

@@ -6,7 +6,6 @@ use Prim.Native.Nat.{ℕ, _+_, _-_}
 use native.Mathlib.Omega.{arith}
 use lib.ListN.{length, getD, take, drop, length-take}
 use Rattle.header.specs.declared.Found.the-variants.{One}
-use Rattle.cut.specs.declared.Amount.the-variants.{Unknown}
 use Rattle.header.specs.Parameters.{foundAt}
 use Rattle.header.specs.laws.Parameters.{found-known, found-on}
 use Rattle.object.specs.declared.Slot.{Slot}
@@ -38,7 +37,7 @@ abbrev μ-slots : tie.MeasureT-slots
 -- the slot of this turn
 abbrev slotOf : tie.At-slots Inv-parameters μ-parameters Inv-slots μ-slots → Slot
 slotOf l = getD (l .before .before .before .args .t3) (l .slots .i)
-    (record { number = 0; stage = Free; header = noRecord; body = noRecord; missing = Unknown })
+    (record { number = 0; stage = Free; header = noRecord; body = noRecord; missing = 0 })
 
 -- whether it is the name's holder
 abbrev holderOf : tie.At-slots Inv-parameters μ-parameters Inv-slots μ-slots → Holder

@@ -10,7 +10,7 @@ use Rattle.cut.specs.declared.Core.{Core}
 use Rattle.cut.specs.declared.Core.the-variants.{Unseen, Seen}
 use Rattle.cut.specs.declared.Record.{Record}
 use Rattle.cut.specs.Decision.{both, whole, finished}
-use Rattle.cut.specs.Missing.{lengthIn, lengthKept, arrivedKept, missingBy}
+use Rattle.cut.specs.Missing.{lengthIn, lengthKept, arrivedKept, missingBy, amountKept}
 
 pub finished-empty : (c : Core) (B H h b : ℕ) (p q : Record) → c ≡ Seen B H → B ≡ 0 → whole h p ≡ finished c h p b q
 finished-empty c B H h b p q e z = rw (e, z) refl
@@ -31,6 +31,6 @@ unseen-length Body p = refl
 -- both lengths are known, and so many bytes have arrived
 pub known-missing : (core : Core) (h b : ℕ) (p q : Record) (header body came others : ℕ)
     → lengthKept Header core p ≡ Known header → lengthKept Body core q ≡ Known body → came ≡ arrivedKept h p
-    → others ≡ arrivedKept b q → Known (header + body - (came + others)) ≡ missingBy core h p b q
+    → others ≡ arrivedKept b q → suc (header + body - (came + others)) ≡ amountKept (missingBy core h p b q)
 unfolding missingBy
 known-missing core h b p q header body came others e f i j = rw (e, f, i, j) refl

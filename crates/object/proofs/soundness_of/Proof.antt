@@ -1,7 +1,7 @@
 -- `object::soundness_of` meets its contract, test by test.
 -- Assumes nothing.
 use mathlib.Core.Path.{sym, _∙_}
-use borrow.Author.Tests.{not-true, not-false}
+use borrow.Author.Tests.{not-true, not-false, eq-eqb, ne-eqb}
 use Rattle.answer.specs.declared.Part.the-variants.{Header, Body}
 use Rattle.object.specs.Sound.{soundParts, soundSlot}
 use Rattle.object.specs.Asked.{soundness}
@@ -125,32 +125,29 @@ missing-requires c κs =
           (marks-bits Body (a .marks .now) bits) (sym body ∙ not-false _ (c .before .before .before .if4 .left)),
     )
 
-same-amount-requires : tie.Need-same-amount-requires
-same-amount-requires c κs = search needs
-
 returns-6 : tie.Need-returns-6
 unfolding soundness soundSlot soundParts partsOf coreIn stageOf missingIn
 returns-6 c =
-    let within = rw (c .before .before .before .before .before .before .before .before .before .before .before .before .before .before .before .before .before .before .tally-of .ensures .0) at (c .before .before .before .before .before .before .before .before .before .before .before .before .before .before .before .before .before .core-fits .ensures) in
-    let header = rw (c .before .before .before .before .before .before .before .before .before .before .before .before .before .before .bounds-of .ensures, c .before .before .before .before .before .before .before .before .before .before .before .before .before .before .before .before .before .before .tally-of .ensures .0, c .before .before .before .before .before .before .before .before .before .before .before .before .before .marks-of .ensures) at (c .before .before .before .before .before .before .before .before .before .before .before .before .sound .ensures) in
-    let body = rw (c .before .before .before .before .before .before .before .before .before .bounds-of2 .ensures, c .before .before .before .before .before .before .before .before .before .before .before .before .before .before .before .before .before .before .tally-of .ensures .0, c .before .before .before .before .before .before .before .before .marks-of2 .ensures) at (c .before .before .before .before .before .before .before .sound2 .ensures) in
-    let stage = rw (c .before .before .before .before .before .stage-from .ensures, c .before .before .before .before .before .before .before .before .before .before .before .before .before .before .before .before .before .before .tally-of .ensures .0) at (c .before .before .before .before .same-stage .ensures) in
-    let missing = rw (c .before .before .missing .ensures, c .before .before .before .before .before .before .before .before .before .before .before .before .before .before .before .before .before .before .tally-of .ensures .0) at (c .before .same-amount .ensures) in
-    rw (sym (c .before .before .before .before .before .before .before .before .before .before .before .before .before .before .before .before .before .before .before .before .marks-right .ensures) ∙ not-false _ (c .before .before .before .before .before .before .before .before .before .before .before .before .before .before .before .before .before .before .before .if1 .left), sym within ∙ not-false _ (c .before .before .before .before .before .before .before .before .before .before .before .before .before .before .before .before .if2 .left), sym header ∙ not-false _ (c .before .before .before .before .before .before .before .before .before .before .before .if3 .left), sym body ∙ not-false _ (c .before .before .before .before .before .before .if4 .left), sym stage ∙ not-false _ (c .before .before .before .if5 .left), sym missing ∙ not-true _ (c .if6 .taken))
+    let within = rw (c .before .before .before .before .before .before .before .before .before .before .before .before .before .before .before .before .before .tally-of .ensures .0) at (c .before .before .before .before .before .before .before .before .before .before .before .before .before .before .before .before .core-fits .ensures) in
+    let header = rw (c .before .before .before .before .before .before .before .before .before .before .before .before .before .bounds-of .ensures, c .before .before .before .before .before .before .before .before .before .before .before .before .before .before .before .before .before .tally-of .ensures .0, c .before .before .before .before .before .before .before .before .before .before .before .before .marks-of .ensures) at (c .before .before .before .before .before .before .before .before .before .before .before .sound .ensures) in
+    let body = rw (c .before .before .before .before .before .before .before .before .bounds-of2 .ensures, c .before .before .before .before .before .before .before .before .before .before .before .before .before .before .before .before .before .tally-of .ensures .0, c .before .before .before .before .before .before .before .marks-of2 .ensures) at (c .before .before .before .before .before .before .sound2 .ensures) in
+    let stage = rw (c .before .before .before .before .stage-from .ensures, c .before .before .before .before .before .before .before .before .before .before .before .before .before .before .before .before .before .tally-of .ensures .0) at (c .before .before .before .same-stage .ensures) in
+    let missing = rw (c .before .before .before .before .before .before .before .before .before .before .before .before .before .before .before .before .before .tally-of .ensures .0) at (c .before .missing .ensures) in
+    rw (sym (c .before .before .before .before .before .before .before .before .before .before .before .before .before .before .before .before .before .before .before .marks-right .ensures) ∙ not-false _ (c .before .before .before .before .before .before .before .before .before .before .before .before .before .before .before .before .before .before .if1 .left), sym within ∙ not-false _ (c .before .before .before .before .before .before .before .before .before .before .before .before .before .before .before .if2 .left), sym header ∙ not-false _ (c .before .before .before .before .before .before .before .before .before .before .if3 .left), sym body ∙ not-false _ (c .before .before .before .before .before .if4 .left), sym stage ∙ not-false _ (c .before .before .if5 .left), ne-eqb _ _ (λ e. c .if6 .taken (e ∙ sym missing)))
 
 returns-7 : tie.Need-returns-7
 unfolding soundness soundSlot soundParts partsOf coreIn stageOf missingIn
 returns-7 c =
-    let within = rw (c .before .before .before .before .before .before .before .before .before .before .before .before .before .before .before .before .before .before .tally-of .ensures .0) at (c .before .before .before .before .before .before .before .before .before .before .before .before .before .before .before .before .before .core-fits .ensures) in
-    let header = rw (c .before .before .before .before .before .before .before .before .before .before .before .before .before .before .bounds-of .ensures, c .before .before .before .before .before .before .before .before .before .before .before .before .before .before .before .before .before .before .tally-of .ensures .0, c .before .before .before .before .before .before .before .before .before .before .before .before .before .marks-of .ensures) at (c .before .before .before .before .before .before .before .before .before .before .before .before .sound .ensures) in
-    let body = rw (c .before .before .before .before .before .before .before .before .before .bounds-of2 .ensures, c .before .before .before .before .before .before .before .before .before .before .before .before .before .before .before .before .before .before .tally-of .ensures .0, c .before .before .before .before .before .before .before .before .marks-of2 .ensures) at (c .before .before .before .before .before .before .before .sound2 .ensures) in
-    let stage = rw (c .before .before .before .before .before .stage-from .ensures, c .before .before .before .before .before .before .before .before .before .before .before .before .before .before .before .before .before .before .tally-of .ensures .0) at (c .before .before .before .before .same-stage .ensures) in
-    let missing = rw (c .before .before .missing .ensures, c .before .before .before .before .before .before .before .before .before .before .before .before .before .before .before .before .before .before .tally-of .ensures .0) at (c .before .same-amount .ensures) in
-    rw (sym (c .before .before .before .before .before .before .before .before .before .before .before .before .before .before .before .before .before .before .before .before .marks-right .ensures) ∙ not-false _ (c .before .before .before .before .before .before .before .before .before .before .before .before .before .before .before .before .before .before .before .if1 .left), sym within ∙ not-false _ (c .before .before .before .before .before .before .before .before .before .before .before .before .before .before .before .before .if2 .left), sym header ∙ not-false _ (c .before .before .before .before .before .before .before .before .before .before .before .if3 .left), sym body ∙ not-false _ (c .before .before .before .before .before .before .if4 .left), sym stage ∙ not-false _ (c .before .before .before .if5 .left), sym missing ∙ not-false _ (c .if6 .left), c .before .before .before .before .before .before .before .before .before .before .before .before .before .before .before .before .before .before .tally-of .ensures .0)
+    let within = rw (c .before .before .before .before .before .before .before .before .before .before .before .before .before .before .before .before .before .tally-of .ensures .0) at (c .before .before .before .before .before .before .before .before .before .before .before .before .before .before .before .before .core-fits .ensures) in
+    let header = rw (c .before .before .before .before .before .before .before .before .before .before .before .before .before .bounds-of .ensures, c .before .before .before .before .before .before .before .before .before .before .before .before .before .before .before .before .before .tally-of .ensures .0, c .before .before .before .before .before .before .before .before .before .before .before .before .marks-of .ensures) at (c .before .before .before .before .before .before .before .before .before .before .before .sound .ensures) in
+    let body = rw (c .before .before .before .before .before .before .before .before .bounds-of2 .ensures, c .before .before .before .before .before .before .before .before .before .before .before .before .before .before .before .before .before .tally-of .ensures .0, c .before .before .before .before .before .before .before .marks-of2 .ensures) at (c .before .before .before .before .before .before .sound2 .ensures) in
+    let stage = rw (c .before .before .before .before .stage-from .ensures, c .before .before .before .before .before .before .before .before .before .before .before .before .before .before .before .before .before .tally-of .ensures .0) at (c .before .before .before .same-stage .ensures) in
+    let missing = rw (c .before .before .before .before .before .before .before .before .before .before .before .before .before .before .before .before .before .tally-of .ensures .0) at (c .before .missing .ensures) in
+    rw (sym (c .before .before .before .before .before .before .before .before .before .before .before .before .before .before .before .before .before .before .before .marks-right .ensures) ∙ not-false _ (c .before .before .before .before .before .before .before .before .before .before .before .before .before .before .before .before .before .before .if1 .left), sym within ∙ not-false _ (c .before .before .before .before .before .before .before .before .before .before .before .before .before .before .before .if2 .left), sym header ∙ not-false _ (c .before .before .before .before .before .before .before .before .before .before .if3 .left), sym body ∙ not-false _ (c .before .before .before .before .before .if4 .left), sym stage ∙ not-false _ (c .before .before .if5 .left), eq-eqb _ _ (c .if6 .left ∙ missing), c .before .before .before .before .before .before .before .before .before .before .before .before .before .before .before .before .before .tally-of .ensures .0)
 
 pub soundness-of-spec : {M : Type 1} → statement M
 soundness-of-spec =
     tie.close (tie.spec marks-right-requires returns tally-of-requires core-fits-requires returns-2 bounds-of-requires
     marks-of-requires sound-requires returns-3 bounds-of-requires-2 marks-of-requires-2 sound-requires-2 returns-4
-    stage-from-requires same-stage-requires returns-5 missing-requires same-amount-requires returns-6
+    stage-from-requires same-stage-requires returns-5 missing-requires returns-6
     returns-7)

@@ -8,7 +8,7 @@ use Rattle.answer.specs.declared.Part.{Part}
 use Rattle.answer.specs.declared.Part.the-variants.{Header, Body}
 use Rattle.cut.specs.Requirement.{headerNumbers, bodyNumbers, Segment, Fits, joined}
 use Rattle.cut.specs.Decision.{boundsOf, coreOf}
-use Rattle.cut.specs.Missing.{missingOf}
+use Rattle.cut.specs.Missing.{missingOf, amountKept}
 use Rattle.cut.specs.laws.Segment.{Numbered}
 use Rattle.cut.specs.Parts.{headersWith, bodiesWith, those}
 use Rattle.object.specs.declared.Slot.{Slot}
@@ -30,7 +30,7 @@ pub record Gathers (limit : ℕ) (ps : Parts) (hs bs : List Segment) : Type 0 wh
 pub record Holds (limit : ℕ) (slot : Slot) (lent : Lent) (hs bs : List Segment) : Type 0 where
   pub gathers : Gathers limit (partsOf slot lent) hs bs
   pub stage : StageFor (gathers .object) (slot .stage)
-  pub missing : slot .missing ≡ missingOf hs bs
+  pub missing : slot .missing ≡ amountKept (missingOf hs bs)
 
 -- a slot that holds nothing yet: its records are empty and no mark is set
 pub record Vacant (limit : ℕ) (slot : Slot) (lent : Lent) : Type 0 where

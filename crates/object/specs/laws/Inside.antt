@@ -8,7 +8,7 @@ use native.Mathlib.Omega.{arith}
 use lib.ListN.{length, take, drop, getD, length-take, length-drop}
 use lib.Seq.{take-all}
 use lib.Dec.{eqb, leb}
-use borrow.Author.Tests.{leb-true}
+use borrow.Author.Tests.{leb-true, eqb-true}
 use Rattle.octets.specs.Octets.{sumOf, largestOf}
 use Rattle.octets.specs.laws.Marks.{largest-part}
 use Rattle.answer.specs.declared.Part.{Part}
@@ -22,7 +22,7 @@ use Rattle.cut.specs.Decision.{boundsOf, coreTests, coreFits, coreAfter, coreWi
 use Rattle.cut.specs.laws.Decision.{Suits, both-true, all-true}
 use Rattle.cut.specs.Parts.{otherPart}
 use Rattle.cut.specs.Sums.{possibleIn, fitsIn}
-use Rattle.cut.specs.Missing.{Small}
+use Rattle.cut.specs.Missing.{amountKept, Small}
 use Rattle.cut.specs.Lists.{Each}
 use Rattle.object.specs.declared.Slot.{Slot}
 use Rattle.object.specs.declared.Stage.{Stage}
@@ -30,7 +30,7 @@ use Rattle.part.specs.Memory.{Memory, memory, lengthOf}
 use Rattle.object.specs.Take.{takesIn, recordAfter}
 use Rattle.part.specs.Asked.{soundPart, recordWith, recordWithin, recordRight}
 use Rattle.part.specs.laws.Inside.{Placed, Moves, sits-before, each-bit, topIn, right-suits, size-known, marked-sits, sits-number, placed, fits-placed, fits-moves, fits-suited, within-moves, within-suited, right-suited, suited-small}
-use Rattle.object.specs.Sound.{marksRight, sameStage, sameAmount, soundParts, soundSlot}
+use Rattle.object.specs.Sound.{marksRight, sameStage, soundParts, soundSlot}
 use Rattle.object.specs.laws.Shape.{widthOf, numbersOf, Shaped, Bits}
 use Rattle.object.specs.Parts.{marksOf, Lent, Parts, partsOf, memoryOf, coreIn, stageOf, missingIn}
 
@@ -223,16 +223,20 @@ lent-shaped limit slot lent h b m =
 pub sound-slot : (limit : ℕ) (slot : Slot) (lent : Lent) → soundSlot limit slot lent ≡ true
     → (largestOf (lent .marks) ≤ 1) × (1 ≤ sumOf (lent .marks))
     × (soundParts limit (slot .stage) (partsOf slot lent) ≡ true)
-    × (sameAmount (slot .missing) (missingIn (partsOf slot lent)) ≡ true)
+    × (slot .missing ≡ amountKept (missingIn (partsOf slot lent)))
 unfolding soundSlot
 sound-slot limit slot lent e =
     let t = all-true
     (marksRight (lent .marks)
     ∷ soundParts limit (slot .stage) (partsOf slot lent)
-    ∷ sameAmount (slot .missing) (missingIn (partsOf slot lent))
+    ∷ eqb (slot .missing) (amountKept (missingIn (partsOf slot lent)))
     ∷ []) e in
-    let m = both-true (leb (largestOf (lent .marks)) 1) (leb 1 (sumOf (lent .marks))) (t .0) in
-    (leb-true (largestOf (lent .marks)) 1 (m .0), leb-true 1 (sumOf (lent .marks)) (m .1), t .1 .0, t .1 .1 .0)
+    let m = both-true (leb (largestOf (lent .marks)) 1) (leb 1 (sumOf (lent .marks))) (t .0) in (
+      leb-true (largestOf (lent .marks)) 1 (m .0),
+      leb-true 1 (sumOf (lent .marks)) (m .1),
+      t .1 .0,
+      eqb-true (slot .missing) (amountKept (missingIn (partsOf slot lent))) (t .1 .1 .0),
+    )
 
 pub marks-bits : (p : Part) (marks : List ℕ) → largestOf marks ≤ 1 → largestOf (marksOf p marks) ≤ 1
 marks-bits Header marks h = omega (arith, largest-part marks 0 headerNumbers)

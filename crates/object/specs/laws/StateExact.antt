@@ -1,13 +1,13 @@
 -- The test that every call makes of a held slot passes exactly when the slot is sound.
-use mathlib.Core.Path.{_≡_, refl, sym, _∙_, subst}
+use mathlib.Core.Path.{_≡_, refl, sym, ap, _∙_, subst}
 use mathlib.Core.Logic.{_⊎_, inl, inr, _↔_}
 use mathlib.Core.Bool.{true}
 use mathlib.Core.List.{List, [], _∷_}
 use Prim.Native.Nat.{ℕ, zero, suc, _≤_, _<_}
 use native.Mathlib.Omega.{arith}
 use lib.ListN.{length, take, drop, getD, take-append-drop}
-use lib.Dec.{leb}
-use borrow.Author.Tests.{le-leb}
+use lib.Dec.{eqb, leb}
+use borrow.Author.Tests.{le-leb, eq-eqb}
 use Rattle.octets.specs.Octets.{sumOf, largestOf}
 use Rattle.octets.specs.laws.Marks.{sum-split, largest-each}
 use Rattle.answer.specs.declared.Part.{Part}
@@ -19,11 +19,12 @@ use Rattle.cut.specs.laws.Segment.{Numbered}
 use Rattle.cut.specs.Parts.{those, partOf, cutOf}
 use Rattle.cut.specs.Decision.{boundsOf, summary, recordOf, coreOf}
 use Rattle.cut.specs.laws.Marks.{total-some}
+use Rattle.cut.specs.Missing.{amountKept}
 use Rattle.cut.specs.Lists.{Each}
 use Rattle.object.specs.declared.Slot.{Slot}
 use Rattle.object.specs.declared.Stage.{Stage}
 use Rattle.part.specs.Memory.{heldIn}
-use Rattle.object.specs.Sound.{marksRight, soundParts, sameAmount, soundSlot}
+use Rattle.object.specs.Sound.{marksRight, soundParts, soundSlot}
 use Rattle.object.specs.laws.Shape.{IsLent, Shaped}
 use Rattle.object.specs.laws.Inside.{lent-shaped, lent-bits, sound-slot}
 use Rattle.part.specs.laws.Inside.{each-bit}
@@ -35,7 +36,7 @@ use Rattle.part.specs.laws.Held.{held-reads, held-marked}
 use Rattle.part.specs.laws.Step.{reads-keeps}
 use Rattle.object.specs.laws.HeldSlot.{fits-room, part-keeps}
 use Rattle.object.specs.laws.StepStage.{stage-right, stage-one}
-use Rattle.object.specs.laws.StepMissing.{same-amount, amount-same, missing-right}
+use Rattle.object.specs.laws.StepMissing.{missing-right}
 use Rattle.object.specs.laws.StateParts.{sound-gathers, gathers-passes}
 use Rattle.object.specs.Parts.{Lent, Parts, partsOf, memoryOf, stageOf, missingIn}
 
@@ -77,8 +78,7 @@ sound-holds limit slot lent z l e =
       stage = subst (λ (x : Stage). StageFor (g .object) x)
           (sym (sound-stage limit (slot .stage) ps (t .2)))
           (stage-right limit ps (heldIn (ps .header)) (heldIn (ps .body)) g (g .object));
-      missing = same-amount (slot .missing) (missingIn ps) (t .3)
-          ∙ missing-right limit ps (heldIn (ps .header)) (heldIn (ps .body)) g;
+      missing = t .3 ∙ ap amountKept (missing-right limit ps (heldIn (ps .header)) (heldIn (ps .body)) g);
     }
 
 -- ---- a slot that holds segments, one at least, passes
@@ -106,7 +106,7 @@ holds-passes limit slot lent hs bs h some =
     true-all
     (marksRight (lent .marks)
     ∷ soundParts limit (slot .stage) (partsOf slot lent)
-    ∷ sameAmount (slot .missing) (missingIn (partsOf slot lent))
+    ∷ eqb (slot .missing) (amountKept (missingIn (partsOf slot lent)))
     ∷ []) (
       true-both (leb (largestOf (lent .marks)) 1) (leb 1 (sumOf (lent .marks)))
           (le-leb (largestOf (lent .marks)) 1
@@ -114,7 +114,7 @@ holds-passes limit slot lent hs bs h some =
           (le-leb 1 (sumOf (lent .marks)) some),
       (
         gathers-passes limit (slot .stage) (partsOf slot lent) hs bs g stage,
-        (amount-same (slot .missing) (missingIn (partsOf slot lent)) missing, tt),
+        (eq-eqb (slot .missing) (amountKept (missingIn (partsOf slot lent))) missing, tt),
       ),
     )
   where
@@ -125,8 +125,8 @@ holds-passes limit slot lent hs bs h some =
     stage = stage-one limit hs bs (g .object) (slot .stage) (stageOf (partsOf slot lent)) (h .stage)
         (stage-right limit (partsOf slot lent) hs bs g (g .object))
 
-    missing : slot .missing ≡ missingIn (partsOf slot lent)
-    missing = h .missing ∙ sym (missing-right limit (partsOf slot lent) hs bs g)
+    missing : slot .missing ≡ amountKept (missingIn (partsOf slot lent))
+    missing = h .missing ∙ ap amountKept (sym (missing-right limit (partsOf slot lent) hs bs g))
 
 pub holds-sound : (limit : ℕ) (slot : Slot) (lent : Lent) (hs bs : List Segment) → Holds limit slot lent hs bs
     → (part : Part) (n : ℕ) → Numbered n (those part hs bs) → soundSlot limit slot lent ≡ true

@@ -13,6 +13,7 @@ use Rattle.octets.specs.laws.Marks.{equal-exactly}
 use Rattle.answer.specs.declared.Part.{Part}
 use Rattle.answer.specs.declared.Part.the-variants.{Header, Body}
 use Rattle.cut.specs.Requirement.{limitMost, headerNumbers, Segment, empty, Sends, Fits, Finished}
+use Rattle.cut.specs.Missing.{amountKept}
 use Rattle.cut.specs.laws.Segment.{Numbered, among-numbered, segment-some}
 use Rattle.cut.specs.laws.Decision.{both-true, true-both, false-true}
 use Rattle.cut.specs.Parts.{headersWith, bodiesWith, those}
@@ -82,7 +83,7 @@ parts-hold limit number ps hs bs g =
     record {
       gathers = k;
       stage = stage-right limit ps hs bs g (k .object);
-      missing = missing-right limit ps hs bs g;
+      missing = ap amountKept (missing-right limit ps hs bs g);
     }
 
 -- ---- what is finished without a segment

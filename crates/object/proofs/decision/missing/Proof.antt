@@ -1,10 +1,10 @@
 -- `object::decision::missing` meets its contract: both lengths, less what has arrived.
 -- Assumes nothing.
 use mathlib.Core.Path.{_≡_, refl, sym, ap, _∙_}
-use Prim.Native.Nat.{ℕ, _+_, _-_}
+use Prim.Native.Nat.{ℕ, suc, _+_, _-_}
 use native.Mathlib.Omega.{arith}
+use native.Mathlib.Numerals.{add-one}
 use Rattle.answer.specs.declared.Part.the-variants.{Header, Body}
-use Rattle.cut.specs.declared.Amount.the-variants.{Known}
 use Rattle.cut.specs.Missing.{missingBy}
 use Rattle.cut.specs.laws.Missing.{length-low}
 use Rattle.object.proofs.decision.Laws.{known-missing}
@@ -64,7 +64,7 @@ add-came c = search needs
 returns-3 : tie.Need-returns-3
 returns-3 c =
     let none : 0 ≡ c .before .before .before .before .before .before .before .before .header .given .0 .0 + c .before .before .before .before .body .given .0 .0 - (c .before .before .arrived .result + c .before .arrived2 .result) = omega arith in
-    ap (λ (n : ℕ). Known n) none ∙ known-missing (c .before .before .before .before .before .before .before .before .before .before .before .args .core) (c .before .before .before .before .before .before .before .before .before .before .before .args .h) (c .before .before .before .before .before .before .before .before .before .before .before .args .b) (c .before .before .before .before .before .before .before .before .before .before .before .args .p)
+    ap (λ (n : ℕ). suc n) none ∙ known-missing (c .before .before .before .before .before .before .before .before .before .before .before .args .core) (c .before .before .before .before .before .before .before .before .before .before .before .args .h) (c .before .before .before .before .before .before .before .before .before .before .before .args .b) (c .before .before .before .before .before .before .before .before .before .before .before .args .p)
     (c .before .before .before .before .before .before .before .before .before .before .before .args .q)
     (c .before .before .before .before .before .before .before .before .header .given .0 .0) (c .before .before .before .before .body .given .0 .0)
     (c .before .before .arrived .result) (c .before .arrived2 .result)
@@ -72,14 +72,20 @@ returns-3 c =
     (sym (c .before .before .before .before .before .before .length-of2 .ensures) ∙ c .before .before .before .before .body .given .1)
     (c .before .before .arrived .ensures .0) (c .before .arrived2 .ensures .0)
 
-cast-t17 : tie.Need-cast-t17
-cast-t17 c =
+cast-rest : tie.Need-cast-rest
+cast-rest c =
+    let h = length-low Header (c .before .before .before .before .before .before .before .before .before .before .before .args .core) (c .before .before .before .before .before .before .before .before .before .before .before .args .p) (c .before .before .before .before .before .before .before .before .before .before .before .pre .0) (c .before .before .before .before .before .before .before .before .before .before .before .pre .1) (c .before .before .before .before .before .before .before .before .header .given .0 .0) (sym (c .before .before .before .before .before .before .before .before .before .before .length-of .ensures) ∙ c .before .before .before .before .before .before .before .before .header .given .1) in
+    let b = length-low Body (c .before .before .before .before .before .before .before .before .before .before .before .args .core) (c .before .before .before .before .before .before .before .before .before .before .before .args .q) (c .before .before .before .before .before .before .before .before .before .before .before .pre .0) (c .before .before .before .before .before .before .before .before .before .before .before .pre .2) (c .before .before .before .before .body .given .0 .0) (sym (c .before .before .before .before .before .before .length-of2 .ensures) ∙ c .before .before .before .before .body .given .1) in
+    record { fits = omega (arith, h, b) }
+
+add-result : tie.Need-add-result
+add-result c =
     let h = length-low Header (c .before .before .before .before .before .before .before .before .before .before .before .args .core) (c .before .before .before .before .before .before .before .before .before .before .before .args .p) (c .before .before .before .before .before .before .before .before .before .before .before .pre .0) (c .before .before .before .before .before .before .before .before .before .before .before .pre .1) (c .before .before .before .before .before .before .before .before .header .given .0 .0) (sym (c .before .before .before .before .before .before .before .before .before .before .length-of .ensures) ∙ c .before .before .before .before .before .before .before .before .header .given .1) in
     let b = length-low Body (c .before .before .before .before .before .before .before .before .before .before .before .args .core) (c .before .before .before .before .before .before .before .before .before .before .before .args .q) (c .before .before .before .before .before .before .before .before .before .before .before .pre .0) (c .before .before .before .before .before .before .before .before .before .before .before .pre .2) (c .before .before .before .before .body .given .0 .0) (sym (c .before .before .before .before .before .before .length-of2 .ensures) ∙ c .before .before .before .before .body .given .1) in
     record { fits = omega (arith, h, b) }
 
 returns-4 : tie.Need-returns-4
-returns-4 c = known-missing (c .before .before .before .before .before .before .before .before .before .before .before .args .core) (c .before .before .before .before .before .before .before .before .before .before .before .args .h) (c .before .before .before .before .before .before .before .before .before .before .before .args .b) (c .before .before .before .before .before .before .before .before .before .before .before .args .p)
+returns-4 c = add-one _ ∙ known-missing (c .before .before .before .before .before .before .before .before .before .before .before .args .core) (c .before .before .before .before .before .before .before .before .before .before .before .args .h) (c .before .before .before .before .before .before .before .before .before .before .before .args .b) (c .before .before .before .before .before .before .before .before .before .before .before .args .p)
     (c .before .before .before .before .before .before .before .before .before .before .before .args .q)
     (c .before .before .before .before .before .before .before .before .header .given .0 .0) (c .before .before .before .before .body .given .0 .0)
     (c .before .before .arrived .result) (c .before .arrived2 .result)
@@ -106,5 +112,6 @@ missing-spec =
     arrived-requires-2
     add-came
     returns-3
-    cast-t17
+    cast-rest
+    add-result
     returns-4)

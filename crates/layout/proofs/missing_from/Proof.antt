@@ -1,0 +1,18 @@
+-- `layout::missing_from` meets its contract.
+-- Assumes nothing.
+use borrow.Author.Tests.{lt-ltb, le-ltb}
+use borrow.Author.Needs.{needs}
+use Rattle.layout.proofs.missing_from.Statement.{statement}
+use Rattle.layout.proofs.missing_from.Tie as tie
+
+cast-result : tie.Need-cast-result
+cast-result c = search needs
+
+returns : tie.Need-returns
+returns c = rw (lt-ltb _ _ (c .if1 .taken))
+
+returns-2 : tie.Need-returns-2
+returns-2 c = rw (le-ltb _ _ (c .if1 .left))
+
+pub missing-from-spec : {M : Type 1} → statement M
+missing-from-spec = tie.close (tie.spec cast-result returns returns-2)
