@@ -1,13 +1,15 @@
 /* Yovtirak: a proved collector of digital-radio broadcast objects.
  *
  * MSC data groups go in one at a time; header and body segments of up to 16 objects are gathered at
- * once; finished objects can be shown, read and found by name. All memory is the caller's, the
- * state and the counts too: nothing is allocated and nothing is kept between calls.
+ * once; how many bytes of each are still to come is told; finished objects can be shown, read and
+ * found by name. All memory is the caller's, the state and the counts too: nothing is allocated and
+ * nothing is kept between calls.
  *
  *     struct yovtirak_lent lent = { .. };                 what is lent, with its lengths
  *     yovtirak_open_collector(&lent);                     opens a collector over it
  *     yovtirak_take_group(&lent, group, bytes);           takes a group
  *     yovtirak_show_address(group, bytes, &address);      tells where its end user address stands
+ *     yovtirak_tell_missing(&lent, number, &progress);    tells how much of an object is missing
  *     yovtirak_show_object(&lent, number, &object);       tells where a finished object stands,
  *     yovtirak_read_parameters(&lent, number, &said);     what its header says,
  *     yovtirak_find_object(&lent, name, bytes, &number);  and whose a name is
@@ -23,9 +25,10 @@
  *   words to 8 bytes, the counts to 4, bytes anyhow. A pointer of no elements is not looked at.
  * - No two things lent to one call overlap, the group or the name and what is told among them.
  * - Nothing needs initialising before an opening, not even the state.
- * - A call that opens, takes or drops is alone with what is lent. Questions (show, read, find)
- *   write only what they tell, so that several may run at once on one state; calls on separate
- *   memory may run at any time, and so may the question about a group, which needs no collector.
+ * - A call that opens, takes or drops is alone with what is lent. Questions (tell, show, read,
+ *   find) write only what they tell, so that several may run at once on one state; calls on
+ *   separate memory may run at any time, and so may the question about a group, which needs no
+ *   collector.
  * - The thread has YOVTIRAK_STACK_BYTES of stack.
  *
  * What every call sees to, whatever bytes and words it is handed:
@@ -71,10 +74,11 @@ extern "C" {
 
 /* Words of 64 bits of a state: the limit, the number of slots, and for each of 16 slots its
  * transport number, its stage (0 free, 1 gathering, 2 finished), the lengths of a finished header
- * and body, and for the header and then the body the segment size, 1 + the number of the last
- * segment and its length, 0 where that is not known; the empty segment of a body has length 0. They
- * may be saved, and lent again with the counts, stores and marks as they were saved. */
-#define YOVTIRAK_STATE_WORDS 162u
+ * and body, for the header and then the body the segment size, 1 + the number of the last segment
+ * and its length, 0 where that is not known, the empty segment of a body having length 0, and at
+ * last 1 + the bytes of header and body that are still to come, 0 while that is not known. They may
+ * be saved, and lent again with the counts, stores and marks as they were saved. */
+#define YOVTIRAK_STATE_WORDS 178u
 
 /* The five counts, words of 32 bits, which the caller reads where they are. Each is the number of
  * such answers since opening and stays at 2147483647; STATE and the answers to questions are not
@@ -139,7 +143,8 @@ enum yovtirak_answer {
     YOVTIRAK_OPENED = 0, /* the collector is open */
     YOVTIRAK_SHOWN = 0,  /* the object is finished or the group is read: its place is told */
     YOVTIRAK_READ = 0,   /* its header's parameters are told */
-    YOVTIRAK_FOUND = 0   /* a finished object has the name, and its number is told */
+    YOVTIRAK_FOUND = 0,  /* a finished object has the name, and its number is told */
+    YOVTIRAK_TOLD = 0    /* the number is held, and how many bytes are missing is told */
 };
 
 enum yovtirak_part { YOVTIRAK_PART_HEADER = 0, YOVTIRAK_PART_BODY = 1 };
@@ -163,6 +168,14 @@ struct yovtirak_reply {
 struct yovtirak_end_user_address {
     const uint8_t *bytes;
     size_t length; /* 0 to 13; 0 where the group has none */
+};
+
+/* How much of an object is still to come. It is known once the lengths of header and body are: both
+ * when header segment 0 is in, and that of a part also when its last segment is in, if that is
+ * number 0 or another segment of the part is in too. */
+struct yovtirak_progress {
+    int known;      /* 1, or 0 while one of the two lengths is not known */
+    uint32_t bytes; /* of header and body, not arrived: 0 of a finished object; 0 if not known */
 };
 
 /* A finished object where it stands in the lent stores. It stays there, byte for byte, until its
@@ -208,6 +221,13 @@ uint64_t yovtirak_address(const uint8_t *group, size_t group_bytes);
 uint64_t yovtirak_drop(uint64_t *state, size_t state_words, uint32_t *counts, size_t counts_words,
                        uint16_t number, const uint8_t *header, size_t header_bytes,
                        const uint8_t *body, size_t body_bytes, uint8_t *marks, size_t marks_bytes);
+
+/* The word has the answer and, where it is TOLD, 65536 times 1 + the bytes that are still to come,
+ * or times 0 while that is not known, so that the whole word is 0 there alone. */
+uint64_t yovtirak_missing(const uint64_t *state, size_t state_words, const uint32_t *counts,
+                          size_t counts_words, uint16_t number, const uint8_t *header,
+                          size_t header_bytes, const uint8_t *body, size_t body_bytes,
+                          const uint8_t *marks, size_t marks_bytes);
 
 /* Tells the slot, the length of the header and that of the body. Each begins the slot's share of
  * its store: shares have YOVTIRAK_HEADER_SHARE bytes in the one, and `limit` bytes in the other. */
@@ -297,6 +317,25 @@ static inline struct yovtirak_reply yovtirak_drop_object(const struct yovtirak_l
                                            lent->counts_words, number, lent->header_store,
                                            lent->header_bytes, lent->body_store, lent->body_bytes,
                                            lent->marks, lent->marks_bytes));
+}
+
+/* Tells how many bytes of an object are still to come, finished or not. A segment's bytes have
+ * arrived when it is stored, once for all its repeats. TOLD; or STATE or NOTHELD, and `progress`
+ * stays as it is. */
+static inline enum yovtirak_answer yovtirak_tell_missing(const struct yovtirak_lent *lent,
+                                                         uint16_t number,
+                                                         struct yovtirak_progress *progress) {
+    const uint64_t word =
+        yovtirak_missing(lent->state, lent->state_words, lent->counts, lent->counts_words, number,
+                         lent->header_store, lent->header_bytes, lent->body_store, lent->body_bytes,
+                         lent->marks, lent->marks_bytes);
+    const enum yovtirak_answer answer = (enum yovtirak_answer)(word & 0xFF);
+    if (answer == YOVTIRAK_TOLD) {
+        const uint64_t told = word >> 16;
+        progress->known = told > 0;
+        progress->bytes = told > 0 ? (uint32_t)(told - 1) : 0;
+    }
+    return answer;
 }
 
 /* Tells where a finished object stands. SHOWN; or STATE, NOTHELD or UNFINISHED, and `object` stays
