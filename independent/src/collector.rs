@@ -145,7 +145,7 @@ impl Held {
         }
     }
 
-    /// How many bytes of a part are in.
+    /// How many bytes of a part are in, a parked segment's among them.
     fn length(&self, part: Part) -> usize {
         self.pieces(part)
             .iter()
@@ -178,6 +178,30 @@ impl Held {
         let last = self.last(Part::Body)?;
         let before = usize::from(last.number);
         (before >= 1).then(|| (body_size - last.bytes.len()) / before)
+    }
+
+    /// A part's length where it is known: from the core, or from the part's last segment when that
+    /// is number 0 or the segment size is known.
+    fn known_length(&self, part: Part) -> Option<usize> {
+        if let Some(core) = self.core() {
+            return Some(match part {
+                Part::Header => core.header_size,
+                Part::Body => core.body_size,
+            });
+        }
+        let last = self.last(part)?;
+        let before = match last.number {
+            0 => 0,
+            number => usize::from(number) * self.known_size(part)?,
+        };
+        Some(before + last.bytes.len())
+    }
+
+    /// How many bytes of header and body have not arrived, once both lengths are known.
+    pub fn missing(&self) -> Option<usize> {
+        let whole = self.known_length(Part::Header)? + self.known_length(Part::Body)?;
+        let arrived = self.length(Part::Header) + self.length(Part::Body);
+        Some(whole - arrived)
     }
 
     /// Where a stored piece stands in its slot's share of the store. Only a last one can come
@@ -378,6 +402,12 @@ impl Collector {
         self.memory.marks[slot * MARKS_SHARE..(slot + 1) * MARKS_SHARE].fill(0);
         self.counts.count(Answer::Dropped);
         Reply::of_number(Answer::Dropped, transport)
+    }
+
+    /// How many bytes of an object have not arrived, nothing while that is not known; or NOTHELD.
+    pub fn missing(&self, transport: u16) -> Result<Option<usize>, Answer> {
+        let slot = self.slot_of(transport).ok_or(Answer::NotHeld)?;
+        Ok(self.slots[slot].as_ref().and_then(Held::missing))
     }
 
     /// A finished object's header or body, where it stands in its store; or NOTHELD or UNFINISHED.
@@ -829,6 +859,191 @@ mod tests {
         assert_eq!(collector.find(b"/a"), Ok(5));
         // Questions aren't counted.
         assert_eq!(collector.counts.in_order(), [5, 0, 0, 2, 0]);
+    }
+
+    /// Number 1 is held; what is missing of it.
+    fn missing(collector: &Collector) -> Option<usize> {
+        collector.missing(1).expect("number 1 is held")
+    }
+
+    /// Takes groups under number 1 one after the other, and after each what is missing is compared.
+    fn missing_after_each(groups: &[(Vec<u8>, Option<usize>)]) -> Collector {
+        let mut collector = opened(1);
+        for (place, (group, expected)) in groups.iter().enumerate() {
+            let answer = answer(&mut collector, group);
+            assert!(matches!(answer, Answer::Stored | Answer::Complete));
+            assert_eq!(missing(&collector), *expected, "group {place}");
+        }
+        collector
+    }
+
+    /// The two lengths of document 01's listing are the core's; before it nothing is known of the
+    /// header, and where the body's last segment stands is not known either.
+    #[test]
+    fn missing_in_the_listing() {
+        missing_after_each(&[
+            (body_group(1, 1, true, b"tuvw"), None),
+            (says(1, 20), Some(16)),
+            (body_group(1, 0, false, b"abcdefghijklmnop"), Some(0)),
+        ]);
+    }
+
+    /// Header segments 1 and 2, the last, tell the header's length without segment 0, and so
+    /// without the core.
+    #[test]
+    fn missing_without_the_core() {
+        missing_after_each(&[
+            (header_group(1, 2, true, &[2; 4]), None),
+            (body_group(1, 0, true, &[9; 10]), None),
+            // S 20: a header of 44 bytes.
+            (header_group(1, 1, false, &[1; 20]), Some(20)),
+            (
+                header_group(1, 0, false, &[core(44, 10), vec![0; 13]].concat()),
+                Some(0),
+            ),
+        ]);
+    }
+
+    /// Both lengths come from last segments, that of the body last.
+    #[test]
+    fn missing_from_two_last_segments() {
+        missing_after_each(&[
+            (header_group(1, 1, false, &[1; 20]), None),
+            (body_group(1, 5, true, &[9; 3]), None),
+            (header_group(1, 3, true, &[3; 7]), None),
+            // S 16: a body of 83 bytes beside a header of 67.
+            (body_group(1, 2, false, &[8; 16]), Some(67 + 83 - 46)),
+            (body_group(1, 0, false, &[7; 16]), Some(67 + 83 - 62)),
+        ]);
+    }
+
+    /// The body's length is known, from number 0 or from a full segment, and the header's is not.
+    #[test]
+    fn missing_is_unknown_without_the_length_of_the_header() {
+        missing_after_each(&[(body_group(1, 0, true, &[9; 10]), None)]);
+        missing_after_each(&[
+            (body_group(1, 1, true, &[9; 10]), None),
+            (body_group(1, 0, false, &[9; 16]), None),
+            (header_group(1, 1, false, &[1; 16]), None),
+        ]);
+        // The last header segment of number 1 may stand anywhere.
+        missing_after_each(&[
+            (header_group(1, 1, true, &[1; 9]), None),
+            (body_group(1, 0, true, &[9; 10]), None),
+        ]);
+    }
+
+    /// The header's length is known and the body's is not: full segments have no end.
+    #[test]
+    fn missing_is_unknown_without_the_length_of_the_body() {
+        missing_after_each(&[
+            (header_group(1, 2, true, &[1; 9]), None),
+            (header_group(1, 1, false, &[1; 16]), None),
+            (body_group(1, 0, false, &[9; 16]), None),
+            (body_group(1, 7, false, &[9; 16]), None),
+        ]);
+    }
+
+    /// A parked last segment has arrived: it is counted when its place is known, not again then.
+    #[test]
+    fn missing_of_a_parked_segment() {
+        missing_after_each(&[
+            (body_group(1, 3, true, &[3; 10]), None),
+            (header_group(1, 2, true, &[1; 4]), None),
+            (header_group(1, 1, false, &[1; 20]), None),
+            // S 30: a body of 100 bytes beside a header of 44.
+            (body_group(1, 1, false, &[9; 30]), Some(100 - 40 + 20)),
+        ]);
+        // The core says the lengths, while the header's own last segment is still parked.
+        let first = [core(44, 100), vec![0; 13]].concat();
+        missing_after_each(&[
+            (body_group(1, 3, true, &[3; 10]), None),
+            (header_group(1, 2, true, &[1; 4]), None),
+            (header_group(1, 0, false, &first), Some(90 + 20)),
+        ]);
+        missing_after_each(&[
+            (body_group(1, 3, true, &[3; 10]), None),
+            (says(1, 100), Some(90)),
+        ]);
+    }
+
+    /// The core alone says both lengths.
+    #[test]
+    fn missing_when_the_core_arrives() {
+        let first = [core(17, 40), vec![0; 9]].concat();
+        missing_after_each(&[
+            (header_group(1, 0, false, &first), Some(41)),
+            (header_group(1, 1, true, &[1]), Some(40)),
+            (body_group(1, 1, true, &[1; 8]), Some(32)),
+            (body_group(1, 0, false, &[1; 32]), Some(0)),
+        ]);
+        missing_after_each(&[
+            (body_group(1, 1, false, &[1; 16]), None),
+            (header_group(1, 0, false, &first), Some(25)),
+        ]);
+    }
+
+    /// Document 02, Item 2: the empty body segment is a last one, and says that the body has no
+    /// bytes.
+    #[test]
+    fn missing_with_the_empty_segment() {
+        let empty = body_group(1, 0, true, &[]);
+        missing_after_each(&[
+            (empty.clone(), None),
+            (header_group(1, 2, true, &[1; 4]), None),
+            (header_group(1, 1, false, &[1; 20]), Some(20)),
+        ]);
+        missing_after_each(&[
+            (header_group(1, 2, true, &[1; 4]), None),
+            (header_group(1, 1, false, &[1; 20]), None),
+            (empty.clone(), Some(20)),
+        ]);
+        missing_after_each(&[(empty.clone(), None), (says(1, 0), Some(0))]);
+        missing_after_each(&[(says(1, 0), Some(0)), (empty, Some(0))]);
+    }
+
+    /// Nothing is missing of an object that is finished, and of no other.
+    #[test]
+    fn nothing_is_missing_when_finished() {
+        let mut collector = missing_after_each(&[
+            (body_group(1, 1, true, &[1]), None),
+            (says(1, 17), Some(16)),
+        ]);
+        assert_eq!(collector.show(1, Part::Body), Err(Answer::Unfinished));
+        answer(&mut collector, &body_group(1, 0, false, &[1; 16]));
+        assert!(collector.show(1, Part::Body).is_ok());
+        assert_eq!(missing(&collector), Some(0));
+    }
+
+    /// Repeats and what is refused change nothing, known or unknown; numbers that are not held or
+    /// are dropped have no answer, and one that comes again begins anew.
+    #[test]
+    fn missing_after_other_answers() {
+        let mut collector = opened(1);
+        assert_eq!(collector.missing(1), Err(Answer::NotHeld));
+        let last = body_group(1, 1, true, &[1; 4]);
+        let header = says(1, 20);
+        for (group, expected) in [(&last, None), (&header, Some(16))] {
+            assert_eq!(answer(&mut collector, group), Answer::Stored);
+            for (other, refused) in [
+                (group, Answer::Repeat),
+                (&body_group(1, 1, true, &[1; 5]), Answer::Conflict),
+                (&body_group(2, 0, true, &[1; 5]), Answer::Full),
+                (&group[1..].to_vec(), Answer::NoCheck),
+            ] {
+                assert_eq!(answer(&mut collector, other), refused);
+                assert_eq!(missing(&collector), expected);
+                assert_eq!(collector.missing(2), Err(Answer::NotHeld));
+            }
+        }
+        assert_eq!(answer(&mut collector, &last), Answer::Repeat);
+        assert_eq!(missing(&collector), Some(16));
+        collector.drop_number(1);
+        assert_eq!(collector.missing(1), Err(Answer::NotHeld));
+        assert_eq!(answer(&mut collector, &last), Answer::Stored);
+        assert_eq!(missing(&collector), None);
+        // Questions aren't counted.
+        assert_eq!(collector.counts.in_order(), [3, 3, 6, 0, 1]);
     }
 
     #[test]
