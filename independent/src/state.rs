@@ -2,9 +2,10 @@
 //! answers), and the collector that goes on from one that is not.
 //!
 //! A state is the numbers that a collector keeps beside the stores and marks: for each slot the
-//! transport number, the stage and, for each part, the segment size where it is known, the last
-//! segment's number and its length. The marked segments are read back from these and the stores;
-//! a sound state is one whose segments fit an object and a cut and give just these numbers again.
+//! transport number, the stage, for each part the segment size where it is known, the last
+//! segment's number and its length, and how many bytes have not arrived where that is known. The
+//! marked segments are read back from these and the stores; a sound state is one whose segments fit
+//! an object and a cut and give just these numbers again.
 //! `Handed` answers every call on a state from outside, questions too: STATE comes before all else.
 
 use crate::answer::{Answer, Reply};
@@ -42,6 +43,8 @@ pub struct SlotRecord {
     pub stage: StageRecord,
     pub header: PartRecord,
     pub body: PartRecord,
+    /// The bytes of both parts that have not arrived; nothing while a length isn't known.
+    pub missing: Option<usize>,
 }
 
 /// The numbers of a whole collector. There are always records for the most slots; those past
@@ -145,6 +148,10 @@ impl Handed {
         }
     }
 
+    pub fn missing(&self, transport: u16) -> Result<Option<usize>, Answer> {
+        self.sound()?.missing(transport)
+    }
+
     pub fn show(&self, transport: u16, part: Part) -> Result<&[u8], Answer> {
         self.sound()?.show(transport, part)
     }
@@ -185,6 +192,7 @@ fn record_of(held: &Held) -> SlotRecord {
         },
         header: part_record(Part::Header),
         body: part_record(Part::Body),
+        missing: held.missing(),
     }
 }
 
@@ -260,7 +268,8 @@ mod tests {
                 transport: 5,
                 stage: finished,
                 header: part(0, 1, 7),
-                body: part(16, 2, 4)
+                body: part(16, 2, 4),
+                missing: Some(0),
             }
         );
         assert_eq!(
@@ -269,7 +278,8 @@ mod tests {
                 transport: 9,
                 stage: StageRecord::Gathering,
                 header: part(0, 0, 0),
-                body: part(0, 4, 10)
+                body: part(0, 4, 10),
+                missing: None,
             }
         );
     }
@@ -351,6 +361,97 @@ mod tests {
         assert!(damaged(|_, _, counts| counts.dropped = 2_147_483_648));
     }
 
+    /// A state of one slot, whose number 5 got these segments, and what it is kept in.
+    fn gathered(segments: &[(Part, u16, bool, &[u8])]) -> (State, Collector) {
+        let mut collector = Collector::open(LIMIT, 1, Memory::filled(LIMIT, 1, 0)).unwrap();
+        for &(part, number, last, bytes) in segments {
+            let group = Fields::of_segment(5, part, number, last, bytes).whole();
+            assert!(collector.take(&group).answer <= Answer::Complete);
+        }
+        (State::of(&collector), collector)
+    }
+
+    /// Document 02, Item 4: the number kept must be the one that the marks give, and unknown is a
+    /// number of its own.
+    #[test]
+    fn the_missing_bytes_kept() {
+        let core = [0x00, 0x00, 0x01, 0x40, 0x03, 0x80, 0x00];
+        let [header, body] = [Part::Header, Part::Body];
+        for (segments, right) in [
+            // Unknown: the body's last segment is parked; the body's length alone is known.
+            (&[(body, 3, true, &[3; 10][..])][..], None),
+            (&[(body, 0, true, &[3; 10])], None),
+            (&[(body, 0, true, &[])], None),
+            // Known: from the core, finished, and from two last segments.
+            (&[(header, 0, true, &core)], Some(20)),
+            (
+                &[(header, 0, true, &core), (body, 1, true, &[3; 4])],
+                Some(16),
+            ),
+            (
+                &[(header, 0, true, &core), (body, 0, true, &[3; 20])],
+                Some(0),
+            ),
+            (
+                &[
+                    (header, 1, false, &[1; 20]),
+                    (header, 2, true, &[2; 4]),
+                    (body, 0, true, &[3; 10]),
+                ],
+                Some(20),
+            ),
+        ] {
+            let (state, collector) = gathered(segments);
+            assert_eq!(state.slots[0].missing, right);
+            let near = right.unwrap_or(0);
+            for kept in [
+                None,
+                Some(0),
+                Some(1),
+                Some(near.saturating_sub(1)),
+                Some(near),
+                Some(near + 1),
+                Some(usize::MAX),
+            ] {
+                let mut state = state.clone();
+                state.slots[0].missing = kept;
+                let handed = Handed::of(
+                    Some(&state),
+                    &collector.memory,
+                    &collector.counts.in_order(),
+                );
+                let expected = if kept == right {
+                    Ok(right)
+                } else {
+                    Err(Answer::State)
+                };
+                assert_eq!(handed.missing(5), expected, "{segments:?} {kept:?}");
+            }
+        }
+    }
+
+    /// A mark more or less is damage, unless the number kept is the one that the marks then give.
+    #[test]
+    fn marks_and_the_missing_bytes_kept() {
+        let core = [0x00, 0x00, 0x03, 0x20, 0x03, 0x80, 0x00];
+        let (state, collector) = gathered(&[
+            (Part::Header, 0, true, &core),
+            (Part::Body, 0, false, &[1; 16]),
+            (Part::Body, 2, false, &[1; 16]),
+        ]);
+        assert_eq!(state.slots[0].missing, Some(18));
+        for (number, mark, right) in [(1, 1, 2), (0, 0, 34), (2, 0, 34), (2, 1, 18)] {
+            for kept in [2, 18, 34] {
+                let mut state = state.clone();
+                state.slots[0].missing = Some(kept);
+                let mut memory = collector.memory.clone();
+                memory.marks[HEADER_SEGMENTS + number] = mark;
+                let resumed = state.resume(memory, collector.counts);
+                assert_eq!(resumed.is_ok(), kept == right, "{number} {mark} {kept}");
+            }
+        }
+    }
+
     /// Every call is answered with STATE, whatever is damaged: a count, or how many there are, too.
     #[test]
     fn a_damaged_state_to_every_call() {
@@ -360,6 +461,7 @@ mod tests {
         let answers = |mut handed: Handed| {
             let number = 5;
             [
+                handed.missing(number).err(),
                 handed.show(number, Part::Header).err(),
                 handed.show(number, Part::Body).err(),
                 handed.read_header(number).err(),
@@ -373,12 +475,13 @@ mod tests {
             None,
             None,
             None,
+            None,
             Some(Answer::NotFound),
             Some(Answer::Length),
             Some(Answer::Dropped),
         ];
         assert_eq!(asked(Some(&state), &sound), found);
-        let damaged = [Some(Answer::State); 6];
+        let damaged = [Some(Answer::State); 7];
         assert_eq!(asked(None, &sound), damaged);
         assert_eq!(asked(Some(&state), &sound[..4]), damaged);
         assert_eq!(asked(Some(&state), &[&sound[..], &[0]].concat()), damaged);
@@ -402,6 +505,7 @@ mod tests {
             |state, _, _| state.slots[2].stage = StageRecord::Gathering
         ));
         assert!(!damaged(|state, _, _| state.slots[15].transport = 5));
+        assert!(!damaged(|state, _, _| state.slots[2].missing = Some(5)));
         assert!(!damaged(|_, memory, _| memory.body_store[3] = 77));
         assert!(!damaged(|_, memory, _| memory.header_store[6] = 77));
         // Header bytes of a slot whose header segment 0 isn't in.
@@ -413,6 +517,7 @@ mod tests {
         assert!(!damaged(|state, memory, _| {
             state.slots[1].stage = StageRecord::Free;
             state.slots[1].transport = 5;
+            state.slots[1].missing = Some(7);
             memory.marks[1_088..].fill(0);
         }));
     }
