@@ -564,6 +564,8 @@ mod tests {
     fn both_verdicts_on_damage_are_common() {
         let mut random = Random::from_seed(18);
         let (mut sound, mut unsound) = (0, 0);
+        // Of these, marks that go with another number of missing bytes, and that number alone.
+        let (mut other_segments, mut other_missing) = (0, 0);
         for _ in 0..40 {
             let limit = random.one_of(&[1_024, 12_288]);
             let slots = random.within(1, 16);
@@ -580,15 +582,24 @@ mod tests {
                 let mut memory = collector.memory.clone();
                 let mut counts = collector.counts;
                 damage::one_thing(&mut random, &mut state, &mut memory, &mut counts);
+                let missing = |state: &State| state.slots.map(|slot| slot.missing);
+                let kept = missing(&state) != missing(&State::of(&collector));
+                let marked = memory.marks != collector.memory.marks;
                 match state.resume(memory, counts) {
-                    Ok(_) => sound += 1,
+                    Ok(_) => {
+                        sound += 1;
+                        other_segments += usize::from(kept && marked);
+                    }
                     Err(answer) => {
                         assert_eq!(answer, Answer::State);
                         unsound += 1;
+                        other_missing += usize::from(kept && !marked);
                     }
                 }
             }
         }
         assert!(sound > 200 && unsound > 400, "{sound} {unsound}");
+        let seldom = other_segments.min(other_missing) < 20;
+        assert!(!seldom, "{other_segments} {other_missing}");
     }
 }

@@ -1,16 +1,17 @@
-//! One thing wrong with a state: a field of its records, a mark, a store byte, a length or a
-//! count, to compare two verdicts on. Not all of it is damage in document 01's sense: a changed
-//! store byte may leave another state that is as sound as the first.
+//! One thing wrong with a state: a field of its records, a mark, a mark with the missing bytes that
+//! go with it, a store byte, a length or a count, to compare two verdicts on. Not all of it is
+//! damage in document 01's sense: a changed store byte may leave another state that is as sound as
+//! the first.
 
 use super::Random;
 use crate::collector::{Counts, Memory, HEADER_SHARE, MARKS_SHARE, MOST_COUNTED};
-use crate::object::HEADER_SEGMENTS;
+use crate::object::{BODY_SEGMENTS, HEADER_SEGMENTS};
 use crate::state::{PartRecord, SlotRecord, StageRecord, State};
 
 /// Changes one thing of a state that is sound.
 pub fn one_thing(random: &mut Random, state: &mut State, memory: &mut Memory, counts: &mut Counts) {
     let slot = random.within(0, state.count - 1);
-    match random.within(0, 22) {
+    match random.within(0, 28) {
         0 => state.limit = other(random, state.limit),
         1 => state.count = random.within(0, 18),
         2 => lent_length(random, memory),
@@ -36,6 +37,8 @@ pub fn one_thing(random: &mut Random, state: &mut State, memory: &mut Memory, co
             memory.header_store[byte] ^= 1 << random.within(0, 7);
         }
         19..=21 => empty_segment(random, slot, state, memory),
+        22..=24 => one_missing(random, &mut state.slots[slot]),
+        25..=27 => one_segment(random, slot, state, memory),
         _ => {
             let byte = random.within(0, memory.body_store.len() - 1);
             memory.body_store[byte] ^= 1 << random.within(0, 7);
@@ -57,6 +60,48 @@ fn empty_segment(random: &mut Random, slot: usize, state: &mut State, memory: &m
             tail: 0,
         };
     }
+}
+
+/// Another number of missing bytes, or that it is or isn't known. As a word it is one more.
+fn one_missing(random: &mut Random, slot: &mut SlotRecord) {
+    slot.missing = match slot.missing {
+        Some(_) if random.once_in(3) => None,
+        known => Some(other(random, known.unwrap_or(0)).min(usize::MAX - 1)),
+    };
+}
+
+/// One segment put in or taken out, its mark and so many missing bytes, where some are missing: the
+/// number is right where nothing else follows from the segment.
+fn one_segment(random: &mut Random, slot: usize, state: &mut State, memory: &mut Memory) {
+    let waits = |slot: &usize| state.slots[*slot].missing > Some(0);
+    let waiting: Vec<usize> = (0..state.count).filter(waits).collect();
+    let slot = match waiting.len() {
+        0 => slot,
+        _ => random.one_of(&waiting),
+    };
+    let record = &mut state.slots[slot];
+    let (part, first, segments) = if random.once_in(3) {
+        (record.header, 0, HEADER_SEGMENTS)
+    } else {
+        (record.body, HEADER_SEGMENTS, BODY_SEGMENTS)
+    };
+    let number = match part.end {
+        0 => random.within(0, 5),
+        end => random.within(0, end.min(segments) - 1),
+    };
+    let length = if number + 1 == part.end {
+        part.tail
+    } else {
+        part.size
+    };
+    let mark = &mut memory.marks[slot * MARKS_SHARE + first + number];
+    let missing = record.missing;
+    record.missing = if *mark == 0 {
+        missing.and_then(|bytes| bytes.checked_sub(length))
+    } else {
+        missing.map(|bytes| bytes + length)
+    };
+    *mark ^= 1;
 }
 
 /// Another number than this one, near it or far from it.
