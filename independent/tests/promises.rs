@@ -1,7 +1,8 @@
 //! The collector held to what document 01 says of whole histories: what is stored under a number
 //! is read off the answers alone, and every answer, count and shown byte is worked out from that,
-//! a conflict by trying every object and cut. What the sender says of repeats comes with the answers
-//! that pass it up, as the bytes of the group have it (document 02, Item 6).
+//! a conflict by trying every object and cut, and what is missing of each object as well (document
+//! 02, Item 4). What the sender says of repeats comes with the answers that pass it up, as the
+//! bytes of the group have it (document 02, Item 6).
 
 use independent::answer::Answer;
 use independent::collector::{Collector, Memory};
@@ -47,6 +48,33 @@ impl Stored {
             _ => joined(&self.body)?,
         };
         Some((header, body))
+    }
+
+    /// A part's length where the core tells it, or its last segment.
+    fn length(&self, part: Part) -> Option<usize> {
+        if let Some(first) = self.header.get(&0) {
+            let core = Core::of(&first.bytes)?;
+            return Some(match part {
+                Part::Header => core.header_size,
+                Part::Body => core.body_size,
+            });
+        }
+        let pieces = match part {
+            Part::Header => &self.header,
+            Part::Body => &self.body,
+        };
+        let (&before, last) = pieces.last_key_value()?;
+        // Before the last one all are as long as any that is in.
+        let (_, any) = pieces.first_key_value()?;
+        let told = last.last && (before == 0 || !any.last);
+        told.then(|| usize::from(before) * any.bytes.len() + last.bytes.len())
+    }
+
+    /// The bytes that are still to come, where both lengths are told.
+    fn missing(&self) -> Option<usize> {
+        let pieces = self.header.values().chain(self.body.values());
+        let arrived: usize = pieces.map(|piece| piece.bytes.len()).sum();
+        Some(self.length(Part::Header)? + self.length(Part::Body)? - arrived)
     }
 
     /// Whether an object and a cut send all of this and one more segment.
@@ -144,6 +172,9 @@ fn follow(seed: u64, slots: usize, length: usize) -> usize {
             let shown = |part| collector.show(transport, part).map(<[u8]>::to_vec);
             assert_eq!(shown(Part::Header), header);
             assert_eq!(shown(Part::Body), body);
+            let missing = stored.missing();
+            assert_eq!(collector.missing(transport), Ok(missing));
+            assert_eq!(missing == Some(0), stored.object().is_some());
         }
     }
     use Answer::*;
