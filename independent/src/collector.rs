@@ -180,9 +180,15 @@ impl Held {
         (before >= 1).then(|| (body_size - last.bytes.len()) / before)
     }
 
+    /// Whether a part's last segment stands at the end of its share, as its place isn't known.
+    pub fn is_parked(&self, part: Part) -> bool {
+        let last = self.last(part);
+        last.is_some_and(|piece| piece.number >= 1) && self.known_size(part).is_none()
+    }
+
     /// A part's length where it is known: from the core, or from the part's last segment when that
     /// is number 0 or the segment size is known.
-    fn known_length(&self, part: Part) -> Option<usize> {
+    pub fn known_length(&self, part: Part) -> Option<usize> {
         if let Some(core) = self.core() {
             return Some(match part {
                 Part::Header => core.header_size,
@@ -954,7 +960,7 @@ mod tests {
             // S 30: a body of 100 bytes beside a header of 44.
             (body_group(1, 1, false, &[9; 30]), Some(100 - 40 + 20)),
         ]);
-        // The core says the lengths, while the header's own last segment is still parked.
+        // The core says the lengths, and comes in a full segment: neither last one is parked now.
         let first = [core(44, 100), vec![0; 13]].concat();
         missing_after_each(&[
             (body_group(1, 3, true, &[3; 10]), None),

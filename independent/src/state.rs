@@ -566,7 +566,7 @@ mod tests {
         let (mut sound, mut unsound) = (0, 0);
         // Of these, marks that go with another number of missing bytes, and that number alone.
         let (mut other_segments, mut other_missing) = (0, 0);
-        for _ in 0..40 {
+        for _ in 0..80 {
             let limit = random.one_of(&[1_024, 12_288]);
             let slots = random.within(1, 16);
             let count = random.within(5, 120);
@@ -598,7 +598,7 @@ mod tests {
                 }
             }
         }
-        assert!(sound > 200 && unsound > 400, "{sound} {unsound}");
+        assert!(sound > 400 && unsound > 800, "{sound} {unsound}");
         let seldom = other_segments.min(other_missing) < 20;
         assert!(!seldom, "{other_segments} {other_missing}");
     }

@@ -1,9 +1,9 @@
 //! Histories of calls, and of listing lines, to compare two collectors on. Objects are cut and
-//! sent, several numbers at a time and more of them than there are slots; segments come shuffled
-//! and repeated, with other indices, counts and end user addresses than before or the same ones,
-//! spoilt in every field, or never; the empty segment comes with bodies without bytes and at any
-//! time beside others; numbers are dropped and sent anew; and between them come damaged groups,
-//! questions and malformed lines.
+//! sent, several numbers at a time and more of them than there are slots; segments come shuffled,
+//! the core's now and then after all others, and repeated, with other indices, counts and end user
+//! addresses than before or the same ones, spoilt in every field, or never; the empty segment comes
+//! with bodies without bytes and at any time beside others; numbers are dropped and sent anew; and
+//! between them come damaged groups, questions and malformed lines.
 
 use super::{groups, headers, segments, Random};
 use crate::group::{Fields, Part};
@@ -21,6 +21,7 @@ pub enum Call {
     Drop(u16),
     Show(u16, Part),
     ReadHeader(u16),
+    Missing(u16),
     Find(Vec<u8>),
 }
 
@@ -49,6 +50,9 @@ impl Station {
         };
         if !random.once_in(4) {
             random.shuffle(&mut segments);
+        }
+        if random.coin() {
+            core_last(&mut segments);
         }
         let segments = segments
             .into_iter()
@@ -96,6 +100,14 @@ fn of_both_parts(header: Vec<Piece>, body: Vec<Piece>) -> Vec<(Part, Piece)> {
     header.chain(body).collect()
 }
 
+/// Header segment 0 after all others, where these can tell the lengths before the core does.
+fn core_last(segments: &mut [(Part, Piece)]) {
+    let headers = segments.iter().filter(|(part, _)| *part == Part::Header);
+    if headers.count() >= 3 {
+        segments.sort_by_key(|(part, piece)| *part == Part::Header && piece.number == 0);
+    }
+}
+
 /// A header and a body; in one of eight the core tells something else than the lengths.
 fn object(random: &mut Random, limit: usize) -> (Vec<u8>, Vec<u8>) {
     let body_length = match random.within(0, 11) {
@@ -111,9 +123,10 @@ fn object(random: &mut Random, limit: usize) -> (Vec<u8>, Vec<u8>) {
         let other = headers::any_header(random);
         header.truncate(CORE_LENGTH);
         header.extend(other.get(CORE_LENGTH..).unwrap_or_default());
-    } else if random.once_in(6) {
+    } else if random.once_in(3) {
         // A longer header, by an unknown parameter at its end.
-        let length = random.one_of(&[16, 17, 1_023, 1_024, 1_025, 600]);
+        let any = random.within(48, 200);
+        let length = random.one_of(&[16, 17, any, any, 600, 1_023, 1_024, 1_025]);
         if header.len() + 4 < length {
             let data = (length - header.len() - 3) as u16;
             header.push(0xFF);
@@ -207,7 +220,7 @@ pub fn calls(random: &mut Random, limit: usize, slots: usize, count: usize) -> V
 /// The next call, most likely the next segment that this station sends.
 fn call(random: &mut Random, station: &mut Station, limit: usize) -> Call {
     let transport = station.transport;
-    let segment = match random.within(0, 99) {
+    let segment = match random.within(0, 103) {
         0..=59 => station.next(),
         60..=66 => station.again(random),
         67..=72 => station.again(random).map(|segment| spoilt(random, segment)),
@@ -228,7 +241,9 @@ fn call(random: &mut Random, station: &mut Station, limit: usize) -> Call {
         92..=94 => return Call::Show(transport, Part::Body),
         95..=96 => return Call::ReadHeader(transport),
         97 => return Call::ReadHeader(random.word() as u16),
-        _ => return Call::Find(headers::name(random)),
+        98..=99 => return Call::Find(headers::name(random)),
+        100..=102 => return Call::Missing(transport),
+        _ => return Call::Missing(random.word() as u16),
     };
     match segment {
         Some(segment) => Call::Take(segment.whole()),
@@ -249,7 +264,7 @@ fn line(random: &mut Random, call: Call) -> Vec<u8> {
         }
         Call::Take(group) => hex(b'G', &group),
         Call::Drop(transport) => hex(b'D', &transport.to_be_bytes()),
-        Call::Show(transport, _) | Call::ReadHeader(transport) => {
+        Call::Show(transport, _) | Call::ReadHeader(transport) | Call::Missing(transport) => {
             return malformed(random, hex(b'D', &transport.to_be_bytes()))
         }
         Call::Find(name) => return malformed(random, hex(b'B', &name)),
@@ -305,7 +320,7 @@ pub fn listing(random: &mut Random, lines: usize) -> Vec<u8> {
 mod tests {
     use super::*;
     use crate::answer::Answer;
-    use crate::collector::{Collector, Memory, Stage};
+    use crate::collector::{Collector, Held, Memory, Stage};
     use crate::group::read;
     use std::collections::{HashMap, HashSet};
 
@@ -344,6 +359,7 @@ mod tests {
                         Call::Drop(transport) => Some(collector.drop_number(transport).answer),
                         Call::Show(transport, part) => collector.show(transport, part).err(),
                         Call::ReadHeader(transport) => collector.read_header(transport).err(),
+                        Call::Missing(transport) => collector.missing(transport).err(),
                         Call::Find(name) => collector.find(&name).err(),
                     };
                     seen.extend(answer);
@@ -370,7 +386,7 @@ mod tests {
             for slots in [1, 2, 5, 16] {
                 let memory = Memory::filled(limit, slots, 0);
                 let mut collector = Collector::open(limit, slots, memory).unwrap();
-                for call in calls(&mut random, limit, slots, 6_000) {
+                for call in calls(&mut random, limit, slots, 12_000) {
                     let (group, segment) = match call {
                         Call::Take(group) => match read(&group) {
                             Ok(segment) => (group, segment),
@@ -434,6 +450,62 @@ mod tests {
         assert_eq!(tally.keys().find(never), None);
     }
 
+    /// What is missing is asked of every sort of number: unknown and known in every way, parked
+    /// segments beside it, and not held.
+    #[test]
+    fn missing_bytes_are_asked_for_in_every_way() {
+        let mut tally: HashMap<&str, usize> = HashMap::new();
+        for (seed, limit) in [(23, 1_024), (24, 12_288), (25, 1_048_576)] {
+            let mut random = Random::from_seed(seed);
+            for slots in [1, 2, 5, 16] {
+                let memory = Memory::filled(limit, slots, 0);
+                let mut collector = Collector::open(limit, slots, memory).unwrap();
+                for call in calls(&mut random, limit, slots, 6_000) {
+                    let transport = match call {
+                        Call::Take(group) => {
+                            collector.take(&group);
+                            continue;
+                        }
+                        Call::Drop(transport) => {
+                            collector.drop_number(transport);
+                            continue;
+                        }
+                        Call::Missing(transport) => transport,
+                        _ => continue,
+                    };
+                    let mut held = collector.slots().iter().flatten();
+                    let held = held.find(|held| held.transport == transport);
+                    for name in held.map_or(vec!["not held"], sorts_of_progress) {
+                        *tally.entry(name).or_default() += 1;
+                    }
+                }
+            }
+        }
+        assert_eq!(tally.len(), 8, "{tally:?}");
+        assert!(tally.values().all(|&times| times > 20), "{tally:?}");
+    }
+
+    /// What is known of the missing bytes of a number that is held.
+    fn sorts_of_progress(held: &Held) -> Vec<&'static str> {
+        let [header, body] = [Part::Header, Part::Body].map(|part| held.known_length(part));
+        let parked = [Part::Header, Part::Body].map(|part| held.is_parked(part));
+        let missing = held.missing();
+        let mut sorts = vec![match missing {
+            None => "unknown",
+            Some(0) => "nothing",
+            Some(_) => "some",
+        }];
+        let without_core = missing.is_some() && held.core().is_none();
+        let others = [
+            ("known without the core", without_core),
+            ("the body's length", header.is_none() && body.is_some()),
+            ("the header's length", header.is_some() && body.is_none()),
+            ("a segment parked", parked.contains(&true)),
+        ];
+        sorts.extend(others.iter().filter(|sort| sort.1).map(|sort| sort.0));
+        sorts
+    }
+
     /// Repeats come just as the group that was stored, and with each of the three numbers and the
     /// address other than in it, one alone or several.
     #[test]
@@ -492,6 +564,46 @@ mod tests {
         }
         assert_eq!(tally.len(), 11, "{tally:?}");
         assert!(tally.values().all(|&times| times > 20), "{tally:?}");
+    }
+
+    /// Of an object that is what its core says, what is missing is what was not sent yet, from the
+    /// first group on that makes both lengths known.
+    #[test]
+    fn missing_bytes_of_real_cuts() {
+        let mut random = Random::from_seed(26);
+        let (mut unknown, mut without_core) = (0, 0);
+        for _ in 0..1_000 {
+            let body_length = random.within(0, 3_000);
+            let body = random.bytes(body_length);
+            let header = headers::well_formed(&mut random, body_length);
+            let sizes = [random.within(16, 24), random.within(16, 3_100)];
+            let mut to_send = of_both_parts(cut(&header, sizes[0]), cut(&body, sizes[1]));
+            random.shuffle(&mut to_send);
+            let mut collector = Collector::open(4_096, 1, Memory::filled(4_096, 1, 0)).unwrap();
+            let mut to_come = header.len() + body.len();
+            let mut sent: Vec<(Part, u16, bool)> = Vec::new();
+            for (part, piece) in to_send {
+                to_come -= piece.bytes.len();
+                sent.push((part, piece.number, piece.last));
+                let group = Fields::of_segment(7, part, piece.number, piece.last, &piece.bytes);
+                collector.take(&group.whole());
+                let core = sent
+                    .iter()
+                    .any(|each| (each.0, each.1) == (Part::Header, 0));
+                let tells = |part| {
+                    let of_part = sent.iter().filter(|each| each.0 == part);
+                    let last = of_part.clone().find(|each| each.2);
+                    last.is_some_and(|last| last.1 == 0 || of_part.count() > 1)
+                };
+                let known = core || tells(Part::Header) && tells(Part::Body);
+                assert_eq!(collector.missing(7), Ok(known.then_some(to_come)));
+                unknown += usize::from(!known);
+                without_core += usize::from(known && !core);
+            }
+            assert_eq!(collector.missing(7), Ok(Some(0)));
+        }
+        let rare = unknown.min(without_core) < 100;
+        assert!(!rare, "{unknown} {without_core}");
     }
 
     /// Objects that are what their cores say never conflict, in whatever order they come, and
