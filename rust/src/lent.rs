@@ -2,7 +2,7 @@
 //! and words may be lent: what is no sound state is answered with STATE.
 
 /// Words of a state.
-pub const STATE_WORDS: usize = 162;
+pub const STATE_WORDS: usize = 178;
 /// Counts, in the order taken, repeated, refused, completed, dropped.
 pub const COUNTS: usize = 5;
 /// Words that tell where a finished object is: its slot, its header's length and its body's.
@@ -58,6 +58,19 @@ mod linked {
             body: *const u8,
             body_bytes: usize,
             marks: *mut u8,
+            marks_bytes: usize,
+        ) -> u64;
+        pub fn yovtirak_missing(
+            state: *const u64,
+            state_words: usize,
+            counts: *const u32,
+            counts_words: usize,
+            number: u16,
+            header: *const u8,
+            header_bytes: usize,
+            body: *const u8,
+            body_bytes: usize,
+            marks: *const u8,
             marks_bytes: usize,
         ) -> u64;
         pub fn yovtirak_finished(
@@ -193,6 +206,33 @@ pub fn drop(
             body.as_ptr(),
             body.len(),
             marks.as_mut_ptr(),
+            marks.len(),
+        )
+    }
+}
+
+/// How many bytes of an object are still to come: a word with one more than that times 2^16, 0
+/// while it is not known, or the number of the answer that says why there is none.
+pub fn missing(
+    state: &[u64],
+    counts: &[u32],
+    number: u16,
+    header: &[u8],
+    body: &[u8],
+    marks: &[u8],
+) -> u64 {
+    unsafe {
+        linked::yovtirak_missing(
+            state.as_ptr(),
+            state.len(),
+            counts.as_ptr(),
+            counts.len(),
+            number,
+            header.as_ptr(),
+            header.len(),
+            body.as_ptr(),
+            body.len(),
+            marks.as_ptr(),
             marks.len(),
         )
     }

@@ -40,6 +40,25 @@
 //! assert_eq!(yovtirak::end_user_address(&repeat), Ok(&[0xA1, 0xB2][..]));
 //! assert_eq!(yovtirak::end_user_address(&repeat[1..]), Err(Answer::NoCheck));
 //!
+//! // How much of an object is still to come: the last four of its bytes tell nothing, its header
+//! // says that the body has 20.
+//! let last = [
+//!     0x74, 0x00, 0x80, 0x01, 0x12, 0x00, 0x09, 0x00, 0x04, // data group and segment headers
+//!     0x74, 0x75, 0x76, 0x77, // body segment 1, the last one
+//!     0x75, 0x1D, // the check word
+//! ];
+//! let header = [
+//!     0x73, 0x00, 0x80, 0x00, 0x12, 0x00, 0x09, 0x00, 0x07, // data group and segment headers
+//!     0x00, 0x00, 0x01, 0x40, 0x03, 0x80, 0x00, // the header core
+//!     0x96, 0x59, // the check word
+//! ];
+//! assert_eq!(collector.missing(9), Err(Answer::NotHeld));
+//! assert_eq!(collector.take(&last).answer, Answer::Stored);
+//! assert_eq!(collector.missing(9), Ok(None));
+//! assert_eq!(collector.take(&header).answer, Answer::Stored);
+//! assert_eq!(collector.missing(9), Ok(Some(16)));
+//! assert_eq!(collector.missing(5), Ok(Some(0)));
+//!
 //! assert_eq!(collector.find(b"logo.png"), Err(Answer::NotFound));
 //! assert_eq!(collector.counts().completed, 1);
 //! ```
@@ -147,6 +166,23 @@ impl Collector {
             &mut self.marks,
         ))
         .answer
+    }
+
+    /// How many bytes of an object are still to come, finished or not: those of its header and body
+    /// that have not arrived, or `None` while one of the two lengths is not known.
+    pub fn missing(&self, number: u16) -> Result<Option<u32>, Answer> {
+        let said = lent::missing(
+            &self.state,
+            &self.counts,
+            number,
+            &self.header,
+            &self.body,
+            &self.marks,
+        );
+        match said & 0xFF {
+            0 => Ok((said >> 16).checked_sub(1).map(|bytes| bytes as u32)),
+            refused => Err(Answer::of(refused)),
+        }
     }
 
     /// A finished object's header.
