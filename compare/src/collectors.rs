@@ -221,6 +221,17 @@ pub fn call(
                 Err(answer) => answer,
             }
         }
+        Call::Missing(transport) => {
+            let (ours, theirs) = (lent.missing(*transport), handed.missing(*transport));
+            if ours != theirs {
+                return Err(differ("what is missing", ours, theirs));
+            }
+            match theirs {
+                Ok(Some(_)) => return told(tally, "missing bytes told"),
+                Ok(None) => return told(tally, "missing bytes unknown"),
+                Err(answer) => answer,
+            }
+        }
         Call::Find(name) => {
             let (ours, theirs) = (lent.find(name), handed.find(name));
             if ours != theirs {

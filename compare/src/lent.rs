@@ -8,6 +8,10 @@ use independent::object::Core;
 use independent::state::{PartRecord, StageRecord, State};
 use yovtirak::lent::{self, COUNTS, FIELD_WORDS, PLACE_WORDS, STATE_WORDS};
 
+/// Words of a state before its slots, and of each slot.
+pub const FIRST_SLOT: usize = 2;
+pub const SLOT_WORDS: usize = 11;
+
 /// In the words of a question before it is asked: a refusal must leave it there.
 pub const UNTOLD: u64 = 0x5A5A_5A5A_5A5A_5A5A;
 
@@ -125,6 +129,26 @@ impl Lent {
         ))
     }
 
+    /// What is missing of an object, where that is known; the word must say that and nothing beside.
+    pub fn missing(&self, transport: u16) -> Result<Option<usize>, Answer> {
+        let word = lent::missing(
+            &self.state,
+            &self.counts,
+            transport,
+            &self.memory.header_store,
+            &self.memory.body_store,
+            &self.memory.marks,
+        );
+        let kept = word >> 16;
+        match word & 0xFFFF {
+            0 => Ok(kept.checked_sub(1).map(|bytes| bytes as usize)),
+            refused => {
+                assert_eq!(kept, 0, "a refusal tells what is missing");
+                Err(answer_of(refused))
+            }
+        }
+    }
+
     /// Where a finished object is, told in words of any number.
     pub fn finished(&self, transport: u16, place: &mut [u64]) -> u64 {
         lent::finished(
@@ -226,12 +250,14 @@ pub fn words(state: &State) -> Vec<u64> {
         for part in [slot.header, slot.body] {
             words.extend([part.size, part.end, part.tail].map(|word| word as u64));
         }
+        words.push(slot.missing.map_or(0, |bytes| 1 + bytes as u64));
     }
     words
 }
 
 /// The state that words hold, or nothing where one of them holds none of its kind: a stage that there
-/// is not, or a number of more than 16 bits in a slot that is held.
+/// is not, or a transport number of more than 16 bits or of missing bytes of more than 32 in a slot
+/// that is held.
 pub fn state_of(words: &[u64]) -> Option<State> {
     if words.len() != STATE_WORDS {
         return None;
@@ -244,7 +270,7 @@ pub fn state_of(words: &[u64]) -> Option<State> {
     };
     let count = state.count;
     for (number, slot) in state.slots.iter_mut().enumerate().take(count) {
-        let first = 2 + 10 * number;
+        let first = FIRST_SLOT + SLOT_WORDS * number;
         slot.stage = match word(first + 1) {
             0 => continue,
             1 => StageRecord::Gathering,
@@ -261,6 +287,10 @@ pub fn state_of(words: &[u64]) -> Option<State> {
             tail: word(first + 2),
         };
         (slot.header, slot.body) = (part(first + 4), part(first + 7));
+        slot.missing = match words[first + 10].checked_sub(1) {
+            None => None,
+            Some(bytes) => Some(u32::try_from(bytes).ok()? as usize),
+        };
     }
     Some(state)
 }

@@ -1,11 +1,11 @@
 //! Damaged states: the proved collector's STATE against the independent verdict, to groups, drops and
 //! questions alike. Each state comes of a history of calls and has one thing changed: a field of a
-//! record, a mark, a store byte, a length, a count, or a word that holds none of these. Where both find
-//! it sound they go on with the same calls from it, as if its marked segments had been stored; where it
-//! is damaged nothing may change.
+//! record, a mark alone or with the missing bytes that go with it, a store byte, a length, a count, or
+//! a word that holds none of these. Where both find it sound they go on with the same calls from it, as
+//! if its marked segments had been stored; where it is damaged nothing may change.
 
 use crate::collectors::{call, same, Tally};
-use crate::lent::{state_of, words, Lent, UNTOLD};
+use crate::lent::{state_of, words, Lent, FIRST_SLOT, SLOT_WORDS, UNTOLD};
 use independent::answer::{Answer, Reply};
 use independent::collector::{Collector, Counts, Memory, MOST_COUNTED};
 use independent::group::{Fields, Part};
@@ -31,6 +31,33 @@ struct Seen {
     /// Of the sound and of the damaged, those whose records have the empty segment in.
     sound_with_empty: usize,
     damaged_with_empty: usize,
+    /// Of the sound, those with other marks and another number of missing bytes, which these give; of
+    /// the damaged, those with nothing other than that number.
+    sound_with_missing: usize,
+    damaged_missing: usize,
+    other_missing: usize,
+}
+
+impl Seen {
+    /// What came up seldom.
+    fn rare(&self) -> Option<String> {
+        let least = [
+            ("sound", self.sound, 5_000),
+            ("damaged", self.damaged, 10_000),
+            ("sound, with the empty one", self.sound_with_empty, 500),
+            ("damaged, with the empty one", self.damaged_with_empty, 500),
+            ("sound, other bytes missing", self.sound_with_missing, 200),
+            ("damaged, other bytes missing", self.damaged_missing, 500),
+        ];
+        let mut rare = least.into_iter().filter(|(_, times, least)| times < least);
+        rare.next()
+            .map(|(what, times, _)| format!("only {times} {what}"))
+    }
+}
+
+/// The numbers of missing bytes that are kept.
+fn kept(state: &State) -> Vec<Option<usize>> {
+    state.slots.iter().map(|slot| slot.missing).collect()
 }
 
 /// The records have the empty segment of a body in: the last one, number 0, of length 0.
@@ -86,8 +113,9 @@ fn refused(lent: &mut Lent) -> Result<(), String> {
         lent.show(5, Part::Body).err(),
         lent.read(5).err(),
         lent.find(b"a").err(),
+        lent.missing(5).err(),
     ];
-    if asked != [Some(Answer::State); 4] {
+    if asked != [Some(Answer::State); 5] {
         return Err(format!("{asked:?}, not STATE, to questions"));
     }
     if before.0 != lent.state || before.1 != lent.counts || before.2 != lent.memory {
@@ -107,6 +135,8 @@ fn one_damage(
     let mut memory = collector.memory.clone();
     let mut counts = collector.counts;
     damage::one_thing(random, &mut state, &mut memory, &mut counts);
+    let kept_other = kept(&state) != kept(&State::of(collector));
+    let marked = memory.marks != collector.memory.marks;
     let mut lent = lent_of(&state, &memory, &counts);
     let mut handed = Handed::of(Some(&state), &memory, &counts.in_order());
     for question in questions(random, collector) {
@@ -120,6 +150,7 @@ fn one_damage(
         None => {
             seen.damaged += 1;
             seen.damaged_with_empty += usize::from(has_empty(&state));
+            seen.damaged_missing += usize::from(kept_other && !marked);
             if lent.state != words(&state) || lent.counts != counts.in_order() {
                 return Err("STATE changed a word or a count".to_string());
             }
@@ -131,6 +162,7 @@ fn one_damage(
         Some(resumed) => {
             seen.sound += 1;
             seen.sound_with_empty += usize::from(has_empty(&state));
+            seen.sound_with_missing += usize::from(kept_other && marked);
             same_after(&lent, resumed, &state)
         }
     }
@@ -148,6 +180,7 @@ fn questions(random: &mut Random, collector: &Collector) -> Vec<Call> {
         Call::Show(transport, Part::Header),
         Call::Show(transport, Part::Body),
         Call::ReadHeader(transport),
+        Call::Missing(transport),
         Call::Find(headers::name(random)),
     ]
 }
@@ -176,24 +209,32 @@ fn one_word(random: &mut Random, collector: &Collector, seen: &mut Seen) -> Resu
     let mut lent = lent_of(&state, &collector.memory, &collector.counts);
     let slot = random.within(0, 15);
     let held = slot < state.count && state.slots[slot].stage != StageRecord::Free;
-    let damaged = match random.within(0, 5) {
+    let first = FIRST_SLOT + SLOT_WORDS * slot;
+    let damaged = match random.within(0, 6) {
         0 => {
-            lent.state[2 + 10 * slot] += 65_536 << random.within(0, 40);
+            lent.state[first] += 65_536 << random.within(0, 40);
             held
         }
         1 => {
-            lent.state[2 + 10 * slot + 1] = 3 + u64::from(random.word());
+            lent.state[first + 1] = 3 + u64::from(random.word());
             slot < state.count
         }
         2 => {
+            // One more missing byte than 32 bits hold, or many, or the right number with a bit above it.
+            let missing = &mut lent.state[first + SLOT_WORDS - 1];
+            let many = u64::from(random.word()) << random.within(0, 30);
+            *missing = (1 << 32) + random.one_of(&[1, 1 + many, 1.max(*missing)]);
+            held
+        }
+        3 => {
             lent.state.push(0);
             true
         }
-        3 => {
+        4 => {
             lent.state.pop();
             true
         }
-        4 => {
+        5 => {
             lent.counts.push(0);
             true
         }
@@ -210,7 +251,8 @@ fn one_word(random: &mut Random, collector: &Collector, seen: &mut Seen) -> Resu
         let transport = held.transport;
         let shown = [Part::Header, Part::Body].map(|part| collector.show(transport, part));
         let alike = [Part::Header, Part::Body].map(|part| lent.show(transport, part)) == shown
-            && lent.read(transport) == collector.read_header(transport);
+            && lent.read(transport) == collector.read_header(transport)
+            && lent.missing(transport) == collector.missing(transport);
         if !alike {
             return Err(format!("{transport:04x} by a word that plays no part"));
         }
@@ -270,6 +312,24 @@ fn two_cards() -> Collector {
     collector
 }
 
+/// A collector of two objects without a core: 5 with both lengths known by last segments, 9 with both last segments
+/// parked.
+fn two_without_core() -> Collector {
+    let limit = 1_024;
+    let memory = Memory::filled(limit, 2, 0);
+    let mut collector = Collector::open(limit, 2, memory).expect("the limits are in bounds");
+    for (transport, part, number, last, bytes) in [
+        (5, Part::Header, 1, false, &[1; 20][..]),
+        (5, Part::Header, 2, true, &[2; 4]),
+        (5, Part::Body, 0, true, &[3; 10]),
+        (9, Part::Header, 1, true, &[4; 9]),
+        (9, Part::Body, 3, true, &[5; 10]),
+    ] {
+        collector.take(&Fields::of_segment(transport, part, number, last, bytes).whole());
+    }
+    collector
+}
+
 /// The independent verdict on words, and the proved one, to questions and to a group.
 fn verdict(lent: &mut Lent, seen: &mut Seen) -> Result<(), String> {
     let state = state_of(&lent.state);
@@ -282,6 +342,10 @@ fn verdict(lent: &mut Lent, seen: &mut Seen) -> Result<(), String> {
         }
         if lent.read(transport) != handed.read_header(transport) {
             return Err(format!("what the header of {transport} says differs"));
+        }
+        let (ours, theirs) = (lent.missing(transport), handed.missing(transport));
+        if ours != theirs {
+            return Err(format!("missing of {transport}: {ours:?}, not {theirs:?}"));
         }
     }
     let (ours, theirs) = (lent.find(b"a"), handed.find(b"a"));
@@ -358,32 +422,22 @@ fn told_elsewhere() -> Result<usize, String> {
     Ok(2 * lengths.len())
 }
 
-/// Every word, count, mark and byte of a state in turn, each made several others.
-fn everything(collector: &Collector, seen: &mut Seen) -> Result<(), String> {
-    let state = State::of(collector);
-    let fresh = || lent_of(&state, &collector.memory, &collector.counts);
-    let mut lent = fresh();
+/// Every word, count and mark of a state in turn, each made several others.
+fn every_number(collector: &Collector, seen: &mut Seen) -> Result<(), String> {
+    let mut lent = lent_of(&State::of(collector), &collector.memory, &collector.counts);
+    let counts = lent.counts.clone();
     for word in 0..lent.state.len() {
         let was = lent.state[word];
-        for other in [
-            0,
-            1,
-            2,
-            3,
-            4,
-            5,
-            7,
-            16,
-            20,
-            1_024,
-            65_541,
-            was + 1,
-            was.wrapping_sub(1),
-            u64::MAX,
-        ] {
+        let beside = [was + 1, was.wrapping_sub(1), was + (1 << 32)];
+        let odd = [65_541, 1 << 32, (1 << 32) + 1, u64::MAX];
+        for other in [0, 1, 2, 3, 4, 5, 7, 16, 20, 1_024]
+            .into_iter()
+            .chain(beside)
+            .chain(odd)
+        {
             lent.state[word] = other;
             verdict(&mut lent, seen).map_err(|said| format!("word {word} as {other}: {said}"))?;
-            lent.counts = fresh().counts;
+            lent.counts.clone_from(&counts);
         }
         lent.state[word] = was;
     }
@@ -391,7 +445,7 @@ fn everything(collector: &Collector, seen: &mut Seen) -> Result<(), String> {
         for other in [0, MOST_COUNTED, MOST_COUNTED + 1, u32::MAX] {
             lent.counts[count] = other;
             verdict(&mut lent, seen).map_err(|said| format!("count {count} as {other}: {said}"))?;
-            lent.counts = fresh().counts;
+            lent.counts.clone_from(&counts);
         }
     }
     for mark in 0..lent.memory.marks.len() {
@@ -399,33 +453,72 @@ fn everything(collector: &Collector, seen: &mut Seen) -> Result<(), String> {
         for other in [0, 1, 2, 255] {
             lent.memory.marks[mark] = other;
             verdict(&mut lent, seen).map_err(|said| format!("mark {mark} as {other}: {said}"))?;
-            lent.counts = fresh().counts;
+            lent.counts.clone_from(&counts);
         }
         lent.memory.marks[mark] = was;
     }
+    Ok(())
+}
+
+/// Every bit of a header store in turn, and every byte of a body store.
+fn every_byte(collector: &Collector, seen: &mut Seen) -> Result<(), String> {
+    let mut lent = lent_of(&State::of(collector), &collector.memory, &collector.counts);
+    let counts = lent.counts.clone();
     for byte in 0..lent.memory.header_store.len() {
         let was = lent.memory.header_store[byte];
         for bit in 0..8 {
             lent.memory.header_store[byte] = was ^ 1 << bit;
             verdict(&mut lent, seen)
                 .map_err(|said| format!("header byte {byte}, bit {bit}: {said}"))?;
-            lent.counts = fresh().counts;
+            lent.counts.clone_from(&counts);
         }
         lent.memory.header_store[byte] = was;
     }
     for byte in 0..lent.memory.body_store.len() {
         lent.memory.body_store[byte] ^= 0xFF;
         verdict(&mut lent, seen).map_err(|said| format!("body byte {byte}: {said}"))?;
-        lent.counts = fresh().counts;
+        lent.counts.clone_from(&counts);
         lent.memory.body_store[byte] ^= 0xFF;
+    }
+    Ok(())
+}
+
+/// Other numbers of missing bytes than the right one, unknown and too many among them: STATE to every call.
+fn other_missing(collector: &Collector, seen: &mut Seen) -> Result<(), String> {
+    let mut lent = lent_of(&State::of(collector), &collector.memory, &collector.counts);
+    for slot in 0..collector.slots().len() {
+        let place = FIRST_SLOT + SLOT_WORDS * slot + SLOT_WORDS - 1;
+        let right = lent.state[place];
+        let large = [1 << 32, (1 << 32) + 1, (1 << 32) + right, u64::MAX];
+        for other in (0..200).chain(large).filter(|&other| other != right) {
+            lent.state[place] = other;
+            refused(&mut lent)
+                .map_err(|said| format!("{other} for {right} in slot {slot}: {said}"))?;
+            seen.other_missing += 1;
+        }
+        lent.state[place] = right;
+    }
+    Ok(())
+}
+
+/// Everything of a few states, each in turn. Where no core is in no byte is looked at.
+fn everything(seen: &mut Seen) -> Result<(), String> {
+    let with_core = [("objects", two_slots()), ("cards", two_cards())];
+    for (what, collector) in &with_core {
+        every_byte(collector, seen).map_err(|said| format!("{what}: {said}"))?;
+    }
+    let without = ("objects without a core", two_without_core());
+    for (what, collector) in with_core.iter().chain([&without]) {
+        every_number(collector, seen)
+            .and_then(|()| other_missing(collector, seen))
+            .map_err(|said| format!("{what}: {said}"))?;
     }
     Ok(())
 }
 
 pub fn run() -> Result<String, String> {
     let mut seen = Seen::default();
-    everything(&two_slots(), &mut seen)?;
-    everything(&two_cards(), &mut seen).map_err(|said| format!("cards: {said}"))?;
+    everything(&mut seen)?;
     let lengths = header_lengths(&mut seen)?;
     let told = told_elsewhere()?;
     let mut tally = Tally::new();
@@ -441,6 +534,9 @@ pub fn run() -> Result<String, String> {
                 .map_err(|said| format!("history {number}, a word: {said}"))?;
         }
     }
+    if let Some(said) = seen.rare() {
+        return Err(said);
+    }
     let Seen {
         sound,
         damaged,
@@ -449,18 +545,17 @@ pub fn run() -> Result<String, String> {
         each,
         sound_with_empty,
         damaged_with_empty,
+        sound_with_missing,
+        damaged_missing,
+        other_missing,
     } = seen;
-    if sound < 5_000 || damaged < 10_000 || sound_with_empty.min(damaged_with_empty) < 500 {
-        return Err(format!(
-            "only {sound} sound and {damaged} damaged, with the empty segment {sound_with_empty} and \
-             {damaged_with_empty}"
-        ));
-    }
     Ok(format!(
         "{} states with one thing changed, {damaged} damaged and {sound} sound, of these {damaged_with_empty} and \
-         {sound_with_empty} with the empty segment in, {asked} questions asked of them, {words} with a word that holds \
-         nothing of its kind, every word, count, mark and byte of two in turn and {lengths} lengths of a finished \
-         header, {each} states, and {told} lengths of what is told; answers {tally:?}",
+         {sound_with_empty} with the empty segment in, {damaged_missing} with nothing but another number of missing \
+         bytes and {sound_with_missing} with the number that other marks give, {asked} questions asked of them, \
+         {words} with a word that holds nothing of its kind, every word, count and mark of three in turn, every byte \
+         of two and {lengths} lengths of a finished header, {each} states, {other_missing} numbers of missing bytes in \
+         place of the right ones, and {told} lengths of what is told; answers {tally:?}",
         sound + damaged
     ))
 }
