@@ -1,9 +1,11 @@
 //! The proved collector, as a head links it, against the independent one: random histories of calls,
-//! and after every call the answer with all that it returns, the counts, the marks, the records and
-//! what is shown compared; the stores whole at the end of each history, and after every call where
-//! they are small. A part of the histories begins with counts next to the most that is counted.
+//! and after every call the answer with all that it returns, the counts, the marks, the records, what
+//! is missing and what is shown compared; the stores whole at the end of each history, and after every
+//! call where they are small. A part of the histories begins with counts next to the most that is
+//! counted.
 
 use crate::lent::Lent;
+use crate::progress::Progress;
 use independent::answer::Answer;
 use independent::collector::{Collector, Counts, Memory, Stage, MOST_COUNTED};
 use independent::group::{self, Part, Segment};
@@ -278,7 +280,15 @@ fn collector_of(handed: &Handed) -> &Collector {
         .expect("a state that calls lead to is sound")
 }
 
-fn history(random: &mut Random, tally: &mut Tally, repeats: &mut Repeats) -> Result<(), String> {
+/// What came up in the histories.
+#[derive(Default)]
+struct Seen {
+    tally: Tally,
+    repeats: Repeats,
+    progress: Progress,
+}
+
+fn history(random: &mut Random, seen: &mut Seen) -> Result<(), String> {
     let limit = random.one_of(&LIMITS);
     let slots = random.within(1, 16);
     let before = random.byte();
@@ -292,12 +302,14 @@ fn history(random: &mut Random, tally: &mut Tally, repeats: &mut Repeats) -> Res
         lent.counts = collector.counts.in_order().to_vec();
     }
     let mut handed = Handed::from(collector);
-    repeats.stored.clear();
+    seen.repeats.stored.clear();
+    seen.progress.open();
     let small = slots * (limit + 1_024) <= SMALL;
     for (number, each) in calls(random, limit, slots, CALLS).iter().enumerate() {
-        call(&mut lent, &mut handed, each, tally)
+        call(&mut lent, &mut handed, each, &mut seen.tally)
             .and_then(|answer| {
-                repeats.follow(each, answer);
+                seen.repeats.follow(each, answer);
+                seen.progress.follow(&mut lent, collector_of(&handed))?;
                 same(&lent, collector_of(&handed), small)
             })
             .map_err(|said| format!("limit {limit}, {slots} slots, call {number}: {said}"))?;
@@ -342,13 +354,17 @@ fn openings() -> Result<usize, String> {
 
 /// All histories, or the first few: under a checker of memory each takes long.
 pub fn run(few: Option<u64>) -> Result<String, String> {
-    let (mut tally, mut repeats) = (Tally::new(), Repeats::default());
+    let mut seen = Seen::default();
     let histories = few.unwrap_or(HISTORIES);
     for number in 0..histories {
         let random = &mut Random::from_seed(SEED + number);
-        history(random, &mut tally, &mut repeats)
-            .map_err(|said| format!("history {number}: {said}"))?;
+        history(random, &mut seen).map_err(|said| format!("history {number}: {said}"))?;
     }
+    let Seen {
+        tally,
+        repeats,
+        progress,
+    } = seen;
     let missing: Vec<_> = Answer::ALL
         .into_iter()
         .filter(|answer| !OTHERS.contains(answer) && !tally.contains_key(answer.name()))
@@ -364,10 +380,14 @@ pub fn run(few: Option<u64>) -> Result<String, String> {
     if few.is_none() && repeats.rare() {
         return Err(format!("repeats differ seldom: {differences:?}"));
     }
+    let told = progress.told();
+    if let (None, Some(sort)) = (few, progress.rare()) {
+        return Err(format!("{sort} is rare of missing bytes: {told}"));
+    }
     let calls: usize = tally.values().sum();
     let refused = openings()?;
     Ok(format!(
         "{histories} histories, {calls} answers compared {tally:?}; repeats differ from what was stored in \
-         {differences:?}; 2000 openings, {refused} of them LIMITS"
+         {differences:?}; missing bytes asked for {told}; 2000 openings, {refused} of them LIMITS"
     ))
 }

@@ -9,6 +9,7 @@ mod heads;
 mod lent;
 mod listings;
 mod names;
+mod progress;
 mod proved;
 mod readings;
 mod states;
