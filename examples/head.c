@@ -1,7 +1,7 @@
 /* A receiving head that keeps a record of what was aired: it reads groups from standard input,
  * collects them, and writes each object to a folder when it is complete, once for each airing.
  *
- *     head FOLDER [REPORT] < GROUPS
+ *     head [--progress] FOLDER [REPORT] < GROUPS
  *
  * A group comes as its length, two bytes, the higher first, and its bytes.
  *
@@ -42,8 +42,13 @@
  * group of its type with new content, whether some between were missed; the repetition count, how
  * often the object is still to come, 7 for more than six or no end; and the address, for whom.
  *
- * Input that ends inside a group, or can't be read, and an object or a report that can't be written
- * end the head with a message and status 1. */
+ * With --progress a line goes to standard error for each group that is stored, as it is stored: the
+ * transport number in four hexadecimal digits, `missing`, and how many bytes of the object's header
+ * and body have not arrived, or `unknown` while one of their lengths is not known. So a screen can
+ * show how much is still to come; `0005 missing 0` is object 5 complete.
+ *
+ * Input that ends inside a group, or can't be read, and an object, a report or a line of progress
+ * that can't be written end the head with a message and status 1. */
 #define _POSIX_C_SOURCE 200809L
 
 #include "yovtirak.h"
@@ -102,6 +107,9 @@ static const char *folder;
 
 /* NULL where none is asked for. */
 static FILE *report;
+
+/* Whether lines of progress are asked for. */
+static int with_progress;
 
 /* Why the head ends before its input does, if it does. */
 static const char *problem;
@@ -338,6 +346,20 @@ static int report_group(const struct yovtirak_reply *reply) {
     return !ferror(report);
 }
 
+/* ---- the progress */
+
+/* Tells how much is still to come of an object of which a segment was stored. */
+static int tell_progress(uint16_t number) {
+    struct yovtirak_progress progress;
+    if (yovtirak_tell_missing(&lent, number, &progress) != YOVTIRAK_TOLD)
+        return 0;
+    if (progress.known)
+        fprintf(stderr, "%04x missing %lu\n", (unsigned)number, (unsigned long)progress.bytes);
+    else
+        fprintf(stderr, "%04x missing unknown\n", (unsigned)number);
+    return !ferror(stderr);
+}
+
 /* ---- the head */
 
 /* The group that was read was stored or repeated. */
@@ -345,6 +367,8 @@ static void note(const struct yovtirak_reply *reply) {
     hear(reply);
     if (report && !report_group(reply))
         problem = "the report can't be written";
+    if (with_progress && reply->answer != YOVTIRAK_REPEAT && !tell_progress(reply->number))
+        problem = "the progress can't be written";
 }
 
 /* Does all there is to do with the group that was read. */
@@ -397,8 +421,11 @@ static void end(void) {
 }
 
 int main(int count, char **words) {
+    with_progress = count > 1 && strcmp(words[1], "--progress") == 0;
+    count -= with_progress;
+    words += with_progress;
     if (count != 2 && count != 3) {
-        fprintf(stderr, "usage: head FOLDER [REPORT] < GROUPS\n");
+        fprintf(stderr, "usage: head [--progress] FOLDER [REPORT] < GROUPS\n");
         return 2;
     }
     folder = words[1];
