@@ -1,7 +1,7 @@
 //! The example of a head, built in C: streams of groups whose airings are plain from how they were
 //! sent, random ones whose airings follow from the policy over the independent collector, and input
-//! that ends too soon. The files that the head writes, its report, the line that it ends with and its
-//! status are compared.
+//! that ends too soon. The files that the head writes, its report, its lines of progress, the line that
+//! it ends with and its status are compared.
 
 mod record;
 mod streams;
@@ -18,10 +18,22 @@ const SEED: u64 = 65_536;
 /// So many streams of each sort.
 const EACH: u64 = 12;
 const CUT: u64 = 12;
-/// Of so many streams of a sort the last is without a report.
+/// Of so many streams of a sort the last is without a report, and of so many the last without progress.
 const REPORTED: u64 = 5;
+const FOLLOWED: u64 = 3;
 const HISTORIES: u64 = 40;
 const CALLS: usize = 250;
+
+/// Lines of progress that must be compared in all streams, and of these with nothing known.
+const PROGRESS_LEAST: usize = 20_000;
+const UNKNOWN_LEAST: usize = 5_000;
+
+/// What a head is asked for beside its record.
+#[derive(Clone, Copy)]
+struct Asked {
+    report: bool,
+    progress: bool,
+}
 
 /// A head, and a folder and a report of its own.
 struct Head {
@@ -65,14 +77,20 @@ impl Head {
         command
     }
 
-    /// Runs a head on its own folder, with a report or without.
-    fn run(&self, input: &[u8], reported: bool) -> Result<Output, String> {
-        let words: [&Path; 2] = [&self.folder, &self.report];
-        self.run_on(&words[..1 + usize::from(reported)], input)
+    /// Runs a head on its own folder, with a report and progress or without.
+    fn run(&self, input: &[u8], asked: Asked) -> Result<Output, String> {
+        let words: [&Path; 3] = [Path::new("--progress"), &self.folder, &self.report];
+        let first = usize::from(!asked.progress);
+        let end = 2 + usize::from(asked.report);
+        self.run_on(&words[first..end], input)
     }
 
     fn run_on(&self, words: &[&Path], input: &[u8]) -> Result<Output, String> {
-        let mut command = self.command(words);
+        self.feed(self.command(words), input)
+    }
+
+    /// Runs a head on this input.
+    fn feed(&self, mut command: Command, input: &[u8]) -> Result<Output, String> {
         let mut child = command.stdin(Stdio::piped()).spawn().map_err(said)?;
         let mut stdin = child.stdin.take().expect("standard input is piped");
         match stdin.write_all(input) {
@@ -127,19 +145,34 @@ impl Head {
     }
 }
 
-/// What a head is to say at the end: its line, and why it ended too soon.
-fn ended(output: &Output, tally: &Tally, problem: Option<&str>) -> Result<(), String> {
+/// The place of the first lines that differ, and these; nothing stands for a text that has ended.
+fn first_difference(ours: &str, theirs: &str) -> String {
+    let [ours, theirs] = [ours, theirs].map(|text| text.lines().map(Some).chain([None]));
+    let mut pairs = ours.zip(theirs).enumerate();
+    let differing = pairs.find(|(_, (ours, theirs))| ours != theirs);
+    format!("{differing:?}")
+}
+
+/// What a head is to say: how far it came, at the end its line, and why it ended too soon.
+fn ended(
+    output: &Output,
+    tally: &Tally,
+    progress: &str,
+    problem: Option<&str>,
+) -> Result<(), String> {
     let line = String::from_utf8_lossy(&output.stdout);
     if line != tally.line() {
         return Err(format!("{line:?}, not {:?}", tally.line()));
     }
-    let message = String::from_utf8_lossy(&output.stderr);
-    let expected = problem.map_or(String::new(), |problem| format!("head: {problem}\n"));
-    if message != expected {
-        return Err(format!("{message:?}, not {expected:?}"));
+    let said = String::from_utf8_lossy(&output.stderr);
+    let problem = problem.map_or(String::new(), |problem| format!("head: {problem}\n"));
+    let expected = [progress, &problem].concat();
+    if said != expected {
+        let difference = first_difference(&said, &expected);
+        return Err(format!("standard error differs: {difference}"));
     }
     let status = output.status.code();
-    if status != Some(i32::from(problem.is_some())) {
+    if status != Some(i32::from(!problem.is_empty())) {
         return Err(format!("status {status:?}"));
     }
     Ok(())
@@ -163,6 +196,8 @@ struct Seen {
     again: usize,
     lost: usize,
     lines: usize,
+    progress: usize,
+    unknown: usize,
 }
 
 impl Seen {
@@ -175,18 +210,35 @@ impl Seen {
             again: 0,
             lost: 0,
             lines: 0,
+            progress: 0,
+            unknown: 0,
         }
     }
 
-    /// Whether the next stream is run with a report.
-    fn reported(&self) -> bool {
-        self.streams % REPORTED != REPORTED - 1
+    /// What the next stream is run with.
+    fn asked(&self) -> Asked {
+        Asked {
+            report: self.streams % REPORTED != REPORTED - 1,
+            progress: self.streams % FOLLOWED != FOLLOWED - 1,
+        }
     }
 
-    fn count(&mut self, groups: usize, tally: &Tally) {
-        if self.reported() {
+    /// The lines of progress of a record, if they are asked for with the next stream.
+    fn progress_of<'record>(&self, record: &'record Record) -> &'record str {
+        match self.asked().progress {
+            true => &record.progress,
+            false => "",
+        }
+    }
+
+    fn count(&mut self, groups: usize, record: &Record) {
+        let tally = &record.tally;
+        if self.asked().report {
             self.lines += tally.taken + tally.repeated;
         }
+        let progress = self.progress_of(record).lines();
+        self.progress += progress.clone().count();
+        self.unknown += progress.filter(|line| line.ends_with("unknown")).count();
         self.streams += 1;
         self.groups += groups;
         self.airings += tally.written;
@@ -203,10 +255,12 @@ impl Seen {
             again,
             lost,
             lines,
+            progress,
+            unknown,
         } = self;
         format!(
             "{streams} {sort} ({groups} groups, {airings} airings, {again} complete again, {lost} lost, {lines} lines \
-             reported)"
+             reported, {progress} of progress with {unknown} unknown)"
         )
     }
 }
@@ -226,11 +280,11 @@ fn whole(
         return Err("the policy makes something else of what was sent".to_string());
     }
     head.clear()?;
-    let output = head.run(&encoded(groups), seen.reported())?;
-    ended(&output, &record.tally, None)?;
+    let output = head.run(&encoded(groups), seen.asked())?;
+    ended(&output, &record.tally, seen.progress_of(&record), None)?;
     head.has(&expected)?;
-    head.has_report(&record.report, seen.reported())?;
-    seen.count(groups.len(), &record.tally);
+    head.has_report(&record.report, seen.asked().report)?;
+    seen.count(groups.len(), &record);
     Ok(())
 }
 
@@ -263,11 +317,11 @@ fn cut(head: &Head, random: &mut Random, seen: &mut [Seen; 3]) -> Result<(), Str
     let record = Record::of(before);
     let seen = &mut seen[place];
     head.clear()?;
-    let output = head.run(&input, seen.reported())?;
-    ended(&output, &record.tally, problem)?;
+    let output = head.run(&input, seen.asked())?;
+    ended(&output, &record.tally, seen.progress_of(&record), problem)?;
     head.has(&files(&aired))?;
-    head.has_report(&record.report, seen.reported())?;
-    seen.count(left, &record.tally);
+    head.has_report(&record.report, seen.asked().report)?;
+    seen.count(left, &record);
     Ok(())
 }
 
@@ -281,14 +335,14 @@ fn restarted(head: &Head, random: &mut Random, seen: &mut Seen) -> Result<(), St
     let mut lines = String::new();
     for part in [&parts[..stop], &parts[stop..]] {
         let groups = part.concat();
-        let output = head.run(&encoded(&groups), seen.reported())?;
+        let output = head.run(&encoded(&groups), seen.asked())?;
         let record = Record::after(recorded, &groups);
-        ended(&output, &record.tally, None)?;
-        if seen.reported() {
+        ended(&output, &record.tally, seen.progress_of(&record), None)?;
+        if seen.asked().report {
             lines += &record.report;
         }
         head.has_report(&lines, !lines.is_empty())?;
-        seen.count(groups.len(), &record.tally);
+        seen.count(groups.len(), &record);
         recorded = record.aired;
     }
     if files(&recorded) != files(&aired) {
@@ -311,23 +365,22 @@ fn spoilt(head: &Head, random: &mut Random, seen: &mut Seen) -> Result<(), Strin
     };
     head.clear()?;
     let input = encoded(&stream.groups);
-    let Record { tally, report, .. } = Record::of(&stream.groups);
-    ended(&head.run(&input, seen.reported())?, &tally, None)?;
+    let mut record = Record::of(&stream.groups);
+    let output = head.run(&input, seen.asked())?;
+    ended(&output, &record.tally, seen.progress_of(&record), None)?;
     let twice = files(&[(*again).clone(), (*again).clone()]);
     // The first of its four files, by their names: the body of the first airing.
     let short = twice.keys().next().cloned().expect("an airing has files");
     let bytes = &again.body[..random.within(0, again.body.len() - 1)];
     fs::write(head.folder.join(&short), bytes).map_err(said)?;
-    let tally = Tally {
-        written: 1,
-        ..tally
-    };
-    ended(&head.run(&input, seen.reported())?, &tally, None)?;
+    record.tally.written = 1;
+    let output = head.run(&input, seen.asked())?;
+    ended(&output, &record.tally, seen.progress_of(&record), None)?;
     expected.extend(twice);
     expected.insert(short, bytes.to_vec());
     head.has(&expected)?;
-    head.has_report(&report.repeat(2), seen.reported())?;
-    seen.count(stream.groups.len(), &tally);
+    head.has_report(&record.report.repeat(2), seen.asked().report)?;
+    seen.count(stream.groups.len(), &record);
     Ok(())
 }
 
@@ -344,11 +397,17 @@ fn any_groups(random: &mut Random) -> Vec<Vec<u8>> {
 /// Words that are too few or too many.
 fn misused(head: &Head) -> Result<usize, String> {
     let word: &Path = &head.folder;
-    let wrong = [&[][..], &[word; 3]];
+    let progress = Path::new("--progress");
+    let wrong = [
+        &[][..],
+        &[word; 3],
+        &[progress],
+        &[progress, word, word, word],
+    ];
     for words in wrong {
         let output = head.run_on(words, &[])?;
         let message = String::from_utf8_lossy(&output.stderr);
-        let expected = "usage: head FOLDER [REPORT] < GROUPS\n";
+        let expected = "usage: head [--progress] FOLDER [REPORT] < GROUPS\n";
         if message != expected || output.status.code() != Some(2) || !output.stdout.is_empty() {
             return Err(format!("{} words: {output:?}", words.len()));
         }
@@ -365,18 +424,50 @@ fn no_report(head: &Head) -> Result<usize, String> {
     ended(
         &output,
         &Tally::default(),
+        "",
         Some("the report can't be opened"),
     )?;
     head.has(&Files::new())?;
 
-    // It ends with the first group that it would report.
-    let mut records = (1..).map(|count| Record::of(&stream.groups[..count]));
-    let record = records.find(|record| !record.report.is_empty());
-    let record = record.expect("some group is stored");
-    let output = head.run_on(&[&head.folder, Path::new("/dev/full")], &input)?;
-    ended(&output, &record.tally, Some("the report can't be written"))?;
+    // It ends with the first group that it would report, of which it still tells the progress.
+    let record = first_stored(&stream);
+    let full = Path::new("/dev/full");
+    let output = head.run_on(&[Path::new("--progress"), &head.folder, full], &input)?;
+    ended(
+        &output,
+        &record.tally,
+        &record.progress,
+        Some("the report can't be written"),
+    )?;
     head.has(&files(&record.aired))?;
     Ok(2)
+}
+
+/// What a head that ends with the first group that is stored has recorded.
+fn first_stored(stream: &streams::Stream) -> Record {
+    let mut records = (1..).map(|count| Record::of(&stream.groups[..count]));
+    let record = records.find(|record| !record.report.is_empty());
+    record.expect("some group is stored")
+}
+
+/// Progress that can't be written, as the device is full: nor can the message, and the status says it.
+fn no_progress(head: &Head) -> Result<usize, String> {
+    let (stream, _) = streams::fresh(&mut Random::from_seed(SEED));
+    head.clear()?;
+    let mut command = head.command(&[Path::new("--progress"), &head.folder]);
+    let full = File::options()
+        .write(true)
+        .open("/dev/full")
+        .map_err(said)?;
+    command.stderr(full);
+    let output = head.feed(command, &encoded(&stream.groups))?;
+    let record = first_stored(&stream);
+    let line = String::from_utf8_lossy(&output.stdout);
+    if line != record.tally.line() || output.status.code() != Some(1) {
+        return Err(format!("{output:?} without a place for progress"));
+    }
+    head.has(&files(&record.aired))?;
+    Ok(1)
 }
 
 /// What is no stream, no folder or no place to write: a message and a status.
@@ -386,35 +477,42 @@ fn problems(head: &Head) -> Result<usize, String> {
     let mut directory = head.command(&[&head.folder]);
     directory.stdin(File::open(&head.folder).map_err(said)?);
     let output = directory.output().map_err(said)?;
-    ended(&output, &nothing, Some("the input can't be read"))?;
+    ended(&output, &nothing, "", Some("the input can't be read"))?;
 
     let output = head.run_on(&[&head.folder.join("nowhere")], &[])?;
-    ended(&output, &nothing, Some("the folder can't be read"))?;
+    ended(&output, &nothing, "", Some("the folder can't be read"))?;
 
     // A folder that is not empty stands where the head would write a file first.
     let random = &mut Random::from_seed(SEED);
     let (stream, complete) = streams::fresh(random);
     let first = complete.into_iter().min().expect("there is an object");
-    let tally = Record::of(&stream.groups[..=first]).tally;
+    let mut record = Record::of(&stream.groups[..=first]);
+    record.tally.written = 0;
     for place in ["unfinished.body", "unfinished.header"] {
         head.clear()?;
         fs::create_dir_all(head.folder.join(place).join("taken")).map_err(said)?;
-        let output = head.run(&encoded(&stream.groups), false)?;
-        let tally = Tally {
-            written: 0,
-            ..tally
+        let asked = Asked {
+            report: false,
+            progress: true,
         };
-        ended(&output, &tally, Some("an object can't be written"))?;
+        let output = head.run(&encoded(&stream.groups), asked)?;
+        // That it is complete is told before it is written.
+        ended(
+            &output,
+            &record.tally,
+            &record.progress,
+            Some("an object can't be written"),
+        )?;
         // Not even the half of the object that could be written is there.
         fs::remove_dir_all(head.folder.join(place)).map_err(said)?;
         head.has(&Files::new())?;
     }
-    Ok(4 + no_report(head)? + misused(head)?)
+    Ok(4 + no_report(head)? + no_progress(head)? + misused(head)?)
 }
 
 pub fn run() -> Result<String, String> {
     let head = Head::new();
-    let mut told = Vec::new();
+    let mut all = Vec::new();
     let sorts: [(&str, fn(&mut Random) -> streams::Stream); 6] = [
         ("of new numbers", |random| streams::fresh(random).0),
         ("of numbers used again", streams::reused),
@@ -437,7 +535,7 @@ pub fn run() -> Result<String, String> {
             whole(&head, &stream.groups, Some(&stream.aired), &mut seen)
                 .map_err(|said| format!("stream {number} {sort}: {said}"))?;
         }
-        told.push(seen.told());
+        all.push(seen);
     }
     let mut restarts = Seen::of("halves of streams that a head was stopped and started again in");
     for number in 0..EACH {
@@ -471,15 +569,19 @@ pub fn run() -> Result<String, String> {
             .map_err(|said| format!("stream {number} that is cut: {said}"))?;
         number += 1;
     }
-    told.extend(
-        [&restarts, &spoilt_files, &histories]
-            .into_iter()
-            .chain(&cuts)
-            .map(Seen::told),
-    );
+    all.extend([restarts, spoilt_files, histories].into_iter().chain(cuts));
+    let progress: usize = all.iter().map(|seen| seen.progress).sum();
+    let unknown: usize = all.iter().map(|seen| seen.unknown).sum();
+    if progress < PROGRESS_LEAST || unknown < UNKNOWN_LEAST {
+        return Err(format!(
+            "only {progress} lines of progress, {unknown} unknown"
+        ));
+    }
     let problems = problems(&head)?;
+    let told: Vec<String> = all.iter().map(Seen::told).collect();
     Ok(format!(
-        "streams: {}; and {problems} without input, folder, report, place to write or the right words",
+        "streams: {}; {progress} lines of progress in all, {unknown} of them unknown; and {problems} without input, \
+         folder, report, place to write or the right words",
         told.join(", ")
     ))
 }

@@ -1,5 +1,5 @@
-//! The record that a head must keep of some groups, and its report: the policy that the head comment
-//! of `examples/head.c` tells, over the independent collector. It is told in other words than the
+//! The record that a head must keep of some groups, its report and its lines of progress: the policy that
+//! the head comment of `examples/head.c` tells, over the independent collector. It is told in other words than the
 //! head's: when each number was heard is a time, whether an object is finished is asked of the
 //! collector, and what was aired is kept whole.
 
@@ -78,8 +78,9 @@ pub struct Record {
     held: BTreeMap<u16, Held>,
     pub aired: Vec<Aired>,
     pub tally: Tally,
-    /// The lines of the report.
+    /// The lines of the report, and those of progress.
     pub report: String,
+    pub progress: String,
 }
 
 impl Record {
@@ -97,6 +98,7 @@ impl Record {
             aired,
             tally: Tally::default(),
             report: String::new(),
+            progress: String::new(),
         };
         for (time, group) in groups.iter().enumerate() {
             record.hear(time, group);
@@ -160,10 +162,20 @@ impl Record {
         let heard = time;
         self.held.insert(of, Held { heard, conflicts });
         self.report += &line(&reply, group);
+        if reply.answer != Answer::Repeat {
+            self.progress += &self.progress_of(of);
+        }
         if reply.answer == Answer::Complete {
             self.tally.complete += 1;
             self.air(of);
         }
+    }
+
+    /// The line of progress of a number that is held.
+    fn progress_of(&self, number: u16) -> String {
+        let missing = self.collector.missing(number).expect("it is held");
+        let told = missing.map_or("unknown".to_string(), |bytes| bytes.to_string());
+        format!("{number:04x} missing {told}\n")
     }
 
     /// A finished object, unless it is the last of its number.
