@@ -5,7 +5,8 @@
  * caller on. Then on a stack of YOVTIRAK_STACK_BYTES, below which no page can be touched, and of
  * which the system and the caller have used up all that they may. A trial that is answered
  * otherwise, takes more, or runs off its stack fails all; so does one of the header's inline
- * functions that tells something wrong of an object, of a repeat or of an address. */
+ * functions that tells something wrong of an object, of what is missing of it, of a repeat or of an
+ * address. */
 #define _DEFAULT_SOURCE
 
 #include "yovtirak.h"
@@ -349,19 +350,31 @@ static void last_mark(void) {
 static void last_record(void) {
     short_marks();
     lend();
-    state[YOVTIRAK_STATE_WORDS - 1] = 7;
+    state[YOVTIRAK_STATE_WORDS - 2] = 7;
+}
+
+static void last_missing(void) {
+    short_marks();
+    lend();
+    state[YOVTIRAK_STATE_WORDS - 1]++;
+}
+
+static void last_unknown(void) {
+    short_marks();
+    lend();
+    state[YOVTIRAK_STATE_WORDS - 1] = 0;
 }
 
 static void last_number(void) {
     short_marks();
     lend();
-    state[YOVTIRAK_STATE_WORDS - 10] = 6;
+    state[YOVTIRAK_STATE_WORDS - 11] = 6;
 }
 
 static void other_stage(void) {
     short_marks();
     lend();
-    state[YOVTIRAK_STATE_WORDS - 9] = 3;
+    state[YOVTIRAK_STATE_WORDS - 10] = 3;
 }
 
 /* ---- the calls */
@@ -376,6 +389,11 @@ static enum yovtirak_answer addressing(void) {
 }
 
 static enum yovtirak_answer dropping(void) { return yovtirak_drop_object(&lent, number).answer; }
+
+static enum yovtirak_answer telling(void) {
+    struct yovtirak_progress progress;
+    return yovtirak_tell_missing(&lent, number, &progress);
+}
 
 static enum yovtirak_answer showing(void) {
     struct yovtirak_object object;
@@ -415,6 +433,38 @@ static int told_right(void) {
            said.header_size == 19 && said.content_type == 2 && said.content_sub_type == 1 &&
            said.priority == 5 && said.name_start == 11 && said.name_bytes == 8 &&
            memcmp(object.header + said.name_start + 1, name, sizeof name) == 0;
+}
+
+/* Whether so many bytes of the number are told to be missing; a negative number is unknown. */
+static int has_missing(long bytes) {
+    struct yovtirak_progress progress = {99, 99};
+    return yovtirak_tell_missing(&lent, number, &progress) == YOVTIRAK_TOLD &&
+           progress.known == (bytes >= 0) && progress.bytes == (bytes < 0 ? 0 : (uint32_t)bytes);
+}
+
+/* Whether a refusal to tell what is missing leaves what is there. */
+static int tells_nothing(enum yovtirak_answer answer) {
+    struct yovtirak_progress progress = {99, 98};
+    return yovtirak_tell_missing(&lent, number, &progress) == answer && progress.known == 99 &&
+           progress.bytes == 98;
+}
+
+/* What is missing before both lengths are known, after, of a finished object, and of none. */
+static int missing_right(void) {
+    both_parked();
+    if (!has_missing(-1))
+        return 0;
+    take();
+    if (!has_missing(119 - 29))
+        return 0;
+    finished();
+    if (!has_missing(0))
+        return 0;
+    number = 6;
+    if (!tells_nothing(YOVTIRAK_NOTHELD))
+        return 0;
+    last_missing();
+    return tells_nothing(YOVTIRAK_STATE);
 }
 
 /* The three numbers of an answer: those of its group with STORED, COMPLETE and REPEAT, else 0. */
@@ -490,6 +540,11 @@ static struct trial {
     {"showing an address", "a wrong size", wrong_size, addressing, YOVTIRAK_SIZE},
     {"dropping", "the last of sixteen", held_last, dropping, YOVTIRAK_DROPPED},
     {"dropping", "none of sixteen", not_held, dropping, YOVTIRAK_NOTHELD},
+    {"telling what is missing", "the last of sixteen", held_last, telling, YOVTIRAK_TOLD},
+    {"telling what is missing", "none of sixteen", not_held, telling, YOVTIRAK_NOTHELD},
+    {"telling what is missing", "an unfinished one", unfinished, telling, YOVTIRAK_TOLD},
+    {"telling what is missing", "two parked segments", both_parked, telling, YOVTIRAK_TOLD},
+    {"telling what is missing", "64 segments", long_list, telling, YOVTIRAK_TOLD},
     {"showing", "the last of sixteen", held_last, showing, YOVTIRAK_SHOWN},
     {"showing", "none of sixteen", not_held, showing, YOVTIRAK_NOTHELD},
     {"showing", "an unfinished one", unfinished, showing, YOVTIRAK_UNFINISHED},
@@ -511,7 +566,8 @@ static const struct {
 } damages[] = {
     {"marks one short", short_marks},       {"four counts", four_counts},
     {"a count too large", count_too_large}, {"a mark of 2", last_mark},
-    {"another record", last_record},        {"a number twice", last_number},
+    {"another record", last_record},        {"a byte more missing", last_missing},
+    {"missing unknown", last_unknown},      {"a number twice", last_number},
     {"a fourth stage", other_stage},
 };
 
@@ -608,7 +664,7 @@ int main(void) {
         trials[i].made();
     }
 
-    if (!told_right() || !numbers_right() || !address_right()) {
+    if (!told_right() || !missing_right() || !numbers_right() || !address_right()) {
         printf("an inline function tells something wrong\n");
         return 1;
     }
