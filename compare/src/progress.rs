@@ -11,13 +11,15 @@ use std::collections::BTreeMap;
 
 /// How the questions were answered, and what was known of what is held; each with how often it must
 /// come up in all histories.
-const SORTS: [(&str, usize); 12] = [
+const SORTS: [(&str, usize); 14] = [
     ("unknown", 50_000),
     ("some bytes", 50_000),
     ("none", 30_000),
     ("known without the core", 2_000),
+    ("known without the core, the empty segment in", 500),
     ("the length of the body alone known", 20_000),
     ("the length of the header alone known", 3_000),
+    ("the length of the header alone known, the body parked", 100),
     ("a last segment parked", 20_000),
     ("known by the core, a segment parked before", 200),
     ("known by a full segment, a segment parked before", 30),
@@ -120,35 +122,35 @@ impl Progress {
     }
 
     fn count_held(&mut self, held: &Held, now: &Before) {
-        let [header, body] = [Part::Header, Part::Body].map(|part| held.known_length(part));
         self.count(match now.missing {
             None => "unknown",
             Some(0) => "none",
             Some(_) => "some bytes",
         });
-        let empty = held.last(Part::Body);
-        for (sort, is_so) in [
-            (
-                "known without the core",
-                now.missing.is_some() && held.core().is_none(),
-            ),
-            (
-                "the length of the body alone known",
-                header.is_none() && body.is_some(),
-            ),
-            (
-                "the length of the header alone known",
-                header.is_some() && body.is_none(),
-            ),
-            ("a last segment parked", now.parked),
-            (
-                "with the empty segment in",
-                empty.is_some_and(|piece| piece.bytes.is_empty()),
-            ),
-        ] {
-            if is_so {
-                self.count(sort);
+        let [header, body] = [Part::Header, Part::Body].map(|part| held.known_length(part));
+        let last = held.last(Part::Body);
+        let empty = last.is_some_and(|piece| piece.bytes.is_empty());
+        match (header, body) {
+            (Some(_), Some(_)) if held.core().is_none() => {
+                self.count("known without the core");
+                if empty {
+                    self.count("known without the core, the empty segment in");
+                }
             }
+            (None, Some(_)) => self.count("the length of the body alone known"),
+            (Some(_), None) => {
+                self.count("the length of the header alone known");
+                if held.is_parked(Part::Body) {
+                    self.count("the length of the header alone known, the body parked");
+                }
+            }
+            _ => (),
+        }
+        if now.parked {
+            self.count("a last segment parked");
+        }
+        if empty {
+            self.count("with the empty segment in");
         }
     }
 
