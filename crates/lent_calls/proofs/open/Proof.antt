@@ -352,11 +352,13 @@ module _ {M : Type 1} (𝓤 : URA M) (H : Heap 𝓤) (A : Atoms 𝓤) (W : Given
         rewrite ! 24 (λ (u : Val). ‵ (fat fullShare T1′.mir l7 0 u)) (ap only (LL.tells T1.the-type T1′.the-laws r _
         is)) refl $
         -- the record is stored, and the rest returned
-        assigns ! (of-opd ! (load ! (from ! (fld ! refl (stop !))) (look-in ! 24 (sub ! 0 refl (whole !))))) (from !
-        (hop ! (look ! 32 refl) (stop !))) (store-raw ! 9 refl (typedC (r .counts) (is-rec r w is))) $
-        assigns ! (of-opd ! (load ! (from ! (fld ! refl (stop !))) (look-in ! 24 (sub ! 1 refl (whole !))))) (from !
-        (stop !)) (init ! 38 refl (LL.lawful T2.the-type T2′.the-laws 𝓤 H A W .typed (r .begun) _ (is-rest r w
-        is) .0)) $
+        assigns ! {v = machC (r .counts)} (of-opd ! (load ! {v = machC (r .counts)} (from ! (fld ! {τ = T0′.mir} refl
+        (stop !))) (look-in ! 24 {τ = T0′.mir} {v = machC (r .counts)} (sub ! 0 {τ = T0′.mir} refl (whole !)))))
+        (from ! (hop ! (look ! 32 refl) (stop !))) (store-raw ! 9 refl (typedC (r .counts) (is-rec r w is))) $
+        assigns ! {v = machP (r .begun)} (of-opd ! (load ! {v = machP (r .begun)} (from ! (fld ! {τ = T2′.mir} refl
+        (stop !))) (look-in ! 24 {τ = T2′.mir} {v = machP (r .begun)} (sub ! 1 {τ = T2′.mir} refl (whole !)))))
+        (from ! (stop !)) (init ! 38 {τ = T2′.mir} {v = machP (r .begun)} refl (LL.lawful T2.the-type T2′.the-laws 𝓤
+        H A W .typed (r .begun) _ (is-rest r w is) .0)) $
         owned ! R (Is R) (LL.makes T0.the-type T0′.the-plain 𝓤 H A) (r .counts) _ (is-rec r w is) $
         move ! (10 ∷ 0 ∷ 11 ∷ 12 ∷ 13 ∷ []) $
         closes ! tt R (r .counts) (machC (r .counts) ∷ []) b o $

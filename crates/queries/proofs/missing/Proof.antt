@@ -1,12 +1,13 @@
 -- `queries::missing` meets its contract: STATE, NOTHELD, then what the slot keeps.
 -- Assumes nothing.
-use mathlib.Core.Path.{refl, sym, _∙_}
+use mathlib.Core.Path.{refl, sym, ap, _∙_}
 use native.Mathlib.Omega.{arith}
 use borrow.Author.Tests.{not-true, not-false}
 use Rattle.slots.specs.laws.Ready.{found-inside}
 use Rattle.slots.specs.Stores.{freeSlot, slotAt}
 use Rattle.collector.specs.State.{stores, state}
 use Rattle.collector.specs.laws.State.{slots-sound}
+use Rattle.queries.specs.declared.Awaited.the-variants.{Bytes}
 use Rattle.queries.specs.Missing.{missing}
 use borrow.Author.Needs.{needs}
 use Rattle.queries.proofs.missing.Statement.{statement}
@@ -54,14 +55,18 @@ mul-slot c = search needs
 element-copy-out-slot : tie.Need-element-copy-out-slot
 element-copy-out-slot c = search needs
 
+amount-of-requires : tie.Need-amount-of-requires
+amount-of-requires c κs = search needs
+
 returns-4 : tie.Need-returns-4
 unfolding missing slotAt freeSlot
 returns-4 c =
-    let at-find = c .before .before .before .before .before in
+    let at-find = c .before .before .before .before .before .before in
     let at-if1 = at-find .before .before in
     let at-is-sound = at-if1 .before in
     let good = sym (at-is-sound .is-sound .ensures) ∙ not-false _ (at-if1 .if1 .left) in
-    rw (good, sym (at-find .find .ensures) ∙ c .before .before .before .i .given .1) refl
+    rw (good, sym (at-find .find .ensures) ∙ c .before .before .before .before .i .given .1)
+    (ap Bytes (c .amount-of .ensures))
 
 pub missing-spec : {M : Type 1} → statement M
 missing-spec =
@@ -76,4 +81,5 @@ missing-spec =
     returns-3
     mul-slot
     element-copy-out-slot
+    amount-of-requires
     returns-4)
