@@ -32,7 +32,7 @@ const PROMISED: [(&str, &[&str]); 10] = [
     ),
     (
         "crates/yovtirak/specs/laws/Told.antt",
-        &["taken-told", "address-there"],
+        &["taken-told", "missing-told", "address-there"],
     ),
     ("crates/listing/specs/laws/Theorems.antt", &["lines-done"]),
 ];

@@ -12,4 +12,5 @@ pub mod Marks
 pub mod Cases
 pub mod Sums
 pub mod Missing
+pub mod MissingCases
 pub mod Arrived

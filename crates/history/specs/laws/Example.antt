@@ -9,6 +9,8 @@ use Prim.Native.Nat.{ℕ}
 use native.Mathlib.Omega.{arith}
 use Rattle.answer.specs.declared.Answer.the-variants as Answer
 use Rattle.answer.specs.declared.Reason.the-variants as Reason
+use Rattle.cut.specs.declared.Amount.the-variants.{Unknown, Known}
+use Rattle.queries.specs.declared.Awaited.the-variants as Awaited
 use Rattle.answer.specs.declared.Heard.{Heard}
 use Rattle.answer.specs.declared.Part.{Part}
 use Rattle.answer.specs.declared.Part.the-variants.{Header, Body}
@@ -26,7 +28,7 @@ use Rattle.queries.specs.declared.Sought.the-variants as Sought
 use Rattle.collector.specs.Calls.{show}
 use Rattle.collector.specs.Arrival.{noRepetition}
 use Rattle.history.specs.Handed.{group, segment}
-use Rattle.history.specs.History.{Question, Call, hand, drop, ask, CallBytes, shown, read, named, found, addressed, handed, dropped, asked, told}
+use Rattle.history.specs.History.{Question, Call, hand, drop, ask, CallBytes, shown, read, named, found, awaited, addressed, handed, dropped, asked, told}
 use Rattle.history.specs.Ours.{ours}
 use Rattle.history.specs.Held.{stageFor}
 use Rattle.history.specs.Promise.{Run, reachedBy, since, StoredFrom, cameUnder}
@@ -128,6 +130,29 @@ pub repeat-meant : told ours small
     ∷ []
 unfolding computing small
 repeat-meant = refl
+
+-- ---- how much is missing
+
+-- a last body segment alone, then the header, which says 20, then the rest of the body
+pub progress : told ours small
+    (ask (Question.missing 5)
+    ∷ hand (group bodyFirst)
+    ∷ ask (Question.missing 5)
+    ∷ hand (group header)
+    ∷ ask (Question.missing 5)
+    ∷ hand (group bodyLast)
+    ∷ ask (Question.missing 5)
+    ∷ [])
+    ≡ asked (Question.missing 5) (awaited (Awaited.Bytes (Known 0)))
+    ∷ handed (group bodyFirst) (Answer.Complete (inBody 0) noRepetition)
+    ∷ asked (Question.missing 5) (awaited (Awaited.Bytes (Known 16)))
+    ∷ handed (group header) (Answer.Stored (inHeader 5) noRepetition)
+    ∷ asked (Question.missing 5) (awaited (Awaited.Bytes Unknown))
+    ∷ handed (group bodyLast) (Answer.Stored (inBody 1) noRepetition)
+    ∷ asked (Question.missing 5) (awaited (Awaited.Denied Reason.NotHeld))
+    ∷ []
+unfolding computing small
+progress = refl
 
 -- ---- a card of no text
 
