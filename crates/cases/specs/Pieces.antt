@@ -2,7 +2,8 @@
 use mathlib.Core.Bool.{Bool, true}
 use Prim.Native.Nat.{ℕ, _+_}
 use lib.Dec.{ltb}
-use Rattle.cut.specs.Decision.{addPart, addTop, joins, suits, finished}
+use Rattle.cut.specs.Decision.{joins, suits, finished}
+use Rattle.cut.specs.Kept.{addPart, addTop}
 use Rattle.cut.specs.declared.Record.{Record}
 use Rattle.cut.specs.declared.Core.{Core}
 use Rattle.cut.specs.Lists.{pick}

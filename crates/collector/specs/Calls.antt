@@ -16,8 +16,7 @@ use Rattle.counts.specs.Counted.{noneYet, counted, within}
 use Rattle.wire.specs.declared.Reading.{Reading}
 use Rattle.wire.specs.declared.Reading.the-variants.{Read, Refused}
 use Rattle.wire.specs.Reading.{readingOf}
-use Rattle.cut.specs.Lists.{pick}
-use Rattle.cut.specs.Decision.{both}
+use Rattle.cut.specs.Lists.{pick, both}
 use Rattle.object.specs.declared.Outcome.{Outcome}
 use Rattle.object.specs.declared.Outcome.the-variants.{Stored, Complete, Repeat, Conflict}
 use Rattle.object.specs.declared.Stage.{Stage}

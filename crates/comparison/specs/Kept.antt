@@ -8,8 +8,9 @@ use Rattle.answer.specs.declared.Part.the-variants.{Header, Body}
 use Rattle.cut.specs.Requirement.{bodySize, headerSize, Segment}
 use Rattle.cut.specs.declared.Core.{Core}
 use Rattle.cut.specs.declared.Core.the-variants.{Unseen, Seen}
-use Rattle.cut.specs.Decision.{both, Summary, addPart, addTop, accepts}
-use Rattle.cut.specs.Lists.{pick}
+use Rattle.cut.specs.Decision.{accepts}
+use Rattle.cut.specs.Kept.{Summary, addPart, addTop}
+use Rattle.cut.specs.Lists.{both, pick}
 use Rattle.comparison.specs.declared.decision.Kept.{Kept}
 
 abbrev pub partOf : ℕ → Part

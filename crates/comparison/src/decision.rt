@@ -6,7 +6,8 @@ use cut::Record;
 ghost use mathlib.Core.Path.{_≡_};
 ghost use Prim.Native.Nat.{_<_};
 ghost use Rattle.cut.specs.Requirement.{bodySize, headerSize, segment};
-ghost use Rattle.cut.specs.Decision.{addTop, accepts};
+ghost use Rattle.cut.specs.Decision.{accepts};
+ghost use Rattle.cut.specs.Kept.{addTop};
 ghost use Rattle.comparison.specs.Kept.{partOf, coreSaid, coreWith, summaryOf, keptOf, keptWith, keptAfter, keptField, acceptsOf};
 
 // What is kept of a part: 1 + the highest number of a full segment, or 0, and its record.

@@ -1,7 +1,9 @@
 pub mod Lists
 pub mod Requirement
 pub mod Parts
+pub mod Kept
 pub mod Decision
 pub mod Sums
 pub mod Missing
+pub mod MissingKept
 pub mod laws

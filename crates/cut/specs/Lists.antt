@@ -1,4 +1,4 @@
--- Lists, for any use: a choice by a test, what holds of each element, what is among them, and bytes.
+-- Lists, for any use: tests together, a choice by a test, what holds of each element, what is among them, and bytes.
 use mathlib.Core.Path.{_≡_}
 use mathlib.Core.Logic.{_⊎_}
 use mathlib.Core.Bool.{Bool, true, false}
@@ -9,6 +9,15 @@ use Prim.Native.Nat.{ℕ, _<_}
 abbrev pub pick : {A : Type 0} → Bool → A → A → A
 pick true a b = a
 pick false a b = b
+
+abbrev pub both : Bool → Bool → Bool
+both true b = b
+both false b = false
+
+-- every test passes
+abbrev pub all : List Bool → Bool
+all [] = true
+all (b ∷ bs) = both b (all bs)
 
 -- P holds of each element
 abbrev pub Each : {A : Type 0} → (A → Type 0) → List A → Type 0

@@ -2,7 +2,7 @@
 -- last segment when that is number 0 or S is known; otherwise the bytes of header and body that have not arrived.
 use mathlib.Core.Bool.{Bool, true, false}
 use mathlib.Core.List.{List, [], _∷_}
-use Prim.Native.Nat.{ℕ, zero, suc, _+_, _-_, _*_, _/_, _≤_, _<_}
+use Prim.Native.Nat.{ℕ, zero, suc, _+_, _-_, _*_, _/_}
 use lib.Dec.{eqb}
 use lib.ListN.{length}
 use Rattle.answer.specs.declared.Part.{Part}
@@ -11,10 +11,9 @@ use Rattle.cut.specs.declared.Amount.{Amount}
 use Rattle.cut.specs.declared.Amount.the-variants.{Unknown, Known}
 use Rattle.cut.specs.declared.Core.{Core}
 use Rattle.cut.specs.declared.Core.the-variants.{Unseen, Seen}
-use Rattle.cut.specs.declared.Record.{Record}
 use Rattle.cut.specs.Lists.{pick}
-use Rattle.cut.specs.Requirement.{sizeMost, headerNumbers, bodyNumbers, Segment, Fits, joined}
-use Rattle.cut.specs.Decision.{coreOf}
+use Rattle.cut.specs.Requirement.{headerNumbers, bodyNumbers, Segment, Fits, joined}
+use Rattle.cut.specs.Kept.{coreOf}
 
 -- ---- of the segments that are stored
 
@@ -78,31 +77,6 @@ abbrev pub outsideOf : {limit : ℕ} {headerSegments bodySegments : List Segment
 outsideOf {headerSegments = headerSegments} {bodySegments = bodySegments} f =
     outside (f .headerCut) headerSegments (length (f .header)) + outside (f .bodyCut) bodySegments (length (f .body))
 
--- ---- of what is kept: the core, the two records, and how many segments of each part are in
-
--- the length that a record gives
-abbrev pub lengthIn : ℕ → ℕ → ℕ → Amount
-lengthIn size zero tail = Unknown
-lengthIn size (suc n) tail = lengthBy size n tail
-
-abbrev pub lengthKept : Part → Core → Record → Amount
-lengthKept part Unseen p = lengthIn (p .size) (p .end) (p .tail)
-lengthKept Header (Seen body header) p = Known header
-lengthKept Body (Seen body header) p = Known body
-
--- the full ones have the size, and the last one its tail
-abbrev pub arrivedIn : ℕ → ℕ → ℕ → ℕ → ℕ
-arrivedIn total size zero tail = total * size
-arrivedIn total size (suc n) tail = (total - 1) * size + tail
-
-abbrev pub arrivedKept : ℕ → Record → ℕ
-arrivedKept total p = arrivedIn total (p .size) (p .end) (p .tail)
-
--- h segments of the header are in, of which p is kept, and b of the body, of which q is
-unfoldable pub missingBy : Core → ℕ → Record → ℕ → Record → Amount
-missingBy core h p b q =
-    lacking (lengthKept Header core p) (lengthKept Body core q) (arrivedKept h p + arrivedKept b q)
-
 -- ---- as a slot keeps it
 
 -- 1 more than the number, or 0 while it is not known
@@ -113,16 +87,3 @@ amountKept (Known bytes) = suc bytes
 abbrev pub amountOf : ℕ → Amount
 amountOf zero = Unknown
 amountOf (suc bytes) = Known bytes
-
--- ---- what the code asks
-
--- the sizes that header segment 0 says have the widths of their fields
-abbrev pub Narrow : Core → Type 0
-Narrow Unseen = Unit {0}
-Narrow (Seen body header) = (body < 0x10000000) × (header < 0x10000)
-
--- a record's numbers are those of some part
-pub record Small (p : Record) : Type 0 where
-  pub size : p .size ≤ sizeMost
-  pub end : p .end ≤ bodyNumbers
-  pub tail : 1 ≤ p .end → p .tail ≤ sizeMost

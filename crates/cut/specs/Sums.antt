@@ -10,8 +10,9 @@ use Rattle.cut.specs.declared.Core.{Core}
 use Rattle.cut.specs.declared.Bounds.{Bounds}
 use Rattle.cut.specs.declared.Record.{Record}
 use Rattle.cut.specs.Parts.{otherPart}
-use Rattle.cut.specs.Decision.{both, all, boundsOf, coreFits, room, alone, addPart, joins}
-use Rattle.cut.specs.Lists.{pick}
+use Rattle.cut.specs.Decision.{coreFits, room, alone, joins}
+use Rattle.cut.specs.Kept.{boundsOf, addPart}
+use Rattle.cut.specs.Lists.{both, all, pick}
 
 -- 1 if the last one is in, else 0
 abbrev pub ended : Record → ℕ

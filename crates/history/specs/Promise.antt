@@ -24,10 +24,9 @@ use Rattle.wire.specs.declared.Reading.the-variants.{Read, Refused}
 use Rattle.wire.specs.Wire.{endUserAddress, endUserAddressLength}
 use Rattle.wire.specs.Reading.{repetitionIn, checkHolds, readingOf}
 use Rattle.wire.specs.Ignored.{SameButIgnored}
-use Rattle.cut.specs.Lists.{pick, Each, Among, Bytes}
+use Rattle.cut.specs.Lists.{pick, Each, Among, Bytes, both}
 use Rattle.cut.specs.Requirement.{headerLeast, headerNumbers, bodyNumbers, Segment, empty, Fits, Finished, joined}
 use Rattle.cut.specs.declared.Amount.the-variants.{Known}
-use Rattle.cut.specs.Decision.{both}
 use Rattle.cut.specs.Missing.{missingOf, outsideOf}
 use Rattle.cut.specs.Parts.{headersWith, bodiesWith}
 use Rattle.header.specs.declared.Reading.{Reading}

@@ -6,9 +6,8 @@ use Prim.Native.Nat.{ℕ, zero, suc, _+_}
 use lib.Dec.{eqb, leb, ltb}
 use lib.ListN.{length, getD}
 use Rattle.counts.specs.declared.Counts.{Counts}
-use Rattle.cut.specs.Decision.{both}
+use Rattle.cut.specs.Lists.{both, pick}
 use Rattle.cut.specs.declared.Record.{Record}
-use Rattle.cut.specs.Lists.{pick}
 use Rattle.object.specs.declared.Slot.{Slot}
 use Rattle.object.specs.declared.Stage.{Stage}
 use Rattle.object.specs.declared.Stage.the-variants.{Free, Gathering, Finished}

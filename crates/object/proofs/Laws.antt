@@ -14,7 +14,7 @@ use Rattle.octets.specs.Octets.{sumOf, largestOf}
 use Rattle.answer.specs.declared.Part.{Part}
 use Rattle.cut.specs.declared.Core.{Core}
 use Rattle.cut.specs.Requirement.{headerNumbers, bodyNumbers}
-use Rattle.cut.specs.Decision.{boundsOf}
+use Rattle.cut.specs.Kept.{boundsOf}
 use Rattle.part.specs.Asked.{Counted}
 use Rattle.cut.specs.laws.Decision.{both-true}
 use Rattle.object.specs.Sound.{marksRight}

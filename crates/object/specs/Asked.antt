@@ -10,7 +10,7 @@ use Rattle.answer.specs.declared.Part.the-variants.{Header, Body}
 use Rattle.cut.specs.Requirement.{headerMost, headerNumbers, bodyNumbers, Segment}
 use Rattle.cut.specs.declared.Core.{Core}
 use Rattle.cut.specs.Parts.{otherPart}
-use Rattle.cut.specs.Decision.{coreWith}
+use Rattle.cut.specs.Kept.{coreWith}
 use Rattle.cut.specs.Lists.{pick}
 use Rattle.part.specs.Asked.{Held}
 use Rattle.object.specs.declared.Slot.{Slot}
@@ -19,7 +19,8 @@ use Rattle.object.specs.declared.Soundness.{Soundness}
 use Rattle.object.specs.declared.Soundness.the-variants.{Damaged, Sound}
 use Rattle.object.specs.Take.{takesIn}
 use Rattle.object.specs.Sound.{soundParts, soundSlot}
-use Rattle.object.specs.Parts.{Lent, partsOf, keptOf, marksOf, shareOf, coreFrom, coreIn}
+use Rattle.object.specs.Parts.{Lent, partsOf, keptOf, marksOf, shareOf}
+use Rattle.object.specs.Stage.{coreFrom, coreIn}
 
 -- ---- what the marks of a slot come to
 

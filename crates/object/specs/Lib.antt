@@ -1,4 +1,5 @@
 pub mod Parts
+pub mod Stage
 pub mod Take
 pub mod Sound
 pub mod Asked

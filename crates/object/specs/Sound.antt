@@ -5,13 +5,16 @@ use Prim.Native.Nat.{ℕ}
 use lib.Dec.{eqb, leb}
 use Rattle.octets.specs.Octets.{sumOf, largestOf}
 use Rattle.answer.specs.declared.Part.the-variants.{Header, Body}
-use Rattle.cut.specs.Decision.{both, all, boundsOf, coreFits}
+use Rattle.cut.specs.Decision.{coreFits}
+use Rattle.cut.specs.Kept.{boundsOf}
+use Rattle.cut.specs.Lists.{both, all}
 use Rattle.cut.specs.Missing.{amountKept}
 use Rattle.part.specs.Asked.{soundPart}
 use Rattle.object.specs.declared.Slot.{Slot}
 use Rattle.object.specs.declared.Stage.{Stage}
 use Rattle.object.specs.declared.Stage.the-variants.{Free, Gathering, Finished}
-use Rattle.object.specs.Parts.{Lent, Parts, partsOf, coreIn, stageOf, missingIn}
+use Rattle.object.specs.Parts.{Lent, Parts, partsOf}
+use Rattle.object.specs.Stage.{coreIn, stageOf, missingIn}
 
 abbrev pub sameStage : Stage → Stage → Bool
 sameStage Free Free = true

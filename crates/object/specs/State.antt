@@ -8,7 +8,7 @@ use Rattle.answer.specs.declared.Part.{Part}
 use Rattle.answer.specs.declared.Part.the-variants.{Header, Body}
 use Rattle.cut.specs.declared.Record.{Record}
 use Rattle.cut.specs.Requirement.{Segment, Fits, Finished}
-use Rattle.cut.specs.Decision.{boundsOf, summary, recordOf, coreOf}
+use Rattle.cut.specs.Kept.{boundsOf, summary, recordOf, coreOf}
 use Rattle.cut.specs.Missing.{missingOf, amountKept}
 use Rattle.cut.specs.Lists.{Each}
 use Rattle.object.specs.declared.Slot.{Slot}

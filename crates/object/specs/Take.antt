@@ -8,10 +8,11 @@ use Rattle.cut.specs.Requirement.{Segment}
 use Rattle.cut.specs.declared.Record.{Record}
 use Rattle.cut.specs.declared.Core.{Core}
 use Rattle.cut.specs.Parts.{otherPart}
-use Rattle.cut.specs.Decision.{boundsOf, coreWith}
+use Rattle.cut.specs.Kept.{boundsOf, coreWith}
 use Rattle.cut.specs.Sums.{takes}
 use Rattle.cut.specs.Missing.{amountKept}
-use Rattle.part.specs.Memory.{segmentAt, settled, put}
+use Rattle.part.specs.Memory.{segmentAt}
+use Rattle.part.specs.Moves.{settled, put}
 use Rattle.part.specs.Asked.{sameSegment, recordWith, recordWithin}
 use Rattle.object.specs.declared.Slot.{Slot}
 use Rattle.object.specs.declared.Stage.{Stage}
@@ -21,7 +22,8 @@ use Rattle.object.specs.declared.Outcome.the-variants as Outcome
 use Rattle.object.specs.declared.Decided.{Decided}
 use Rattle.object.specs.declared.Decided.the-variants.{Repeat, Conflict, Fits}
 use Rattle.object.specs.declared.Took.{Took}
-use Rattle.object.specs.Parts.{Lent, Parts, partsOf, lentOf, memoryOf, coreIn, stageOf, missingIn}
+use Rattle.object.specs.Parts.{Lent, Parts, partsOf, lentOf, memoryOf}
+use Rattle.object.specs.Stage.{coreIn, stageOf, missingIn}
 
 -- ---- what comes of a segment: it is decided by what is held, and nothing is written
 

@@ -1,6 +1,6 @@
 // The decision on an object's numbers (crate cut, specs/Decision): the bounds of its parts, whether the sizes that
 // header segment 0 says are within them, whether what is kept of both parts suits some object and cut, whether all is
-// in, and how much is missing (crate cut, specs/Missing).
+// in, and how much is missing (crate cut, specs/MissingKept).
 use answer::Part;
 use cut::Amount;
 use cut::BODY_NUMBERS;
@@ -11,8 +11,10 @@ use cut::HEADER_MOST;
 use cut::HEADER_NUMBERS;
 use cut::Record;
 ghost use mathlib.Core.Path.{_≡_};
-ghost use Rattle.cut.specs.Decision.{boundsOf, coreFits, suits, finished};
-ghost use Rattle.cut.specs.Missing.{lengthKept, missingBy, amountKept, Narrow, Small};
+ghost use Rattle.cut.specs.Decision.{coreFits, suits, finished};
+ghost use Rattle.cut.specs.Kept.{boundsOf};
+ghost use Rattle.cut.specs.Missing.{amountKept};
+ghost use Rattle.cut.specs.MissingKept.{lengthKept, missingBy, Narrow, Small};
 
 pub fn bounds_of(part: Part, limit: usize, core: Core) -> Bounds
     ensures { λ r. ⌜ r ≡ boundsOf part limit core ⌝ }

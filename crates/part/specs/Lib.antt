@@ -1,3 +1,4 @@
 pub mod Memory
+pub mod Moves
 pub mod Asked
 pub mod laws

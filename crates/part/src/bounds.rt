@@ -8,7 +8,8 @@ ghost use mathlib.Core.Path.{_≡_};
 ghost use Prim.Native.Nat.{_<_, _≤_, _-_, _*_, min};
 ghost use lib.Dec.{leb};
 ghost use Rattle.cut.specs.Requirement.{sizeLeast, sizeMost};
-ghost use Rattle.cut.specs.Decision.{room, roomOpen, roomEnded, all, nothingTests, firstTests, laterTests, alone, possible};
+ghost use Rattle.cut.specs.Decision.{room, roomOpen, roomEnded, nothingTests, firstTests, laterTests, alone, possible};
+ghost use Rattle.cut.specs.Lists.{all};
 
 // Whether so many segments of a size reach a length. By division: the product could wrap.
 fn reaches(least: usize, numbers: usize, size: usize) -> bool

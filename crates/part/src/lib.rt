@@ -13,7 +13,8 @@ ghost use lib.ListN.{length, drop};
 ghost use Rattle.octets.specs.Octets.{largestOf, sumOf};
 ghost use Rattle.cut.specs.Requirement.{bodyNumbers, segment};
 ghost use Rattle.cut.specs.Sums.{ended, fullBy, possibleIn, acceptsIn, fitsIn};
-ghost use Rattle.part.specs.Memory.{memory, placeOf, lengthOf, movedAs, settled, put};
+ghost use Rattle.part.specs.Memory.{memory, placeOf, lengthOf};
+ghost use Rattle.part.specs.Moves.{movedAs, settled, put};
 ghost use Rattle.part.specs.Asked.{markOf, heldAt, sameFlag, sameSegment, recordAdding, recordSettled, endRight, recordRight, soundPart, Counted, Held, CanMove, CanPut};
 
 // ---- what is in

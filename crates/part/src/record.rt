@@ -1,14 +1,15 @@
-// The record of a part, numbers alone (crate cut, specs/Decision): whether one segment more goes with it, the record
-// with that one, the size of the cut once it is settled, and whether the part is whole. Any numbers are taken, as the
-// record of a damaged slot may be asked about too; but for the part's length and how much of it has arrived (crate cut,
-// specs/Missing), which are asked of numbers that a part can have.
+// The record of a part, numbers alone (crate cut, specs/Kept, specs/Decision): whether one segment more goes with it, the
+// record with that one, the size of the cut once it is settled, and whether the part is whole. Any numbers are taken, as
+// the record of a damaged slot may be asked about too; but for the part's length and how much of it has arrived (crate
+// cut, specs/MissingKept), which are asked of numbers that a part can have.
 use cut::Amount;
 use cut::Bounds;
 use cut::Record;
 ghost use mathlib.Core.Path.{_≡_};
 ghost use Prim.Native.Nat.{_<_};
-ghost use Rattle.cut.specs.Decision.{addPart, joins, derived, settle, whole};
-ghost use Rattle.cut.specs.Missing.{lengthIn, arrivedKept, Small};
+ghost use Rattle.cut.specs.Decision.{joins, whole};
+ghost use Rattle.cut.specs.Kept.{addPart, derived, settle};
+ghost use Rattle.cut.specs.MissingKept.{lengthIn, arrivedKept, Small};
 
 // Whether a segment of a new number goes with what is kept: there is one last segment, and full ones have one length.
 pub fn joins(full: bool, last: bool, length: usize, p: Record) -> bool

@@ -16,7 +16,7 @@ use types.Run.{OneOf}
 use denote.Enum.Declared.{tagOf}
 use Rattle.octets.specs.Octets.{zeros}
 use Rattle.answer.specs.declared.Part.{Part}
-use Rattle.cut.specs.Decision.{both}
+use Rattle.cut.specs.Lists.{both}
 use Rattle.object.specs.declared.Slot.{Slot}
 use Rattle.object.specs.declared.Stage.{Stage}
 use Rattle.object.specs.declared.Stage.the-variants.{Free, Gathering, Finished}

@@ -18,8 +18,7 @@ use Rattle.answer.specs.declared.Returned.the-variants.{Sent, Segment, Number, 
 use Rattle.wire.specs.declared.Reading.{Reading}
 use Rattle.wire.specs.declared.Reading.the-variants as Reading
 use Rattle.wire.specs.Reading.{readingOf}
-use Rattle.cut.specs.Decision.{both}
-use Rattle.cut.specs.Lists.{pick}
+use Rattle.cut.specs.Lists.{both, pick}
 use Rattle.cut.specs.Missing.{amountKept}
 use Rattle.object.specs.declared.Stage.{Stage}
 use Rattle.slots.specs.Stores.{Stores, slotAt}

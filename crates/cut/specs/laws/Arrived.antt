@@ -21,9 +21,10 @@ use Rattle.cut.specs.Lists.{pick, Each}
 use Rattle.cut.specs.laws.Lists.{each-map, each-among}
 use Rattle.cut.specs.Requirement.{headerNumbers, bodyNumbers, IsCut, Segment, Sends, Fits, bytesOf, joined}
 use Rattle.cut.specs.Parts.{those, partOf, cutOf}
-use Rattle.cut.specs.Decision.{boundsOf, derived, settle, someFull, summary, recordOf, coreOf}
+use Rattle.cut.specs.Kept.{boundsOf, derived, settle, someFull, summary, recordOf, coreOf}
 use Rattle.cut.specs.Sums.{fullIn}
-use Rattle.cut.specs.Missing.{sizeShown, lengthFrom, lengthKnown, arrived, missingOf, isStored, lengthIn, lengthKept, arrivedIn, arrivedKept, missingBy}
+use Rattle.cut.specs.Missing.{sizeShown, lengthFrom, lengthKnown, arrived, missingOf, isStored}
+use Rattle.cut.specs.MissingKept.{lengthIn, lengthKept, arrivedIn, arrivedKept, missingBy}
 use Rattle.cut.specs.laws.Segment.{Numbered, numbered-among, Sits, SitsAs, sends-sits}
 use Rattle.cut.specs.laws.Decision.{EndSits, Clear, SumSits, sits-sum}
 use Rattle.cut.specs.laws.Object.{Passes, fits-passes}

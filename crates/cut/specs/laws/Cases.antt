@@ -15,7 +15,9 @@ use Rattle.answer.specs.declared.Part.{Part}
 use Rattle.answer.specs.declared.Part.the-variants.{Header, Body}
 use Rattle.cut.specs.declared.Core.{Core}
 use Rattle.cut.specs.declared.Core.the-variants.{Unseen, Seen}
-use Rattle.cut.specs.Decision.{both, all, boundsOf, coreFits, room, largest, alone, suits, settle, summary, coreOf, accepts}
+use Rattle.cut.specs.Decision.{coreFits, room, largest, alone, suits, accepts}
+use Rattle.cut.specs.Kept.{boundsOf, settle, summary, coreOf}
+use Rattle.cut.specs.Lists.{both, all, Each, Bytes}
 use Rattle.cut.specs.laws.Core.{coreBytes}
 use Rattle.cut.specs.laws.Segment.{Numbered}
 use Rattle.cut.specs.laws.Decision.{both-true, all-true, false-true}
@@ -23,7 +25,6 @@ use Rattle.cut.specs.Parts.{headersWith, bodiesWith, those}
 use Rattle.cut.specs.laws.Theorem.{nothing-fits, accepted}
 use Rattle.cut.specs.laws.Finished.{Counted, finished-iff}
 use Rattle.cut.specs.laws.Known.{sizeOf, known-cut}
-use Rattle.cut.specs.Lists.{Each, Bytes}
 
 abbrev limit : ℕ
 limit = 12288

@@ -13,9 +13,10 @@ use borrow.Author.Tests.{leb-true, le-leb}
 use Rattle.cut.specs.Requirement.{sizeMost, Segment}
 use Rattle.cut.specs.declared.Bounds.{Bounds}
 use Rattle.cut.specs.declared.Record.{Record}
-use Rattle.cut.specs.Decision.{both, all, openTests, endedTests, roomAs, room, largest, nothingTests, firstTests, laterTests, aloneTests, alone, possible, Summary, addPart, addTop, summary}
+use Rattle.cut.specs.Decision.{openTests, endedTests, roomAs, room, largest, nothingTests, firstTests, laterTests, aloneTests, alone, possible}
+use Rattle.cut.specs.Kept.{Summary, addPart, addTop, summary}
+use Rattle.cut.specs.Lists.{both, all, pick, Each}
 use Rattle.cut.specs.laws.Segment.{SitsAs, Sits, Within, PartSits}
-use Rattle.cut.specs.Lists.{pick, Each}
 
 -- ---- tests
 

@@ -11,7 +11,7 @@ use Rattle.cut.specs.Lists.{Each, Among}
 use Rattle.cut.specs.laws.Lists.{each-map, each-zip, each-among}
 use Rattle.cut.specs.Requirement.{headerNumbers, bodyNumbers, IsObject, IsCut, Segment, IsSegment, empty, Sends, Fits, Finished}
 use Rattle.cut.specs.declared.Core.the-variants.{Seen}
-use Rattle.cut.specs.Decision.{coreOf}
+use Rattle.cut.specs.Kept.{coreOf}
 use Rattle.cut.specs.laws.Segment.{segment-some}
 use Rattle.cut.specs.laws.Object.{core-is}
 use Rattle.cut.specs.laws.Theorem.{fits-sent, fits-less}

@@ -15,7 +15,7 @@ use Rattle.cut.specs.laws.Lists.{each-map, each-among}
 use Rattle.cut.specs.Requirement.{headerNumbers, bodyNumbers, IsCut, Segment, IsSegment, Sends, Fits, Whole, Finished, bytesOf, joined}
 use Rattle.cut.specs.declared.Core.{Core}
 use Rattle.cut.specs.declared.Core.the-variants.{Unseen, Seen}
-use Rattle.cut.specs.Decision.{Summary, addPart, summary, coreOf}
+use Rattle.cut.specs.Kept.{Summary, addPart, summary, coreOf}
 use Rattle.cut.specs.laws.Segment.{Numbered, among-numbered, numbered-among, same-is, sends-same, sends-sits, sent-holds, sent-ends, past-end}
 use Rattle.cut.specs.laws.Decision.{EndSits, sits-sum}
 use Rattle.cut.specs.laws.Object.{CoreIs, core-is, core-unseen}

@@ -18,7 +18,8 @@ use Rattle.answer.specs.declared.Part.the-variants.{Header, Body}
 use Rattle.cut.specs.declared.Core.{Core}
 use Rattle.cut.specs.declared.Core.the-variants.{Unseen, Seen}
 use Rattle.cut.specs.declared.Bounds.{Bounds}
-use Rattle.cut.specs.Decision.{boundsOf, derived, settle, summary, recordOf, coreOf, coreTests, coreFits, alone, largest, suits}
+use Rattle.cut.specs.Decision.{coreTests, coreFits, alone, largest, suits}
+use Rattle.cut.specs.Kept.{boundsOf, derived, settle, summary, recordOf, coreOf}
 use Rattle.cut.specs.laws.Segment.{PartSits, Sits, sends-sits}
 use Rattle.cut.specs.laws.Decision.{all-true, TopSits, EndSits, SumSits, sits-sum, sum-sits}
 use Rattle.cut.specs.laws.Object.{WithinOf, fits-within, fits-sits, fits-passes, fits-core, sits-object, header-bytes, body-bytes, passes-fits}

@@ -19,14 +19,15 @@ use Rattle.answer.specs.declared.Part.{Part}
 use Rattle.answer.specs.declared.Part.the-variants.{Header, Body}
 use Rattle.cut.specs.declared.Core.{Core}
 use Rattle.cut.specs.declared.Core.the-variants.{Unseen, Seen}
-use Rattle.cut.specs.Decision.{both, summary, coreOf, whole, finished}
+use Rattle.cut.specs.Decision.{whole, finished}
+use Rattle.cut.specs.Kept.{summary, coreOf}
+use Rattle.cut.specs.Lists.{both, Each, Among}
 use Rattle.cut.specs.laws.Segment.{Sits, inside, Numbered, Agree, numbered-among, among-numbered}
 use Rattle.cut.specs.laws.Decision.{Clear, EndSits, both-true, true-both, false-true, sits-sum}
 use Rattle.cut.specs.laws.Object.{fits-within, fits-sits}
 use Rattle.cut.specs.Parts.{those, partOf, cutOf}
 use Rattle.cut.specs.laws.Order.{Knows, knows-each, knows-last, knows-full, EndFrom, TopFrom, end-from, top-from, agree-same}
 use Rattle.cut.specs.laws.Finished.{Counted, finished-iff, finished-core}
-use Rattle.cut.specs.Lists.{Each, Among}
 
 -- 1 + the highest marked number but the last segment's, which is number end - 1, or 0
 abbrev pub topOne : ℕ → Bool → ℕ → ℕ

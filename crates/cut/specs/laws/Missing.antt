@@ -23,8 +23,9 @@ use Rattle.cut.specs.Lists.{pick, Each}
 use Rattle.cut.specs.laws.Lists.{each-map}
 use Rattle.cut.specs.Requirement.{limitMost, sizeMost, bodySize, headerSize, headerNumbers, bodyNumbers, IsCut, Segment, Sends, Fits, Whole, Finished, bytesOf, joined}
 use Rattle.cut.specs.Parts.{headersWith, bodiesWith, those, partOf, cutOf}
-use Rattle.cut.specs.Decision.{addPart, addTop, Summary, summary, coreAfter, coreOf}
-use Rattle.cut.specs.Missing.{sizeShown, lengthBy, lengthFrom, lengthKnown, arrived, lacking, missingOf, isStored, outside, outsideOf, lengthIn, lengthKept, amountKept, amountOf, Narrow, Small}
+use Rattle.cut.specs.Kept.{addPart, addTop, Summary, summary, coreAfter, coreOf}
+use Rattle.cut.specs.Missing.{sizeShown, lengthBy, lengthFrom, lengthKnown, arrived, lacking, missingOf, isStored, outside, outsideOf, amountKept, amountOf}
+use Rattle.cut.specs.MissingKept.{lengthIn, lengthKept, Narrow, Small}
 use Rattle.cut.specs.laws.Segment.{Numbered, SitsAs, Sits}
 use Rattle.cut.specs.laws.Decision.{TopSits, EndSits, SumSits, EndIs, JoinsAs, Clear, sits-sum}
 use Rattle.cut.specs.laws.Object.{CoreIs, core-is, fits-within, fits-sits, fits-passes}

@@ -16,7 +16,8 @@ use Rattle.answer.specs.declared.Part.the-variants.{Header, Body}
 use Rattle.cut.specs.declared.Core.{Core}
 use Rattle.cut.specs.declared.Core.the-variants.{Unseen, Seen}
 use Rattle.cut.specs.declared.Bounds.{Bounds}
-use Rattle.cut.specs.Decision.{boundsOf, coreTests, coreFits, possible, summary, coreOf, suitTests, suits, suitsBoth}
+use Rattle.cut.specs.Decision.{coreTests, coreFits, possible, suitTests, suits, suitsBoth}
+use Rattle.cut.specs.Kept.{boundsOf, summary, coreOf}
 use Rattle.cut.specs.laws.Core.{coreBytes, core-body, core-header, core-is-bytes, front-body, front-header}
 use Rattle.cut.specs.Parts.{those, partOf, cutOf}
 use Rattle.cut.specs.laws.Segment.{Sits, Agree, Within, PartFits, PartSits, sits-fits, sends-agree, sends-sits, sent-holds, sent-bytes, fill, fill-length, fill-bytes, fill-sends, fill-front}

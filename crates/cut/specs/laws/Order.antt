@@ -14,7 +14,7 @@ use Rattle.cut.specs.Requirement.{bodySize, headerSize, Segment, Fits}
 use Rattle.cut.specs.declared.Core.{Core}
 use Rattle.cut.specs.declared.Core.the-variants.{Unseen, Seen}
 use Rattle.cut.specs.declared.Record.{Record}
-use Rattle.cut.specs.Decision.{Summary, addPart, addTop, summary, coreOf}
+use Rattle.cut.specs.Kept.{Summary, addPart, addTop, summary, coreOf}
 use Rattle.cut.specs.laws.Segment.{Numbered, Same, Agree, same-is, among-numbered}
 use Rattle.cut.specs.laws.Decision.{SizeIs, EndIs, JoinsAs, Clear}
 use Rattle.cut.specs.laws.Object.{fits-passes}

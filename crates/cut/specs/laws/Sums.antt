@@ -17,14 +17,15 @@ use Rattle.cut.specs.declared.Core.{Core}
 use Rattle.cut.specs.declared.Bounds.{Bounds}
 use Rattle.cut.specs.declared.Record.{Record}
 use Rattle.cut.specs.Parts.{headersWith, bodiesWith, those, otherPart}
-use Rattle.cut.specs.Decision.{both, all, boundsOf, coreFits, endedTests, room, alone, possible, addPart, addTop, summary, joins, someFull, settle, recordOf, coreAfter, coreWith, coreOf, suits, suitTests, accepts, openTests, roomAs}
+use Rattle.cut.specs.Decision.{coreFits, endedTests, room, alone, possible, joins, suits, suitTests, accepts, openTests, roomAs}
+use Rattle.cut.specs.Kept.{boundsOf, addPart, addTop, summary, someFull, settle, recordOf, coreAfter, coreWith, coreOf}
+use Rattle.cut.specs.Lists.{both, all, pick, Each, Bytes}
 use Rattle.cut.specs.Sums.{ended, fullIn, possibleIn, acceptsIn, fitsIn, takes}
 use Rattle.cut.specs.laws.Segment.{Numbered, Agree}
 use Rattle.cut.specs.laws.Decision.{Clear, all-true}
 use Rattle.cut.specs.laws.Object.{Passes, fits-passes}
 use Rattle.cut.specs.laws.Theorem.{end-numbered, accepted}
 use Rattle.cut.specs.laws.Marks.{total-some, topFrom, Marked, top-kept, top-open, top-ended}
-use Rattle.cut.specs.Lists.{pick, Each, Bytes}
 
 -- a number is below a bound, by a sum
 by-sum : (t b x y : ℕ) → (t ≤ b) ↔ (x ≡ y) → leb t b ≡ eqb x y

@@ -14,12 +14,13 @@ use Rattle.cut.specs.Requirement.{limitMost, Segment, Sends, Fits}
 use Rattle.answer.specs.declared.Part.{Part}
 use Rattle.answer.specs.declared.Part.the-variants.{Header, Body}
 use Rattle.cut.specs.declared.Record.{Record}
-use Rattle.cut.specs.Decision.{both, boundsOf, coreFits, alone, joins, someFull, Summary, addTo, summary, coreOf, suits, accepts}
+use Rattle.cut.specs.Decision.{coreFits, alone, joins, suits, accepts}
+use Rattle.cut.specs.Kept.{boundsOf, someFull, Summary, addTo, summary, coreOf}
+use Rattle.cut.specs.Lists.{both, Each, Among, Bytes}
 use Rattle.cut.specs.laws.Segment.{Numbered, same-is, sends-same, agree-new}
 use Rattle.cut.specs.laws.Decision.{JoinsAs, SizeIs, EndIs, both-true, true-both}
 use Rattle.cut.specs.laws.Object.{Passes, fits-passes, passes-fits, header-bytes, body-bytes}
 use Rattle.cut.specs.Parts.{headersWith, bodiesWith, those}
-use Rattle.cut.specs.Lists.{Each, Among, Bytes}
 
 -- nothing at all always fits: a first segment is looked at alone
 pub nothing-fits : (limit : ℕ) → limit ≤ limitMost → Fits limit [] []

@@ -20,8 +20,7 @@ use Rattle.wire.specs.declared.Reading.the-variants.{Read, Refused}
 use Rattle.wire.specs.Reading.{readingOf}
 use Rattle.cut.specs.laws.Lists.{bytes-zeros}
 use Rattle.cut.specs.Requirement.{headerMost, limitLeast}
-use Rattle.cut.specs.Decision.{both}
-use Rattle.cut.specs.Lists.{pick}
+use Rattle.cut.specs.Lists.{both, pick}
 use Rattle.slots.specs.declared.Found.{Found}
 use Rattle.slots.specs.declared.Found.the-variants.{Nothing, At}
 use Rattle.slots.specs.Stores.{slotsMost, Stores}

@@ -31,7 +31,8 @@ use Rattle.object.specs.declared.Decided.{Decided}
 use Rattle.object.specs.declared.Decided.the-variants as Decided
 use Rattle.object.specs.Take.{decided, partsWith, outcomeBy, Taken, unchanged, takenBy, takeInto}
 use Rattle.object.specs.laws.Decided.{ifNew}
-use Rattle.object.specs.Parts.{Lent, partsOf, stageOf}
+use Rattle.object.specs.Parts.{Lent, partsOf}
+use Rattle.object.specs.Stage.{stageOf}
 use Rattle.slots.specs.declared.Found.{Found}
 use Rattle.slots.specs.declared.Found.the-variants.{Nothing, At}
 use Rattle.slots.specs.Stores.{freeSlot, freshSlot, slotAt}

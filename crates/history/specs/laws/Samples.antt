@@ -16,20 +16,24 @@ use Rattle.wire.specs.declared.Reading.the-variants.{Read}
 use Rattle.wire.specs.Reading.{kindOf, checkHolds, sizeWrong, segmentOf, readingOf, addressOf}
 use Rattle.cut.specs.laws.Lists.{bytes-zeros}
 use Rattle.cut.specs.Requirement.{bodySize, headerSize, contentType, contentSubType, Segment, joined}
-use Rattle.cut.specs.Decision.{boundsOf, coreFits, room, largest, alone, settle}
+use Rattle.cut.specs.Decision.{coreFits, room, largest, alone}
+use Rattle.cut.specs.Kept.{boundsOf, settle}
 use Rattle.cut.specs.Sums.{possibleIn, fitsIn}
-use Rattle.cut.specs.Missing.{missingOf, outside, missingBy}
+use Rattle.cut.specs.Missing.{missingOf, outside}
+use Rattle.cut.specs.MissingKept.{missingBy}
 use Rattle.cut.specs.laws.Segment.{Numbered}
 use Rattle.cut.specs.laws.Finished.{whole-numbers}
 use Rattle.cut.specs.Lists.{Each, Among}
 use Rattle.header.specs.Parameters.{lengthAt, parameterAt, within as inHeader, foundAt, turns, parametersFrom, widthFits, allFit, single, count, twice, find as findParameter, fieldsOf, judged, readHeader}
 use Rattle.header.specs.Names.{unslashed, nameMatches, nameData, hasName}
-use Rattle.part.specs.Memory.{segmentAt, settled, put}
+use Rattle.part.specs.Memory.{segmentAt}
+use Rattle.part.specs.Moves.{settled, put}
 use Rattle.object.specs.Take.{takesIn, decided, partsWith, slotWith, takeInto}
 use Rattle.part.specs.Asked.{recordWith, recordWithin, sameSegment, recordRight, soundPart}
 use Rattle.object.specs.Sound.{soundParts, soundSlot}
 use Rattle.object.specs.Source.{Source, SegmentOf, SentBy}
-use Rattle.object.specs.Parts.{partsOf, lentOf, coreIn, stageOf, missingIn}
+use Rattle.object.specs.Parts.{partsOf, lentOf}
+use Rattle.object.specs.Stage.{coreIn, stageOf, missingIn}
 use Rattle.slots.specs.Alone.{fitsAlone}
 use Rattle.slots.specs.Find.{isFree, holds, firstFrom, findIn, freeIn}
 use Rattle.slots.specs.State.{withinLimits, heldAmong, unlike, distinct, rightSlot, rightFrom, soundSlots}

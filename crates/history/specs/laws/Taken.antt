@@ -32,7 +32,8 @@ use Rattle.object.specs.laws.Held.{Gathers, Holds, Vacant, Added}
 use Rattle.object.specs.laws.Step.{Tells, outcome-tells, conflict-exactly}
 use Rattle.object.specs.laws.StepSound.{vacant-gathers}
 use Rattle.object.specs.laws.StateExact.{sound-holds}
-use Rattle.object.specs.Parts.{Lent, partsOf, stageOf}
+use Rattle.object.specs.Parts.{Lent, partsOf}
+use Rattle.object.specs.Stage.{stageOf}
 use Rattle.slots.specs.Stores.{slotMarks, freshSlot}
 use Rattle.slots.specs.Find.{freeStage, isFree}
 use Rattle.slots.specs.Alone.{fitsAlone}

@@ -15,8 +15,7 @@ use Rattle.answer.specs.laws.Table.{reason-from}
 use Rattle.counts.specs.declared.Counts.{Counts}
 use Rattle.counts.specs.Counted.{ceiling, risen, counted}
 use Rattle.wire.specs.declared.Reading.the-variants.{Refused}
-use Rattle.cut.specs.Lists.{pick}
-use Rattle.cut.specs.Decision.{both}
+use Rattle.cut.specs.Lists.{pick, both}
 use Rattle.slots.specs.declared.Found.{Found}
 use Rattle.slots.specs.declared.Found.the-variants.{Nothing, At}
 use Rattle.collector.specs.State.{Start, Reply, State, find}

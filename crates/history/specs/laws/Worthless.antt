@@ -32,9 +32,8 @@ use Rattle.wire.specs.declared.Reading.{Reading}
 use Rattle.cut.specs.Requirement as cut
 use Rattle.cut.specs.Requirement.{Segment, Fits, Finished}
 use Rattle.cut.specs.laws.Segment.{sends-sits, sent-ends, inside}
-use Rattle.cut.specs.Decision.{both}
+use Rattle.cut.specs.Lists.{both, Among, pick}
 use Rattle.cut.specs.laws.Decision.{false-true}
-use Rattle.cut.specs.Lists.{Among, pick}
 use Rattle.object.specs.Source.{SegmentOf}
 use Rattle.object.specs.declared.Slot.{Slot}
 use Rattle.object.specs.declared.Stage.{Stage}

@@ -11,7 +11,7 @@ use lib.ListN.{length, getD, set, take, drop, length-append, length-take, length
 use lib.Seq.{take-at, drop-drop, take-suc-set, drop-cons, append-snoc}
 use Rattle.octets.specs.Octets.{over}
 use Rattle.octets.specs.laws.Over.{over-exact, over-length}
-use Rattle.cut.specs.Decision.{both}
+use Rattle.cut.specs.Lists.{both}
 use Rattle.object.specs.declared.Slot.{Slot}
 use Rattle.layout.specs.Layout.{five, slotWords, slotsWords, slotIn, slotsFrom, slotReadable, readableFrom}
 

@@ -5,13 +5,14 @@ use mathlib.Core.Bool.{true, false}
 use borrow.Author.Tests.{not-true, not-false, leb-true}
 use Rattle.cut.specs.Requirement.{Segment, segment}
 use Rattle.cut.specs.Parts.{otherPart}
-use Rattle.cut.specs.Decision.{coreWith}
+use Rattle.cut.specs.Kept.{coreWith}
 use Rattle.object.specs.declared.Tally.{Tally}
 use Rattle.object.specs.laws.Decided.{said, tallied-total, decided-held, decided-new}
 use borrow.Author.Needs.{needs}
 use Rattle.object.proofs.decide.Statement.{statement}
 use Rattle.object.proofs.decide.Tie as tie
-use Rattle.object.specs.Parts.{Lent, shares, partsOf, coreIn}
+use Rattle.object.specs.Parts.{Lent, shares, partsOf}
+use Rattle.object.specs.Stage.{coreIn}
 
 marks-of-requires : tie.Need-marks-of-requires
 marks-of-requires c κs = search needs

@@ -9,8 +9,10 @@ use Rattle.cut.specs.declared.Amount.the-variants.{Known}
 use Rattle.cut.specs.declared.Core.{Core}
 use Rattle.cut.specs.declared.Core.the-variants.{Unseen, Seen}
 use Rattle.cut.specs.declared.Record.{Record}
-use Rattle.cut.specs.Decision.{both, whole, finished}
-use Rattle.cut.specs.Missing.{lengthIn, lengthKept, arrivedKept, missingBy, amountKept}
+use Rattle.cut.specs.Decision.{whole, finished}
+use Rattle.cut.specs.Lists.{both}
+use Rattle.cut.specs.Missing.{amountKept}
+use Rattle.cut.specs.MissingKept.{lengthIn, lengthKept, arrivedKept, missingBy}
 
 pub finished-empty : (c : Core) (B H h b : ℕ) (p q : Record) → c ≡ Seen B H → B ≡ 0 → whole h p ≡ finished c h p b q
 finished-empty c B H h b p q e z = rw (e, z) refl

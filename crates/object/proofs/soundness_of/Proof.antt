@@ -9,7 +9,8 @@ use Rattle.object.proofs.Laws.{counted, right-bits}
 use borrow.Author.Needs.{needs}
 use Rattle.object.proofs.soundness_of.Statement.{statement}
 use Rattle.object.proofs.soundness_of.Tie as tie
-use Rattle.object.specs.Parts.{marksOf, partsOf, coreIn, stageOf, missingIn}
+use Rattle.object.specs.Parts.{marksOf, partsOf}
+use Rattle.object.specs.Stage.{coreIn, stageOf, missingIn}
 use Rattle.object.specs.laws.Inside.{marks-bits, right-small}
 
 marks-right-requires : tie.Need-marks-right-requires

@@ -5,7 +5,7 @@ use native.Mathlib.Omega.{arith}
 use Rattle.answer.specs.declared.Part.the-variants.{Header}
 use Rattle.object.specs.Take.{slotWith}
 use Rattle.object.specs.laws.Inside.{marks-length}
-use Rattle.object.specs.Parts.{coreIn, stageOf, missingIn}
+use Rattle.object.specs.Stage.{coreIn, stageOf, missingIn}
 use borrow.Author.Needs.{needs}
 use Rattle.object.proofs.staged.Statement.{statement}
 use Rattle.object.proofs.staged.Tie as tie

@@ -8,7 +8,8 @@ use lib.Seq.{take-all}
 use borrow.Rule.Slice.PartMut.{putMid}
 use Rattle.answer.specs.declared.Part.the-variants.{Header, Body}
 use Rattle.cut.specs.Requirement.{headerNumbers, Segment, segment}
-use Rattle.part.specs.Memory.{Memory, settled, put}
+use Rattle.part.specs.Memory.{Memory}
+use Rattle.part.specs.Moves.{settled, put}
 use Rattle.object.specs.Asked.{Fitting}
 use Rattle.object.specs.laws.Stored.{record-is, number-small, can-move, can-put, own-small, still-is, still-move, summed-header, summed-body, stored-header, stored-body}
 use Rattle.object.specs.laws.Inside.{lent-bits, after-small, still-small, header-small}

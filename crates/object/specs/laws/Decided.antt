@@ -12,7 +12,7 @@ use Rattle.answer.specs.declared.Part.the-variants.{Header, Body}
 use Rattle.cut.specs.Requirement.{Segment}
 use Rattle.cut.specs.declared.Core.{Core}
 use Rattle.cut.specs.Parts.{otherPart}
-use Rattle.cut.specs.Decision.{coreWith}
+use Rattle.cut.specs.Kept.{coreWith}
 use Rattle.cut.specs.Sums.{takes}
 use Rattle.cut.specs.Lists.{pick}
 use Rattle.part.specs.Memory.{memory, segmentAt}
@@ -26,7 +26,8 @@ use Rattle.object.specs.Sound.{soundSlot}
 use Rattle.object.specs.Take.{Taken, takesIn, decidedHeld, decidedNew, decidedBy, decided, takenBy, takeInto}
 use Rattle.object.specs.Asked.{tallyOf, totalIn, soundness, Readable, Offered, Fitting}
 use Rattle.object.specs.laws.Inside.{marked-inside, lent-shaped, lent-bits}
-use Rattle.object.specs.Parts.{Lent, partsOf, keptOf, marksOf, shareOf, memoryOf, coreIn}
+use Rattle.object.specs.Parts.{Lent, partsOf, keptOf, marksOf, shareOf, memoryOf}
+use Rattle.object.specs.Stage.{coreIn}
 
 -- ---- what is taken: of a number that is not marked, of one that is, and by the mark
 

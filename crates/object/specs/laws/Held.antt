@@ -7,7 +7,7 @@ use Rattle.octets.specs.Octets.{sumOf}
 use Rattle.answer.specs.declared.Part.{Part}
 use Rattle.answer.specs.declared.Part.the-variants.{Header, Body}
 use Rattle.cut.specs.Requirement.{headerNumbers, bodyNumbers, Segment, Fits, joined}
-use Rattle.cut.specs.Decision.{boundsOf, coreOf}
+use Rattle.cut.specs.Kept.{boundsOf, coreOf}
 use Rattle.cut.specs.Missing.{missingOf, amountKept}
 use Rattle.cut.specs.laws.Segment.{Numbered}
 use Rattle.cut.specs.Parts.{headersWith, bodiesWith, those}

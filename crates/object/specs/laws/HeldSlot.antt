@@ -18,7 +18,7 @@ use Rattle.cut.specs.declared.Core.{Core}
 use Rattle.cut.specs.declared.Core.the-variants.{Unseen, Seen}
 use Rattle.cut.specs.declared.Bounds.{Bounds}
 use Rattle.cut.specs.declared.Record.{Record}
-use Rattle.cut.specs.Decision.{boundsOf, addPart, addTop, summary, someFull, settle, recordOf, coreAfter, coreOf}
+use Rattle.cut.specs.Kept.{boundsOf, addPart, addTop, summary, someFull, settle, recordOf, coreAfter, coreOf}
 use Rattle.cut.specs.laws.Core.{front-body, front-header}
 use Rattle.cut.specs.laws.Segment.{SitsAs, Sits, Numbered, Agree, sent-number}
 use Rattle.cut.specs.laws.Decision.{Clear}
@@ -30,13 +30,15 @@ use Rattle.cut.specs.Sums.{fullIn}
 use Rattle.cut.specs.laws.Sums.{full-kept, settle-again, settle-full, settle-last, taken}
 use Rattle.cut.specs.laws.Theorem.{fits-less}
 use Rattle.cut.specs.Lists.{pick, Each, Bytes}
-use Rattle.part.specs.Memory.{Memory, placeOf, segmentAt, settled, put}
+use Rattle.part.specs.Memory.{Memory, placeOf, segmentAt}
+use Rattle.part.specs.Moves.{settled, put}
 use Rattle.object.specs.Take.{takesIn, partsWith}
 use Rattle.part.specs.Asked.{recordWith, recordWithin}
 use Rattle.object.specs.laws.Shape.{Shaped}
 use Rattle.object.specs.laws.Inside.{bounds-most, share-width}
 use Rattle.object.specs.laws.Held.{Gathers}
-use Rattle.object.specs.Parts.{Parts, memoryOf, coreIn}
+use Rattle.object.specs.Parts.{Parts, memoryOf}
+use Rattle.object.specs.Stage.{coreIn}
 use Rattle.part.specs.laws.Keeps.{LaidAs, Laid, Keeps}
 use Rattle.part.specs.laws.Step.{Room, Met, reads, settled-length, settled-keeps, put-length, put-keeps}
 

@@ -18,11 +18,13 @@ use Rattle.cut.specs.declared.Core.{Core}
 use Rattle.cut.specs.declared.Core.the-variants.{Unseen, Seen}
 use Rattle.cut.specs.declared.Bounds.{Bounds}
 use Rattle.cut.specs.declared.Record.{Record}
-use Rattle.cut.specs.Decision.{boundsOf, coreTests, coreFits, coreAfter, coreWith}
+use Rattle.cut.specs.Decision.{coreTests, coreFits}
+use Rattle.cut.specs.Kept.{boundsOf, coreAfter, coreWith}
 use Rattle.cut.specs.laws.Decision.{Suits, both-true, all-true}
 use Rattle.cut.specs.Parts.{otherPart}
 use Rattle.cut.specs.Sums.{possibleIn, fitsIn}
-use Rattle.cut.specs.Missing.{amountKept, Small}
+use Rattle.cut.specs.Missing.{amountKept}
+use Rattle.cut.specs.MissingKept.{Small}
 use Rattle.cut.specs.Lists.{Each}
 use Rattle.object.specs.declared.Slot.{Slot}
 use Rattle.object.specs.declared.Stage.{Stage}
@@ -32,7 +34,8 @@ use Rattle.part.specs.Asked.{soundPart, recordWith, recordWithin, recordRight}
 use Rattle.part.specs.laws.Inside.{Placed, Moves, sits-before, each-bit, topIn, right-suits, size-known, marked-sits, sits-number, placed, fits-placed, fits-moves, fits-suited, within-moves, within-suited, right-suited, suited-small}
 use Rattle.object.specs.Sound.{marksRight, sameStage, soundParts, soundSlot}
 use Rattle.object.specs.laws.Shape.{widthOf, numbersOf, Shaped, Bits}
-use Rattle.object.specs.Parts.{marksOf, Lent, Parts, partsOf, memoryOf, coreIn, stageOf, missingIn}
+use Rattle.object.specs.Parts.{marksOf, Lent, Parts, partsOf, memoryOf}
+use Rattle.object.specs.Stage.{coreIn, stageOf, missingIn}
 
 -- ---- the bounds of a part are those of its share
 

@@ -15,7 +15,7 @@ use Rattle.answer.specs.declared.Part.the-variants.{Header, Body}
 use Rattle.cut.specs.laws.Lists.{each-map, each-zip, each-zip3}
 use Rattle.cut.specs.Requirement.{limitMost, IsCut, Segment, Sends, Fits, Whole, Finished}
 use Rattle.cut.specs.declared.Bounds.{Bounds}
-use Rattle.cut.specs.Decision.{boundsOf, coreOf}
+use Rattle.cut.specs.Kept.{boundsOf, coreOf}
 use Rattle.cut.specs.laws.Segment.{Sits, Stands, inside, none-first, sits-sends, Numbered}
 use Rattle.cut.specs.Parts.{those, partOf, cutOf}
 use Rattle.cut.specs.laws.Finished.{whole-numbers, part-joined, finished-joined, finished-every, finished-one}

@@ -12,14 +12,16 @@ use Rattle.answer.specs.declared.Part.the-variants.{Header, Body}
 use Rattle.cut.specs.Requirement.{headerLeast, headerMost}
 use Rattle.cut.specs.declared.Core.{Core}
 use Rattle.cut.specs.declared.Core.the-variants.{Unseen, Seen}
-use Rattle.cut.specs.Decision.{boundsOf, coreTests, coreFits, finished}
+use Rattle.cut.specs.Decision.{coreTests, coreFits, finished}
+use Rattle.cut.specs.Kept.{boundsOf}
 use Rattle.cut.specs.laws.Decision.{both-true, all-true, false-true}
 use Rattle.object.specs.declared.Stage.{Stage}
 use Rattle.object.specs.declared.Stage.the-variants.{Free, Gathering, Finished}
 use Rattle.object.specs.Sound.{sameStage, soundParts}
 use Rattle.part.specs.Asked.{soundPart}
 use Rattle.object.specs.laws.Inside.{sound-right}
-use Rattle.object.specs.Parts.{Parts, coreIn, stageBy, stageOf}
+use Rattle.object.specs.Parts.{Parts}
+use Rattle.object.specs.Stage.{coreIn, stageBy, stageOf}
 
 pub same-stage : (x y : Stage) → sameStage x y ≡ true → x ≡ y
 same-stage Free Free e = refl

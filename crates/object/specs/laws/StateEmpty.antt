@@ -8,7 +8,7 @@ use Rattle.answer.specs.declared.Part.the-variants.{Header, Body}
 use Rattle.cut.specs.Requirement.{empty}
 use Rattle.cut.specs.declared.Core.the-variants.{Seen}
 use Rattle.cut.specs.declared.Record.{Record}
-use Rattle.cut.specs.Decision.{settle, coreOf}
+use Rattle.cut.specs.Kept.{settle, coreOf}
 use Rattle.cut.specs.Lists.{Among}
 use Rattle.cut.specs.laws.Segment.{Numbered}
 use Rattle.cut.specs.laws.Theorem.{end-numbered}

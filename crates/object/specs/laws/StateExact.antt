@@ -17,7 +17,7 @@ use Rattle.cut.specs.Requirement.{limitMost, headerNumbers, Segment}
 use Rattle.cut.specs.laws.Decision.{true-both, true-all}
 use Rattle.cut.specs.laws.Segment.{Numbered}
 use Rattle.cut.specs.Parts.{those, partOf, cutOf}
-use Rattle.cut.specs.Decision.{boundsOf, summary, recordOf, coreOf}
+use Rattle.cut.specs.Kept.{boundsOf, summary, recordOf, coreOf}
 use Rattle.cut.specs.laws.Marks.{total-some}
 use Rattle.cut.specs.Missing.{amountKept}
 use Rattle.cut.specs.Lists.{Each}
@@ -38,7 +38,8 @@ use Rattle.object.specs.laws.HeldSlot.{fits-room, part-keeps}
 use Rattle.object.specs.laws.StepStage.{stage-right, stage-one}
 use Rattle.object.specs.laws.StepMissing.{missing-right}
 use Rattle.object.specs.laws.StateParts.{sound-gathers, gathers-passes}
-use Rattle.object.specs.Parts.{Lent, Parts, partsOf, memoryOf, stageOf, missingIn}
+use Rattle.object.specs.Parts.{Lent, Parts, partsOf, memoryOf}
+use Rattle.object.specs.Stage.{stageOf, missingIn}
 
 -- ---- marks
 

@@ -14,7 +14,8 @@ use Rattle.cut.specs.Requirement.{headerLeast, limitMost, Segment}
 use Rattle.cut.specs.declared.Core.{Core}
 use Rattle.cut.specs.declared.Core.the-variants.{Unseen, Seen}
 use Rattle.cut.specs.declared.Bounds.{Bounds}
-use Rattle.cut.specs.Decision.{someFull, boundsOf, coreTests, coreFits, possible, derived, settle, summary, recordOf, coreOf, suitTests, suits}
+use Rattle.cut.specs.Decision.{coreTests, coreFits, possible, suitTests, suits}
+use Rattle.cut.specs.Kept.{someFull, boundsOf, derived, settle, summary, recordOf, coreOf}
 use Rattle.cut.specs.laws.Segment.{Sits, among-numbered}
 use Rattle.cut.specs.laws.Decision.{Clear, all-true, true-all, true-both, sits-possible}
 use Rattle.cut.specs.laws.Object.{WithinOf, Passes, passes-fits}
@@ -35,7 +36,8 @@ use Rattle.object.specs.laws.Held.{Gathers}
 use Rattle.part.specs.laws.Keeps.{Laid, Keeps}
 use Rattle.part.specs.laws.Held.{held-reads, held-marked, reads-same, reads-agree}
 use Rattle.object.specs.laws.HeldSlot.{part-keeps, part-reads, core-laid, core-read, full-read}
-use Rattle.object.specs.Parts.{Parts, memoryOf, coreIn, stageOf}
+use Rattle.object.specs.Parts.{Parts, memoryOf}
+use Rattle.object.specs.Stage.{coreIn, stageOf}
 use Rattle.part.specs.laws.Sound.{cut, long, within, held-sits, held-laid, held-record}
 
 -- ---- the tests pass: the marked segments are held

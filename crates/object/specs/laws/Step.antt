@@ -36,7 +36,8 @@ use Rattle.part.specs.laws.Held.{at-number, at-among}
 use Rattle.object.specs.laws.HeldSlot.{part-keeps, part-reads, takes-fits, next-gathers}
 use Rattle.object.specs.laws.StepStage.{stage-right}
 use Rattle.object.specs.laws.StepMissing.{missing-right}
-use Rattle.object.specs.Parts.{Lent, Parts, partsOf, lentOf, memoryOf, stageOf}
+use Rattle.object.specs.Parts.{Lent, Parts, partsOf, lentOf, memoryOf}
+use Rattle.object.specs.Stage.{stageOf}
 
 -- ---- the same segment
 

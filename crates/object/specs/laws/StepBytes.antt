@@ -15,9 +15,10 @@ use Rattle.answer.specs.declared.Part.{Part}
 use Rattle.answer.specs.declared.Part.the-variants.{Header, Body}
 use Rattle.cut.specs.Requirement.{headerNumbers, bodyNumbers, Segment}
 use Rattle.cut.specs.declared.Record.{Record}
-use Rattle.cut.specs.Decision.{boundsOf, coreAfter}
+use Rattle.cut.specs.Kept.{boundsOf, coreAfter}
 use Rattle.object.specs.declared.Slot.{Slot}
-use Rattle.part.specs.Memory.{Memory, placeOf, segmentAt, movedAs, settled, put}
+use Rattle.part.specs.Memory.{Memory, placeOf, segmentAt}
+use Rattle.part.specs.Moves.{movedAs, settled, put}
 use Rattle.object.specs.Take.{takesIn, partsWith, slotWith, takeInto, recordAfter}
 use Rattle.object.specs.laws.Decided.{ifNew, ifHeld, byMark, take-by-mark}
 use Rattle.part.specs.Asked.{recordWithin, sameSegment}
@@ -26,7 +27,8 @@ use Rattle.part.specs.laws.Inside.{Placed, Moves}
 use Rattle.object.specs.laws.Step.{parts-back}
 use Rattle.part.specs.laws.Bytes.{tail-length}
 use Rattle.object.specs.laws.Inside.{takes-inside, settled-inside, body-inside}
-use Rattle.object.specs.Parts.{Lent, Parts, partsOf, lentOf, memoryOf, coreIn, keptOf, shareOf}
+use Rattle.object.specs.Parts.{Lent, Parts, partsOf, lentOf, memoryOf, keptOf, shareOf}
+use Rattle.object.specs.Stage.{coreIn}
 
 -- ---- one byte under a run that is laid over a list
 

@@ -8,7 +8,8 @@ use Rattle.cut.specs.Missing.{missingOf}
 use Rattle.cut.specs.laws.Arrived.{missing-kept}
 use Rattle.object.specs.laws.Held.{Gathers}
 use Rattle.object.specs.laws.HeldSlot.{core-read}
-use Rattle.object.specs.Parts.{Parts, missingIn}
+use Rattle.object.specs.Parts.{Parts}
+use Rattle.object.specs.Stage.{missingIn}
 
 -- the number that the parts give is the one that the segments give
 pub missing-right : (limit : ℕ) (ps : Parts) (hs bs : List Segment) → Gathers limit ps hs bs

@@ -15,7 +15,7 @@ use Rattle.cut.specs.laws.Lists.{bytes-take, bytes-drop, over-bytes}
 use Rattle.cut.specs.Requirement.{headerNumbers, limitMost, Segment}
 use Rattle.cut.specs.declared.Bounds.{Bounds}
 use Rattle.cut.specs.declared.Record.{Record}
-use Rattle.cut.specs.Decision.{boundsOf, settle, coreAfter}
+use Rattle.cut.specs.Kept.{boundsOf, settle, coreAfter}
 use Rattle.cut.specs.declared.Core.the-variants.{Unseen}
 use Rattle.cut.specs.laws.Segment.{Numbered}
 use Rattle.cut.specs.Parts.{headersWith, bodiesWith, those}
@@ -25,7 +25,8 @@ use Rattle.cut.specs.Lists.{Each, Bytes}
 use Rattle.object.specs.declared.Slot.{Slot}
 use Rattle.object.specs.declared.Outcome.{Outcome}
 use Rattle.object.specs.declared.Outcome.the-variants.{Stored, Complete, Repeat, Conflict}
-use Rattle.part.specs.Memory.{Memory, placeOf, movedAs, settled, put}
+use Rattle.part.specs.Memory.{Memory, placeOf}
+use Rattle.part.specs.Moves.{movedAs, settled, put}
 use Rattle.object.specs.Take.{partsWith, Taken, unchanged, decided, takenBy, takeInto}
 use Rattle.object.specs.declared.Decided.{Decided}
 use Rattle.object.specs.declared.Decided.the-variants as Decided
@@ -37,7 +38,8 @@ use Rattle.object.specs.laws.Held.{Gathers, Vacant, Added}
 use Rattle.part.specs.laws.Keeps.{Keeps}
 use Rattle.object.specs.laws.Step.{Tells, outcome-tells}
 use Rattle.object.specs.laws.StateExact.{holds-sound}
-use Rattle.object.specs.Parts.{Lent, Parts, partsOf, lentOf, coreIn}
+use Rattle.object.specs.Parts.{Lent, Parts, partsOf, lentOf}
+use Rattle.object.specs.Stage.{coreIn}
 
 -- ---- a slot that holds nothing yet
 

@@ -11,7 +11,8 @@ use Rattle.cut.specs.Requirement.{Segment, Fits, Finished}
 use Rattle.cut.specs.declared.Core.{Core}
 use Rattle.cut.specs.declared.Core.the-variants.{Unseen, Seen}
 use Rattle.cut.specs.declared.Bounds.{Bounds}
-use Rattle.cut.specs.Decision.{settle, Summary, summary, recordOf, coreOf, finished}
+use Rattle.cut.specs.Decision.{finished}
+use Rattle.cut.specs.Kept.{settle, Summary, summary, recordOf, coreOf}
 use Rattle.cut.specs.laws.Decision.{false-true}
 use Rattle.cut.specs.laws.Finished.{finished-core, finished-every, finished-one}
 use Rattle.cut.specs.laws.Marks.{finished-marked}
@@ -21,7 +22,8 @@ use Rattle.object.specs.declared.Stage.the-variants as Stage
 use Rattle.object.specs.laws.Held.{Gathers, Holds}
 use Rattle.object.specs.State.{StageFor}
 use Rattle.object.specs.laws.HeldSlot.{core-read}
-use Rattle.object.specs.Parts.{Lent, Parts, stageBy, stageOf}
+use Rattle.object.specs.Parts.{Lent, Parts}
+use Rattle.object.specs.Stage.{stageBy, stageOf}
 
 -- only the ends of the records play a part
 finished-kept : (core : Core) (b c : Bounds) (σ τ : Summary) (h k : ℕ) → finished core h (recordOf b σ) k (recordOf c τ)

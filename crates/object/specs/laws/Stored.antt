@@ -12,8 +12,9 @@ use Rattle.answer.specs.declared.Part.the-variants.{Header, Body}
 use Rattle.cut.specs.Requirement.{headerNumbers, bodyNumbers, Segment}
 use Rattle.cut.specs.declared.Core.{Core}
 use Rattle.cut.specs.declared.Record.{Record}
-use Rattle.cut.specs.Decision.{boundsOf, coreWith}
-use Rattle.part.specs.Memory.{Memory, memory, movedAs, settled, put}
+use Rattle.cut.specs.Kept.{boundsOf, coreWith}
+use Rattle.part.specs.Memory.{Memory, memory}
+use Rattle.part.specs.Moves.{movedAs, settled, put}
 use Rattle.part.specs.Asked.{recordAdding, recordWith, recordSettled, recordWithin, CanMove, CanPut}
 use Rattle.object.specs.declared.Slot.{Slot}
 use Rattle.object.specs.declared.Tally.{Tally}
@@ -23,7 +24,8 @@ use Rattle.object.specs.Asked.{totalIn, Summed, Fitting}
 use Rattle.object.specs.laws.Shape.{numbersOf, Shaped}
 use Rattle.object.specs.laws.Inside.{numbers-most, marks-length, takes-inside, settled-inside, body-inside, lent-shaped, lent-bits}
 use Rattle.object.specs.laws.Decided.{memory-is, tallied-total}
-use Rattle.object.specs.Parts.{Lent, shares, partsBy, partsOf, lentOf, keptOf, marksOf, memoryOf, coreIn, stageOf, missingIn}
+use Rattle.object.specs.Parts.{Lent, shares, partsBy, partsOf, lentOf, keptOf, marksOf, memoryOf}
+use Rattle.object.specs.Stage.{coreIn, stageOf, missingIn}
 
 -- ---- what the code asks of a segment that fits
 

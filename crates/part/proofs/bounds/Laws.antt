@@ -13,9 +13,9 @@ use borrow.Author.Tests.{leb-true, le-leb, lt-leb, lt-ltb, le-ltb}
 use Rattle.cut.specs.Requirement.{sizeLeast, sizeMost}
 use Rattle.cut.specs.declared.Bounds.{Bounds}
 use Rattle.cut.specs.declared.Record.{Record}
-use Rattle.cut.specs.Decision.{all, openTests, endedTests, roomOpen, roomEnded, roomAs, room, laterTests, aloneTests, possible}
+use Rattle.cut.specs.Decision.{openTests, endedTests, roomOpen, roomEnded, roomAs, room, laterTests, aloneTests, possible}
+use Rattle.cut.specs.Lists.{all, Each}
 use Rattle.cut.specs.laws.Decision.{some-fails, true-all, pick-fails}
-use Rattle.cut.specs.Lists.{Each}
 
 pub refused : (bs : List Bool) → ¬ (Each (λ b. b ≡ true) bs) → false ≡ all bs
 refused bs h = sym (some-fails bs h)

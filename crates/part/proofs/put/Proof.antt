@@ -8,7 +8,8 @@ use lib.ListN.{length, set}
 use borrow.Rule.Slice.PartMut.{putMid}
 use Rattle.octets.specs.Octets.{over}
 use Rattle.octets.specs.laws.Over.{over-start}
-use Rattle.part.specs.Memory.{placeOf, settled, put}
+use Rattle.part.specs.Memory.{placeOf}
+use Rattle.part.specs.Moves.{settled, put}
 use Rattle.part.specs.laws.Inside.{place-lies}
 use borrow.Author.Needs.{needs}
 use Rattle.part.proofs.put.Statement.{statement}

@@ -9,11 +9,12 @@ use lib.Dec.{eqb}
 use borrow.Author.Tests.{le-leb, ne-eqb, eq-eqb}
 use Rattle.cut.specs.declared.Bounds.{Bounds}
 use Rattle.cut.specs.declared.Record.{Record}
-use Rattle.cut.specs.Decision.{whole, divided, derived}
+use Rattle.cut.specs.Decision.{whole}
+use Rattle.cut.specs.Kept.{divided, derived}
 use Rattle.cut.specs.Lists.{pick}
 use Rattle.cut.specs.declared.Amount.the-variants.{Unknown, Known}
 use Rattle.cut.specs.Requirement.{sizeMost}
-use Rattle.cut.specs.Missing.{lengthIn, arrivedIn, arrivedKept, Small}
+use Rattle.cut.specs.MissingKept.{lengthIn, arrivedIn, arrivedKept, Small}
 
 pub derived-none : (b : Bounds) (end tail : ℕ) → end < 2 → 0 ≡ derived b end tail
 derived-none b zero tail h = refl

@@ -12,7 +12,8 @@ use Rattle.octets.specs.Octets.{over}
 use Rattle.octets.specs.laws.Over.{over-length, over-inside, over-after, over-before}
 use Rattle.cut.specs.laws.Segment.{SitsAs}
 use Rattle.cut.specs.laws.Decision.{EndSits}
-use Rattle.part.specs.Memory.{placeOf, movedAs}
+use Rattle.part.specs.Memory.{placeOf}
+use Rattle.part.specs.Moves.{movedAs}
 use Rattle.part.specs.laws.Keeps.{LaidAs}
 
 -- once the size is known, a segment stands at its number times the size

@@ -16,14 +16,15 @@ use Rattle.octets.specs.laws.Marks.{sum-split}
 use Rattle.cut.specs.Requirement.{sizeMost, bodyNumbers}
 use Rattle.cut.specs.declared.Bounds.{Bounds}
 use Rattle.cut.specs.declared.Record.{Record}
-use Rattle.cut.specs.Decision.{room, possible, addPart, joins, derived, settle}
+use Rattle.cut.specs.Decision.{room, possible, joins}
+use Rattle.cut.specs.Kept.{addPart, derived, settle}
 use Rattle.cut.specs.laws.Decision.{EndSits, TopSits, Suits, both-true, possible-iff}
 use Rattle.cut.specs.laws.Object.{WithinOf}
 use Rattle.cut.specs.laws.Marks.{topFrom, top-high, top-open, top-ended, total-some}
 use Rattle.cut.specs.laws.Segment.{SitsAs}
 use Rattle.cut.specs.Sums.{ended, possibleIn, acceptsIn, fullIn, fitsIn}
 use Rattle.cut.specs.laws.Sums.{possible-in}
-use Rattle.cut.specs.Missing.{Small}
+use Rattle.cut.specs.MissingKept.{Small}
 use Rattle.cut.specs.Lists.{pick, Each}
 use Rattle.part.specs.Memory.{Memory, placeOf, lengthOf}
 use Rattle.part.specs.Asked.{endRight, recordRight}

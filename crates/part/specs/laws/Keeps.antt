@@ -6,7 +6,7 @@ use Prim.Native.Nat.{ℕ}
 use lib.ListN.{length, take, drop}
 use Rattle.cut.specs.Requirement.{Segment}
 use Rattle.cut.specs.declared.Bounds.{Bounds}
-use Rattle.cut.specs.Decision.{summary, recordOf}
+use Rattle.cut.specs.Kept.{summary, recordOf}
 use Rattle.cut.specs.laws.Marks.{Marked}
 use Rattle.cut.specs.Lists.{Each}
 use Rattle.part.specs.Memory.{Memory, placeOf}

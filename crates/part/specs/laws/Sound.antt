@@ -11,7 +11,7 @@ use Rattle.octets.specs.laws.Over.{part-length}
 use Rattle.cut.specs.laws.Lists.{each-zip, each-among, among-each}
 use Rattle.cut.specs.Requirement.{Segment}
 use Rattle.cut.specs.declared.Bounds.{Bounds}
-use Rattle.cut.specs.Decision.{derived, settle, summary, recordOf}
+use Rattle.cut.specs.Kept.{derived, settle, summary, recordOf}
 use Rattle.cut.specs.laws.Segment.{Sits, among-numbered}
 use Rattle.cut.specs.laws.Decision.{Clear, sits-sum}
 use Rattle.cut.specs.laws.Object.{WithinOf}

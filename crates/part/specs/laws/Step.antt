@@ -17,14 +17,15 @@ use Rattle.cut.specs.laws.Lists.{each-map, each-zip, each-zip3}
 use Rattle.cut.specs.Requirement.{Segment}
 use Rattle.cut.specs.declared.Bounds.{Bounds}
 use Rattle.cut.specs.declared.Record.{Record}
-use Rattle.cut.specs.Decision.{derived, settle, Summary, summary, recordOf}
+use Rattle.cut.specs.Kept.{derived, settle, Summary, summary, recordOf}
 use Rattle.cut.specs.laws.Segment.{SitsAs, Sits, inside, Numbered, not-numbered}
 use Rattle.cut.specs.laws.Decision.{TopSits, EndSits, SumSits, Clear, sits-sum}
 use Rattle.cut.specs.laws.Object.{WithinOf}
 use Rattle.cut.specs.laws.Order.{KnowsAs, Knows, knows-each}
 use Rattle.cut.specs.laws.Marks.{Marked}
 use Rattle.cut.specs.Lists.{pick, Each}
-use Rattle.part.specs.Memory.{Memory, placeOf, lengthOf, segmentAs, segmentAt, movedAs, settled, put}
+use Rattle.part.specs.Memory.{Memory, placeOf, lengthOf, segmentAs, segmentAt}
+use Rattle.part.specs.Moves.{movedAs, settled, put}
 use Rattle.part.specs.laws.Inside.{derived-is, sits-before, place-lies}
 use Rattle.part.specs.laws.Keeps.{Laid, Keeps}
 use Rattle.part.specs.laws.Bytes.{moved-length, moved-laid, put-laid, put-other}

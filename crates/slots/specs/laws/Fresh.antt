@@ -17,7 +17,8 @@ use Rattle.cut.specs.declared.Bounds.{Bounds}
 use Rattle.cut.specs.declared.Record.{Record}
 use Rattle.cut.specs.Parts.{otherPart}
 use Rattle.cut.specs.Decision as Decision
-use Rattle.cut.specs.Decision.{boundsOf, coreFits, room, addPart, coreWith}
+use Rattle.cut.specs.Decision.{coreFits, room}
+use Rattle.cut.specs.Kept.{boundsOf, addPart, coreWith}
 use Rattle.cut.specs.Sums.{possibleIn, fitsIn, takes}
 use Rattle.part.specs.Memory.{Memory}
 use Rattle.part.specs.Asked.{recordRight, soundPart}
@@ -26,7 +27,8 @@ use Rattle.object.specs.Take.{takesIn, decided, decidedNew, takeInto}
 use Rattle.object.specs.Sound.{soundParts}
 use Rattle.object.specs.Asked.{tallyOf, Readable, Offered}
 use Rattle.object.specs.laws.Decided.{memory-is, ifNew, byMark, take-by-mark}
-use Rattle.object.specs.Parts.{Lent, shares, partsOf, keptOf, marksOf, memoryOf, coreFrom, coreIn, stageOf}
+use Rattle.object.specs.Parts.{Lent, shares, partsOf, keptOf, marksOf, memoryOf}
+use Rattle.object.specs.Stage.{coreFrom, coreIn, stageOf}
 use Rattle.slots.specs.Stores.{Stores, lentAt, noRecord, freshSlot}
 use Rattle.slots.specs.Alone.{isFits, fitsAlone}
 use Rattle.slots.specs.Take.{OpenAt}

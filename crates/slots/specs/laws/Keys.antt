@@ -10,8 +10,7 @@ use lib.Dec.{eqb}
 use lib.ListN.{length, getD, set, take, drop}
 use lib.Seq.{drop-cons, take-length, take-suc-set, append-snoc}
 use borrow.Author.Tests.{eq-eqb, ne-eqb}
-use Rattle.cut.specs.Decision.{both}
-use Rattle.cut.specs.Lists.{pick}
+use Rattle.cut.specs.Lists.{both, pick}
 use Rattle.object.specs.declared.Slot.{Slot}
 use Rattle.slots.specs.Stores.{freeSlot}
 use Rattle.slots.specs.Find.{freeStage, isFree, holds}

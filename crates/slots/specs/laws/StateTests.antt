@@ -10,11 +10,12 @@ use lib.ListN.{length, getD, take, drop, length-take, length-drop}
 use lib.Seq.{drop-cons, getD-take}
 use borrow.Author.Tests.{eqb-true, leb-true}
 use Rattle.cut.specs.Requirement.{headerMost, limitLeast, limitMost}
-use Rattle.cut.specs.Decision.{both, all}
+use Rattle.cut.specs.Lists.{both, all}
 use Rattle.cut.specs.laws.Decision.{all-true}
 use Rattle.object.specs.declared.Slot.{Slot}
 use Rattle.object.specs.Sound.{soundParts, soundSlot}
-use Rattle.object.specs.Parts.{partsOf, coreIn, stageOf, missingIn}
+use Rattle.object.specs.Parts.{partsOf}
+use Rattle.object.specs.Stage.{coreIn, stageOf, missingIn}
 use Rattle.slots.specs.Stores.{slotsMost, slotMarks, Stores, lentAt, freeSlot, Limits}
 use Rattle.slots.specs.State.{withinLimits, rightSlot, rightBy, rightFrom}
 

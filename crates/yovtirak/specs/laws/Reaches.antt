@@ -11,8 +11,7 @@ use lib.ListN.{length}
 use Rattle.answer.specs.declared.Answer.{Answer}
 use Rattle.answer.specs.declared.Answer.the-variants as Answer
 use Rattle.cut.specs.Requirement.{headerMost}
-use Rattle.cut.specs.Decision.{both}
-use Rattle.cut.specs.Lists.{pick, Each}
+use Rattle.cut.specs.Lists.{both, pick, Each}
 use Rattle.object.specs.declared.Slot.{Slot}
 use Rattle.object.specs.declared.Stage.{Stage}
 use Rattle.object.specs.declared.Stage.the-variants as Stage

@@ -17,8 +17,7 @@ use Rattle.answer.specs.declared.Returned.the-variants.{Sent, Segment, Number, 
 use Rattle.wire.specs.declared.Reading.{Reading}
 use Rattle.wire.specs.declared.Reading.the-variants as Reading
 use Rattle.wire.specs.Reading.{readingOf}
-use Rattle.cut.specs.Decision.{both}
-use Rattle.cut.specs.Lists.{pick}
+use Rattle.cut.specs.Lists.{both, pick}
 use Rattle.collector.specs.declared.Collector.{Collector}
 use Rattle.collector.specs.declared.Located.{Located}
 use Rattle.collector.specs.declared.Located.the-variants as Located

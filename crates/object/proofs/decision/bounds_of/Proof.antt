@@ -1,6 +1,6 @@
 -- `object::decision::bounds_of` meets its contract. Assumes nothing.
 use mathlib.Core.Path.{refl}
-use Rattle.cut.specs.Decision.{boundsOf}
+use Rattle.cut.specs.Kept.{boundsOf}
 use borrow.Author.Needs.{needs}
 use Rattle.object.proofs.decision.bounds_of.Statement.{statement}
 use Rattle.object.proofs.decision.bounds_of.Tie as tie

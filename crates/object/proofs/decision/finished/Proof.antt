@@ -1,6 +1,7 @@
 -- `object::decision::finished` meets its contract. Assumes nothing.
 use mathlib.Core.Path.{refl, sym, ap, _∙_}
-use Rattle.cut.specs.Decision.{both, whole}
+use Rattle.cut.specs.Decision.{whole}
+use Rattle.cut.specs.Lists.{both}
 use Rattle.object.proofs.decision.Laws.{finished-empty, finished-some}
 use borrow.Author.Needs.{needs}
 use Rattle.object.proofs.decision.finished.Statement.{statement}

@@ -5,7 +5,7 @@ use Prim.Native.Nat.{ℕ, suc, _+_, _-_}
 use native.Mathlib.Omega.{arith}
 use native.Mathlib.Numerals.{add-one}
 use Rattle.answer.specs.declared.Part.the-variants.{Header, Body}
-use Rattle.cut.specs.Missing.{missingBy}
+use Rattle.cut.specs.MissingKept.{missingBy}
 use Rattle.cut.specs.laws.Missing.{length-low}
 use Rattle.object.proofs.decision.Laws.{known-missing}
 use borrow.Author.Needs.{needs}

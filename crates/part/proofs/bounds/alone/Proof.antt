@@ -2,7 +2,8 @@
 use mathlib.Core.Path.{sym, ap, _∙_}
 use Prim.Native.Nat.{ℕ}
 use native.Mathlib.Omega.{arith}
-use Rattle.cut.specs.Decision.{alone, all, aloneTests}
+use Rattle.cut.specs.Decision.{alone, aloneTests}
+use Rattle.cut.specs.Lists.{all}
 use Rattle.part.proofs.bounds.Laws.{alone-in}
 use borrow.Author.Needs.{needs}
 use Rattle.part.proofs.bounds.alone.Statement.{statement}

@@ -1,6 +1,6 @@
 -- `part::record::settle` meets its contract. Assumes nothing.
 use mathlib.Core.Path.{refl}
-use Rattle.cut.specs.Decision.{settle}
+use Rattle.cut.specs.Kept.{settle}
 use borrow.Author.Needs.{needs}
 use Rattle.part.proofs.record.settle.Statement.{statement}
 use Rattle.part.proofs.record.settle.Tie as tie
