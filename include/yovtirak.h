@@ -75,9 +75,9 @@ extern "C" {
 /* Words of 64 bits of a state: the limit, the number of slots, and for each of 16 slots its
  * transport number, its stage (0 free, 1 gathering, 2 finished), the lengths of a finished header
  * and body, for the header and then the body the segment size, 1 + the number of the last segment
- * and its length, 0 where that is not known, the empty segment of a body having length 0, and at
- * last 1 + the bytes of header and body that are still to come, 0 while that is not known. They may
- * be saved, and lent again with the counts, stores and marks as they were saved. */
+ * and its length, 0 where that is not known, the empty segment of a body having length 0, and in
+ * its last word 1 + the bytes of header and body that are still to come, 0 while that is not known.
+ * They may be saved, and lent again with the counts, stores and marks as they were saved. */
 #define YOVTIRAK_STATE_WORDS 178u
 
 /* The five counts, words of 32 bits, which the caller reads where they are. Each is the number of

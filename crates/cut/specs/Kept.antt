@@ -1,5 +1,5 @@
--- What is kept of the segments of a part, numbers only: its record (size, end, tail) and top, 1 + the highest number of a
--- full segment or 0; of the header also the two sizes that segment 0 says. No bytes play a part but those two sizes.
+-- What is kept of the segments of a part, numbers only: its record (size, end, tail) and top, 1 + the highest number of
+-- a full segment or 0; of the header also the two sizes that segment 0 says. No bytes play a part but those two sizes.
 use mathlib.Core.Bool.{Bool, true, false}
 use mathlib.Core.List.{List, [], _∷_}
 use Prim.Native.Nat.{ℕ, zero, suc, _-_, _/_, max}

@@ -1,5 +1,5 @@
--- How much is still missing, by what is kept: what header segment 0 says, the two records, and how many segments of each
--- part are in.
+-- How much is still missing, by what is kept: what header segment 0 says, the two records, and how many segments of
+-- each part are in.
 use Prim.Native.Nat.{ℕ, zero, suc, _+_, _-_, _*_, _≤_, _<_}
 use Rattle.answer.specs.declared.Part.{Part}
 use Rattle.answer.specs.declared.Part.the-variants.{Header, Body}

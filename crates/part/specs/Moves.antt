@@ -1,5 +1,5 @@
--- The two moves by which what is kept of a part changes: its last segment is copied to its place once the size is known,
--- and a segment is written to its place and marked.
+-- The two moves by which what is kept of a part changes: its last segment is copied to its place once the size is
+-- known, and a segment is written to its place and marked.
 use mathlib.Core.List.{List}
 use Prim.Native.Nat.{ℕ, zero, suc, _-_, _*_}
 use lib.ListN.{length, take, drop, set}

@@ -1,7 +1,7 @@
-// The record of a part, numbers alone (crate cut, specs/Kept, specs/Decision): whether one segment more goes with it, the
-// record with that one, the size of the cut once it is settled, and whether the part is whole. Any numbers are taken, as
-// the record of a damaged slot may be asked about too; but for the part's length and how much of it has arrived (crate
-// cut, specs/MissingKept), which are asked of numbers that a part can have.
+// The record of a part, numbers alone (crate cut, specs/Kept and Decision): whether one segment more goes with it, the
+// record with that one, the size of the cut once it is settled, and whether the part is whole. Any numbers are taken,
+// as the record of a damaged slot may be asked about too; but for the part's length and how much of it has arrived
+// (crate cut, specs/MissingKept), which are asked of numbers that a part can have.
 use cut::Amount;
 use cut::Bounds;
 use cut::Record;

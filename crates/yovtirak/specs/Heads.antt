@@ -160,8 +160,8 @@ abbrev pub amountIn : Awaited → ℕ
 amountIn (Awaited.Bytes amount) = amountKept amount
 amountIn (Awaited.Denied why) = 0
 
--- what the shifts and the mask of `yovtirak_tell_missing` take out of a word: the answer's number, 0 where the number of
--- bytes is told, and 1 more than that number, or 0 while it is not known
+-- what the shift and the mask of `yovtirak_tell_missing` take out of a word: the answer's number, 0 where the number
+-- of bytes is told, and 1 more than that number, or 0 while it is not known
 pub record TellsMissing (word : ℕ) (awaited : Awaited) : Type 0 where
   pub answered : word % 256 ≡ denialIn awaited
   pub amount : word / 65536 ≡ amountIn awaited

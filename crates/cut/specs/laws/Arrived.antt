@@ -206,7 +206,8 @@ module _ (kind : Part) (limit : ℕ) (hs bs : List Segment) (f : Fits limit hs b
         (λ z. omega (arith, none-full 0 (summary (those kind hs bs) .top) l z)) (known-full kind limit hs bs f)
         ∙ sym (arrived-open (partOf kind f) (cutOf kind f) numbers (those kind hs bs) marks cuts sent m short e)
     by-end (suc k) tail e g l =
-        let a = arrived-ended (partOf kind f) (cutOf kind f) numbers (those kind hs bs) marks cuts sent m short k tail e g
+        let a =
+        arrived-ended (partOf kind f) (cutOf kind f) numbers (those kind hs bs) marks cuts sent m short k tail e g
         in
         let h : 0 < sumOf marks = total-some marks k (m .marked k .1 (end-numbered (those kind hs bs) k e)) in
         let c = counted (sumOf marks - 1) (summary (those kind hs bs) .top) (sizeOf kind limit hs bs)
@@ -219,7 +220,8 @@ module _ (kind : Part) (limit : ℕ) (hs bs : List Segment) (f : Fits limit hs b
         one-less zero h = absurd (omega arith)
         one-less (suc n) h = let z : suc n - 1 ≡ n = omega arith in rw z (omega arith)
 
-    pub arrived-kept : arrivedKept (sumOf marks) (recordOf (boundsOf kind limit (coreOf hs)) (summary (those kind hs bs)))
+    pub arrived-kept :
+        arrivedKept (sumOf marks) (recordOf (boundsOf kind limit (coreOf hs)) (summary (those kind hs bs)))
         ≡ arrived numbers (those kind hs bs)
     unfolding settle sizeOf
     arrived-kept = by-end (summary (those kind hs bs) .part .end) (summary (those kind hs bs) .part .tail) refl refl
@@ -250,7 +252,8 @@ size-unseen kind limit ss = go (summary ss .top) refl
     go (suc t) e = rw (le-leb 1 (suc t) (omega arith)) refl
 
 unseen-kept : (kind : Part) (limit : ℕ) (ss : List Segment)
-    → lengthIn (recordOf (boundsOf kind limit Unseen) (summary ss) .size) (summary ss .part .end) (summary ss .part .tail)
+    → lengthIn (recordOf (boundsOf kind limit Unseen) (summary ss) .size)
+    (summary ss .part .end) (summary ss .part .tail)
     ≡ lengthFrom (sizeShown ss) ss
 unseen-kept kind limit ss = rw (size-unseen kind limit ss) (sym (length-summed ss))
 

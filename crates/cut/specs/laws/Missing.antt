@@ -76,7 +76,8 @@ module _ (xs : List ℕ) (S : ℕ) (ss : List Segment) (z : 0 < S) (t : Each (Se
   piece : (n : ℕ) (b : Bool) → isStored n ss ≡ b
       → length (bytesOf n ss) + pick b 0 (min S (length xs - n * S)) ≡ min S (length xs - n * S)
   piece n true e =
-      let l : length (bytesOf n ss) ≡ min S (length xs - n * S) = ap length (bytes-in n ss xs S t (stored-numbered n ss e))
+      let l : length (bytesOf n ss) ≡ min S (length xs - n * S) =
+      ap length (bytes-in n ss xs S t (stored-numbered n ss e))
       ∙ simp (length-take, length-drop) in
       omega arith
   piece n false e = let l : length (bytesOf n ss) ≡ 0 = ap length (unstored-bytes n ss e) in omega arith
@@ -152,7 +153,8 @@ from-step : (b : Bool) (S n k : ℕ) (x : Amount) (p : Record) → x ≡ lengthI
 from-step true S n k x p e = refl
 from-step false S n k x p e = e
 
-length-from : (S : ℕ) (ss : List Segment) → lengthFrom S ss ≡ lengthIn S (summary ss .part .end) (summary ss .part .tail)
+length-from : (S : ℕ) (ss : List Segment)
+    → lengthFrom S ss ≡ lengthIn S (summary ss .part .end) (summary ss .part .tail)
 length-from S [] = refl
 length-from S (s ∷ ss) =
     from-step (s .last) S (s .number) (length (s .bytes)) (lengthFrom S ss) (summary ss .part) (length-from S ss)
@@ -192,7 +194,8 @@ module _ (kind : Part) (limit : ℕ) (hs bs : List Segment) (f : Fits limit hs b
   some-cut = omega (arith, fits-within limit hs bs f kind .low)
 
   summed : SumSits (cutOf kind f) (length (partOf kind f)) (summary (those kind hs bs))
-  summed = sits-sum (cutOf kind f) (length (partOf kind f)) (those kind hs bs) some-cut (fits-sits limit hs bs f kind) .1
+  summed =
+      sits-sum (cutOf kind f) (length (partOf kind f)) (those kind hs bs) some-cut (fits-sits limit hs bs f kind) .1
 
   size-is : (summary (those kind hs bs) .part .size ≡ 0) ⊎ (summary (those kind hs bs) .part .size ≡ cutOf kind f)
   size-is = go (summary (those kind hs bs) .top) refl (summed .0)
@@ -219,7 +222,8 @@ length-as Body limit hs bs f x (Seen B H) i h = let y : x ≡ B = cc in y ∙ i 
 pub length-known : (kind : Part) (limit : ℕ) (hs bs : List Segment) (f : Fits limit hs bs) (x : ℕ)
     → lengthKnown kind (coreOf hs) (those kind hs bs) ≡ Known x → x ≡ length (partOf kind f)
 length-known kind limit hs bs f x h =
-    length-as kind limit hs bs f x (coreOf hs) (core-is (f .header) (f .headerCut) hs (f .headerCuts .low) (f .headerSent))
+    length-as kind limit hs bs f x (coreOf hs)
+    (core-is (f .header) (f .headerCut) hs (f .headerCuts .low) (f .headerSent))
     h
 
 -- ---- how much is missing

@@ -165,7 +165,8 @@ module _ (number : ℕ) (s : State) (hs bs : List Segment) where
 leaves-falls : (number : ℕ) (call : Call) (s : State) (events : List Event) → CallBytes call → Keeps number call
     → Intact s → Stands s events
     → Falls (storedUnder Header number events) (storedUnder Body number events)
-    (storedUnder Header number (event defined call s ∷ events)) (storedUnder Body number (event defined call s ∷ events))
+    (storedUnder Header number (event defined call s ∷ events))
+    (storedUnder Body number (event defined call s ∷ events))
 unfolding under
 leaves-falls number (hand given) s events y d whole w =
     brought-falls number (take given s .left) (storedUnder Header number events) (storedUnder Body number events)
@@ -204,7 +205,8 @@ lasts number (call ∷ more) s events y d whole w =
       stands = leaves-stands call t said (y .0) (before .intact) (before .stands);
       falls = falls-then (storedUnder Header number events) (storedUnder Body number events)
           (storedUnder Header number said) (storedUnder Body number said)
-          (storedUnder Header number (event defined call t ∷ said)) (storedUnder Body number (event defined call t ∷ said))
+          (storedUnder Header number (event defined call t ∷ said))
+          (storedUnder Body number (event defined call t ∷ said))
           (before .falls) (leaves-falls number call t said (y .0) (d .0) (before .intact) (before .stands));
     }
 

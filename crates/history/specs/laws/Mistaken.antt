@@ -423,7 +423,8 @@ arrivedUncounted number s = lengthsIn (stageFor number s) (missing number s)
 pub arrived-uncounted-breaks : ¬ (AwaitedExactly (awaitingBy arrivedUncounted))
 unfolding computing small
 arrived-uncounted-breaks p =
-    let e : _≡_ {A = ℕ} 107 100 = ap awaitedNumber (p one 5 λ n. let z : _≡_ {A = ℕ} 0 1 = cc in absurd (omega arith)) in
+    let e : _≡_ {A = ℕ} 107 100 =
+    ap awaitedNumber (p one 5 λ n. let z : _≡_ {A = ℕ} 0 1 = cc in absurd (omega arith)) in
     absurd (omega arith)
 
 -- a repeat is counted as if its bytes were new

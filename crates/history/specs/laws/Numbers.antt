@@ -154,5 +154,6 @@ pub reached-low : (start : Start) → Allowed start → (calls : List Call) → 
     → Narrow (slotOf j (reached defined start calls))
 reached-low start a [] y = rw (start-is start a) (free-low slotsMost)
 reached-low start a (call ∷ calls) y =
-    leaves-low (reached defined start calls) (reached-low start a calls (y .1)) (reached-intact start a calls (y .1)) call
+    leaves-low (reached defined start calls)
+    (reached-low start a calls (y .1)) (reached-intact start a calls (y .1)) call
     (y .0)
