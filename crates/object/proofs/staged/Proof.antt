@@ -39,7 +39,8 @@ returns : tie.Need-returns
 unfolding slotWith stageOf missingIn coreIn
 returns c =
     let pre = c .before .before .before .before .before .before .before .pre .0 in
-    let core = rw (c .before .before .before .before .marks-of .ensures) at (c .before .before .before .core-from .ensures .0) in
+    let core = rw (c .before .before .before .before .marks-of .ensures) at
+    (c .before .before .before .core-from .ensures .0) in
     let stage = rw (core, pre .ours, pre .theirs) at (c .before .before .stage-from .ensures) in
     let missing = rw (core, pre .ours, pre .theirs) at (c .before .missing .ensures) in
     rw (c .outcome-by .ensures, stage, missing) refl

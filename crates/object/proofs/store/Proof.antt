@@ -93,11 +93,73 @@ staged-requires c κs =
     let told = c .before .before .before .before .before .before .before .before .before .before .before .before .before .before .before .enum-told .given .1 in
     let f : Fitting (c .before .before .before .before .before .before .before .before .before .before .before .before .before .before .before .before .before .before .before .before .before .before .before .before .before .before .before .args .tally) Header (c .before .before .before .before .before .before .before .before .before .before .before .before .before .before .before .before .before .before .before .before .before .before .before .before .before .before .before .args .limit) (c .before .before .before .before .before .before .before .before .before .before .before .before .before .before .before .before .before .before .before .before .before .before .before .before .before .before .before .args .core) s (c .before .before .before .before .before .before .before .before .before .before .before .before .before .before .before .before .before .before .before .before .before .before .before .before .before .before .before .args .slot) lent = rw told at (c .before .before .before .before .before .before .before .before .before .before .before .before .before .before .before .before .before .before .before .before .before .before .before .before .before .before .before .pre) in
     let own = rw told at (c .before .before .before .before .before .before .before .before .before .before .before .before .before .before .before .before .before .before .before .total-in .ensures) in
-    let new = (rw (c .before .before .before .before .before .before .before .before .before .before .before .before .before .before .before .before .before .before .before .before .bounds-of .ensures, c .before .before .before .before .before .before .before .before .before .before .before .before .before .before .before .before .before .before .kept-of .ensures, c .before .before .before .before .before .before .before .before .before .before .before .before .before .before .before .before .before .before .before .total-in .ensures, told) at (c .before .before .before .before .before .before .before .before .before .before .before .before .before .before .before .before .before .with .ensures)) ∙ record-is (c .before .before .before .before .before .before .before .before .before .before .before .before .before .before .before .before .before .before .before .before .before .before .before .before .before .before .before .args .tally) (c .before .before .before .before .before .before .before .before .before .before .before .before .before .before .before .before .before .before .before .before .before .before .before .before .before .before .before .args .limit) (c .before .before .before .before .before .before .before .before .before .before .before .before .before .before .before .before .before .before .before .before .before .before .before .before .before .before .before .args .core) s (c .before .before .before .before .before .before .before .before .before .before .before .before .before .before .before .before .before .before .before .before .before .before .before .before .before .before .before .args .slot) lent Header f in
-    let still = (rw (c .before .before .before .before .before .before .before .before .before .before .before .before .before .before .bounds-of2 .ensures) at (c .before .before .before .before .before .before .before .before .before .before .before .before .before .within .ensures)) ∙ still-is (c .before .before .before .before .before .before .before .before .before .before .before .before .before .before .before .before .before .before .before .before .before .before .before .before .before .before .before .args .tally) (c .before .before .before .before .before .before .before .before .before .before .before .before .before .before .before .before .before .before .before .before .before .before .before .before .before .before .before .args .limit) (c .before .before .before .before .before .before .before .before .before .before .before .before .before .before .before .before .before .before .before .before .before .before .before .before .before .before .before .args .core) s (c .before .before .before .before .before .before .before .before .before .before .before .before .before .before .before .before .before .before .before .before .before .before .before .before .before .before .before .args .slot) lent f in (
-      rw own (summed-header (c .before .before .before .before .before .before .before .before .before .before .before .before .before .before .before .before .before .before .before .before .before .before .before .before .before .before .before .args .tally) (c .before .before .before .before .before .before .before .before .before .before .before .before .before .before .before .before .before .before .before .before .before .before .before .before .before .before .before .args .limit) (c .before .before .before .before .before .before .before .before .before .before .before .before .before .before .before .before .before .before .before .before .before .before .before .before .before .before .before .args .core) s (c .before .before .before .before .before .before .before .before .before .before .before .before .before .before .before .before .before .before .before .before .before .before .before .before .before .before .before .args .slot) lent (c .before .before .before .before .before .before .before .before .before .before .put .last .1 .1 .1 .1 .1 .1 .0) f (ap (λ (m : Memory). m .marks) (c .before .before .before .before .before .before .before .before .before .before .put .ensures))),
-      rw new (after-small Header (c .before .before .before .before .before .before .before .before .before .before .before .before .before .before .before .before .before .before .before .before .before .before .before .before .before .before .before .args .limit) s (partsOf (c .before .before .before .before .before .before .before .before .before .before .before .before .before .before .before .before .before .before .before .before .before .before .before .before .before .before .before .args .slot) lent) (f .fits)),
-      rw still (still-small (c .before .before .before .before .before .before .before .before .before .before .before .before .before .before .before .before .before .before .before .before .before .before .before .before .before .before .before .args .limit) s (partsOf (c .before .before .before .before .before .before .before .before .before .before .before .before .before .before .before .before .before .before .before .before .before .before .before .before .before .before .before .args .slot) lent) (f .fits)),
+    let new = (rw (
+      c .before .before .before .before .before .before .before .before .before .before .before .before
+          .before .before .before .before .before .before .before .before .bounds-of .ensures,
+      c .before .before .before .before .before .before .before .before .before .before .before .before .before .before
+          .before .before .before .before .kept-of .ensures,
+      c .before .before .before .before .before .before .before .before .before .before .before .before .before .before
+          .before .before .before .before .before .total-in .ensures,
+      told,
+    ) at
+    (c .before .before .before .before .before .before .before .before .before .before .before .before .before .before
+    .before .before .before .with .ensures)) ∙ record-is
+    (c .before .before .before .before .before .before .before .before .before .before .before .before .before .before
+    .before .before .before .before .before .before .before .before .before .before .before .before .before .args
+    .tally) (c .before .before .before .before .before .before .before .before .before .before .before .before .before
+    .before .before .before .before .before .before .before .before .before .before .before .before .before .before
+    .args .limit) (c .before .before .before .before .before .before .before .before .before .before .before .before
+    .before .before .before .before .before .before .before .before .before .before .before .before .before .before
+    .before .args .core) s (c .before .before .before .before .before .before .before .before .before .before .before
+    .before .before .before .before .before .before .before .before .before .before .before .before .before .before
+    .before .before .args .slot) lent Header f in
+    let still = (rw (c .before .before .before .before .before .before .before .before .before .before .before .before
+    .before .before .bounds-of2 .ensures) at
+    (c .before .before .before .before .before .before .before .before .before .before .before .before .before .within
+    .ensures)) ∙ still-is (c .before .before .before .before .before .before .before .before .before .before .before
+    .before .before .before .before .before .before .before .before .before .before .before .before .before .before
+    .before .before .args .tally) (c .before .before .before .before .before .before .before .before .before .before
+    .before .before .before .before .before .before .before .before .before .before .before .before .before .before
+    .before .before .before .args .limit)
+    (c .before .before .before .before .before .before .before .before .before .before .before .before .before .before
+    .before .before .before .before .before .before .before .before .before .before .before .before .before .args .core)
+    s (c .before .before .before .before .before .before .before .before .before .before .before .before .before .before
+    .before .before .before .before .before .before .before .before .before .before .before .before .before .args .slot)
+    lent f in (
+      rw own (summed-header (c .before .before .before .before .before .before .before .before .before .before .before
+          .before .before .before .before .before .before .before .before .before .before .before .before .before
+          .before
+          .before .before .args .tally) (c .before .before .before .before .before .before .before .before .before
+          .before
+          .before .before .before .before .before .before .before .before .before .before .before .before .before
+          .before
+          .before .before .before .args .limit)
+          (c .before .before .before .before .before .before .before .before .before .before .before .before .before
+          .before
+          .before .before .before .before .before .before .before .before .before .before .before .before .before .args
+          .core) s (c .before .before .before .before .before .before .before .before .before .before .before .before
+          .before .before .before .before .before .before .before .before .before .before .before .before .before
+          .before
+          .before .args .slot) lent (c .before .before .before .before .before .before .before .before .before .before
+          .put
+          .last .1 .1 .1 .1 .1 .1 .0) f (ap (λ (m : Memory). m .marks)
+          (c .before .before .before .before .before .before .before .before .before .before .put .ensures))),
+      rw new (after-small Header (c .before .before .before .before .before .before .before .before .before .before
+          .before .before .before .before .before .before .before .before .before .before .before .before .before
+          .before
+          .before .before .before .args .limit) s
+          (partsOf (c .before .before .before .before .before .before .before .before .before .before .before .before
+          .before .before .before .before .before .before .before .before .before .before .before .before .before
+          .before
+          .before .args .slot) lent) (f .fits)),
+      rw still (still-small (c .before .before .before .before .before .before .before .before .before .before .before
+          .before .before .before .before .before .before .before .before .before .before .before .before .before
+          .before
+          .before .before .args .limit) s
+          (partsOf (c .before .before .before .before .before .before .before .before .before .before .before .before
+          .before .before .before .before .before .before .before .before .before .before .before .before .before
+          .before
+          .before .args .slot) lent) (f .fits)),
     )
 
 enum-told-2 : tie.Need-enum-told-2
@@ -139,10 +201,52 @@ staged-requires-2 c κs =
     let own = rw told at (c .before .before .before .before .before .before .before .before .before .before .before .before .before .total-in .ensures) in
     let rest = take-all (length (c .before .before .before .before .before .before .before .before .before .before .before .before .before .before .before .before .before .before .before .before .before .args .marks .now) - headerNumbers) (drop headerNumbers (c .before .before .before .before .before .before .before .before .before .before .before .before .before .before .before .before .before .before .before .before .before .args .marks .now)) (rw length-drop (omega arith)) in
     let whole = back-whole (c .before .before .before .before .before .before .before .before .before .before .before .before .before .before .before .before .before .before .before .before .before .args .marks .now) (c .before .before .before .before .before .before .put2 .last .1 .1 .1 .1 .1 .1 .0) (omega (arith, c .before .before .before .before .before .before .before .before .before .before .before .before .before .before .before .before .before .before .before .before .before .pre .marks)) in
-    let new = (rw (c .before .before .before .before .before .before .before .before .before .before .before .before .before .before .bounds-of .ensures, c .before .before .before .before .before .before .before .before .before .before .before .before .kept-of .ensures, c .before .before .before .before .before .before .before .before .before .before .before .before .before .total-in .ensures, told) at (c .before .before .before .before .before .before .before .before .before .before .before .with .ensures)) ∙ record-is (c .before .before .before .before .before .before .before .before .before .before .before .before .before .before .before .before .before .before .before .before .before .args .tally) (c .before .before .before .before .before .before .before .before .before .before .before .before .before .before .before .before .before .before .before .before .before .args .limit) (c .before .before .before .before .before .before .before .before .before .before .before .before .before .before .before .before .before .before .before .before .before .args .core) s (c .before .before .before .before .before .before .before .before .before .before .before .before .before .before .before .before .before .before .before .before .before .args .slot) lent Body f in (
-      rw (own, whole) (summed-body (c .before .before .before .before .before .before .before .before .before .before .before .before .before .before .before .before .before .before .before .before .before .args .tally) (c .before .before .before .before .before .before .before .before .before .before .before .before .before .before .before .before .before .before .before .before .before .args .limit) (c .before .before .before .before .before .before .before .before .before .before .before .before .before .before .before .before .before .before .before .before .before .args .core) s (c .before .before .before .before .before .before .before .before .before .before .before .before .before .before .before .before .before .before .before .before .before .args .slot) lent (c .before .before .before .before .before .before .put2 .last .1 .1 .1 .1 .1 .1 .0) f (ap (λ (m : Memory). m .marks) (rw rest at (c .before .before .before .before .before .before .put2 .ensures)))),
-      header-small (c .before .before .before .before .before .before .before .before .before .before .before .before .before .before .before .before .before .before .before .before .before .args .limit) (c .before .before .before .before .before .before .before .before .before .before .before .before .before .before .before .before .before .before .before .before .before .args .slot .stage) (partsOf (c .before .before .before .before .before .before .before .before .before .before .before .before .before .before .before .before .before .before .before .before .before .args .slot) lent) (lent-bits (c .before .before .before .before .before .before .before .before .before .before .before .before .before .before .before .before .before .before .before .before .before .args .slot) lent (f .bits)) (f .sound),
-      rw new (after-small Body (c .before .before .before .before .before .before .before .before .before .before .before .before .before .before .before .before .before .before .before .before .before .args .limit) s (partsOf (c .before .before .before .before .before .before .before .before .before .before .before .before .before .before .before .before .before .before .before .before .before .args .slot) lent) (f .fits)),
+    let new = (rw (
+      c .before .before .before .before .before .before .before .before .before .before .before .before
+          .before .before .bounds-of .ensures,
+      c .before .before .before .before .before .before .before .before .before .before .before .before .kept-of
+          .ensures,
+      c .before .before .before .before .before .before .before .before .before .before .before .before .before
+          .total-in
+          .ensures,
+      told,
+    ) at (c .before .before .before .before .before .before .before .before .before .before .before .with
+    .ensures)) ∙ record-is (c .before .before .before .before .before .before .before .before .before .before .before
+    .before .before .before .before .before .before .before .before .before .before .args .tally)
+    (c .before .before .before .before .before .before .before .before .before .before .before .before .before .before
+    .before .before .before .before .before .before .before .args .limit)
+    (c .before .before .before .before .before .before .before .before .before .before .before .before .before .before
+    .before .before .before .before .before .before .before .args .core) s
+    (c .before .before .before .before .before .before .before .before .before .before .before .before .before .before
+    .before .before .before .before .before .before .before .args .slot) lent Body f in (
+      rw (own, whole) (summed-body (c .before .before .before .before .before .before .before .before .before .before
+          .before .before .before .before .before .before .before .before .before .before .before .args .tally)
+          (c .before .before .before .before .before .before .before .before .before .before .before .before .before
+          .before
+          .before .before .before .before .before .before .before .args .limit)
+          (c .before .before .before .before .before .before .before .before .before .before .before .before .before
+          .before
+          .before .before .before .before .before .before .before .args .core) s
+          (c .before .before .before .before .before .before .before .before .before .before .before .before .before
+          .before
+          .before .before .before .before .before .before .before .args .slot) lent
+          (c .before .before .before .before .before .before .put2 .last .1 .1 .1 .1 .1 .1 .0) f
+          (ap (λ (m : Memory). m .marks) (rw rest at
+          (c .before .before .before .before .before .before .put2 .ensures)))),
+      header-small (c .before .before .before .before .before .before .before .before .before .before .before .before
+          .before .before .before .before .before .before .before .before .before .args .limit)
+          (c .before .before .before .before .before .before .before .before .before .before .before .before .before
+          .before
+          .before .before .before .before .before .before .before .args .slot .stage)
+          (partsOf (c .before .before .before .before .before .before .before .before .before .before .before .before
+          .before .before .before .before .before .before .before .before .before .args .slot) lent)
+          (lent-bits (c .before .before .before .before .before .before .before .before .before .before .before .before
+          .before .before .before .before .before .before .before .before .before .args .slot) lent (f .bits))
+          (f .sound),
+      rw new (after-small Body (c .before .before .before .before .before .before .before .before .before .before
+          .before .before .before .before .before .before .before .before .before .before .before .args .limit) s
+          (partsOf (c .before .before .before .before .before .before .before .before .before .before .before .before
+          .before .before .before .before .before .before .before .before .before .args .slot) lent) (f .fits)),
     )
 
 same-length : tie.Need-same-length
@@ -163,7 +267,20 @@ returns c =
     let f : Fitting (c .before .before .before .before .before .before .before .before .before .before .before .before .before .before .before .before .before .before .before .before .before .before .before .before .before .before .before .before .args .tally) Header (c .before .before .before .before .before .before .before .before .before .before .before .before .before .before .before .before .before .before .before .before .before .before .before .before .before .before .before .before .args .limit) (c .before .before .before .before .before .before .before .before .before .before .before .before .before .before .before .before .before .before .before .before .before .before .before .before .before .before .before .before .args .core) s (c .before .before .before .before .before .before .before .before .before .before .before .before .before .before .before .before .before .before .before .before .before .before .before .before .before .before .before .before .args .slot) lent = rw told at (c .before .before .before .before .before .before .before .before .before .before .before .before .before .before .before .before .before .before .before .before .before .before .before .before .before .before .before .before .pre) in
     let new = (rw (c .before .before .before .before .before .before .before .before .before .before .before .before .before .before .before .before .before .before .before .before .before .bounds-of .ensures, c .before .before .before .before .before .before .before .before .before .before .before .before .before .before .before .before .before .before .before .kept-of .ensures, c .before .before .before .before .before .before .before .before .before .before .before .before .before .before .before .before .before .before .before .before .total-in .ensures, told) at (c .before .before .before .before .before .before .before .before .before .before .before .before .before .before .before .before .before .before .with .ensures)) ∙ record-is (c .before .before .before .before .before .before .before .before .before .before .before .before .before .before .before .before .before .before .before .before .before .before .before .before .before .before .before .before .args .tally) (c .before .before .before .before .before .before .before .before .before .before .before .before .before .before .before .before .before .before .before .before .before .before .before .before .before .before .before .before .args .limit) (c .before .before .before .before .before .before .before .before .before .before .before .before .before .before .before .before .before .before .before .before .before .before .before .before .before .before .before .before .args .core) s (c .before .before .before .before .before .before .before .before .before .before .before .before .before .before .before .before .before .before .before .before .before .before .before .before .before .before .before .before .args .slot) lent Header f in
     let still = (rw (c .before .before .before .before .before .before .before .before .before .before .before .before .before .before .before .bounds-of2 .ensures) at (c .before .before .before .before .before .before .before .before .before .before .before .before .before .before .within .ensures)) ∙ still-is (c .before .before .before .before .before .before .before .before .before .before .before .before .before .before .before .before .before .before .before .before .before .before .before .before .before .before .before .before .args .tally) (c .before .before .before .before .before .before .before .before .before .before .before .before .before .before .before .before .before .before .before .before .before .before .before .before .before .before .before .before .args .limit) (c .before .before .before .before .before .before .before .before .before .before .before .before .before .before .before .before .before .before .before .before .before .before .before .before .before .before .before .before .args .core) s (c .before .before .before .before .before .before .before .before .before .before .before .before .before .before .before .before .before .before .before .before .before .before .before .before .before .before .before .before .args .slot) lent f in
-    rw told (stored-header (c .before .before .before .before .before .before .before .before .before .before .before .before .before .before .before .before .before .before .before .before .before .before .before .before .before .before .before .before .args .limit) s (c .before .before .before .before .before .before .before .before .before .before .before .before .before .before .before .before .before .before .before .before .before .before .before .before .before .before .before .before .args .slot) lent (f .marks) (c .staged .result) (c .before .before .before .before .before .before .before .before .before .before .before .before .before .before .before .before .before .before .with .result) (c .before .before .before .before .before .before .before .before .before .before .before .before .before .before .within .result) (c .before .before .before .before .before .before .before .before .before .before .before .put .last .1 .1 .1 .1 .1 .1 .0) (c .before .before .before .before .before .before .before .before .before .before .before .put .last .1 .1 .1 .1 .1 .0) (c .before .before .before .before .before .settle .last .1 .1 .0) new still (c .before .before .before .before .before .before .before .before .before .before .before .put .ensures) (c .before .before .before .before .before .settle .ensures) (c .staged .ensures))
+    rw told (stored-header (c .before .before .before .before .before .before .before .before .before .before .before
+    .before .before .before .before .before .before .before .before .before .before .before .before .before .before
+    .before .before .before .args .limit) s
+    (c .before .before .before .before .before .before .before .before .before .before .before .before .before .before
+    .before .before .before .before .before .before .before .before .before .before .before .before .before .before
+    .args .slot) lent (f .marks) (c .staged .result)
+    (c .before .before .before .before .before .before .before .before .before .before .before .before .before .before
+    .before .before .before .before .with .result)
+    (c .before .before .before .before .before .before .before .before .before .before .before .before .before .before
+    .within .result) (c .before .before .before .before .before .before .before .before .before .before .before .put
+    .last .1 .1 .1 .1 .1 .1 .0) (c .before .before .before .before .before .before .before .before .before .before
+    .before .put .last .1 .1 .1 .1 .1 .0) (c .before .before .before .before .before .settle .last .1 .1 .0) new still
+    (c .before .before .before .before .before .before .before .before .before .before .before .put .ensures)
+    (c .before .before .before .before .before .settle .ensures) (c .staged .ensures))
 
 same-length-4 : tie.Need-same-length-4
 same-length-4 c = search needs
@@ -185,7 +302,19 @@ returns-2 c =
     let new = (rw (c .before .before .before .before .before .before .before .before .before .before .before .before .before .before .before .bounds-of .ensures, c .before .before .before .before .before .before .before .before .before .before .before .before .before .kept-of .ensures, c .before .before .before .before .before .before .before .before .before .before .before .before .before .before .total-in .ensures, told) at (c .before .before .before .before .before .before .before .before .before .before .before .before .with .ensures)) ∙ record-is (c .before .before .before .before .before .before .before .before .before .before .before .before .before .before .before .before .before .before .before .before .before .before .args .tally) (c .before .before .before .before .before .before .before .before .before .before .before .before .before .before .before .before .before .before .before .before .before .before .args .limit) (c .before .before .before .before .before .before .before .before .before .before .before .before .before .before .before .before .before .before .before .before .before .before .args .core) s (c .before .before .before .before .before .before .before .before .before .before .before .before .before .before .before .before .before .before .before .before .before .before .args .slot) lent Body f in
     let rest = take-all (length (c .before .before .before .before .before .before .before .before .before .before .before .before .before .before .before .before .before .before .before .before .before .before .args .marks .now) - headerNumbers) (drop headerNumbers (c .before .before .before .before .before .before .before .before .before .before .before .before .before .before .before .before .before .before .before .before .before .before .args .marks .now)) (rw length-drop (omega arith)) in
     let whole = back-whole (c .before .before .before .before .before .before .before .before .before .before .before .before .before .before .before .before .before .before .before .before .before .before .args .marks .now) (c .before .before .before .before .before .before .before .put2 .last .1 .1 .1 .1 .1 .1 .0) (omega (arith, c .before .before .before .before .before .before .before .before .before .before .before .before .before .before .before .before .before .before .before .before .before .before .pre .marks)) in
-    rw told (stored-body (c .before .before .before .before .before .before .before .before .before .before .before .before .before .before .before .before .before .before .before .before .before .before .args .limit) s (c .before .before .before .before .before .before .before .before .before .before .before .before .before .before .before .before .before .before .before .before .before .before .args .slot) lent (f .marks) (c .staged2 .result) (c .before .before .before .before .before .before .before .before .before .before .before .before .with .result) (c .before .before .before .before .before .before .before .put2 .last .1 .1 .1 .1 .1 .1 .0) (putMid headerNumbers (length (c .before .before .before .before .before .before .before .before .before .before .before .before .before .before .before .before .before .before .before .before .before .before .args .marks .now) - headerNumbers) (c .before .before .before .before .before .before .before .before .before .before .before .before .before .before .before .before .before .before .before .before .before .before .args .marks .now) (c .before .before .before .before .before .before .before .put2 .last .1 .1 .1 .1 .1 .1 .0)) (c .before .before .before .before .before .before .before .put2 .last .1 .1 .1 .1 .1 .0) new (rw rest at (c .before .before .before .before .before .before .before .put2 .ensures)) whole (c .staged2 .ensures))
+    rw told (stored-body (c .before .before .before .before .before .before .before .before .before .before .before
+    .before .before .before .before .before .before .before .before .before .before .before .args .limit) s
+    (c .before .before .before .before .before .before .before .before .before .before .before .before .before .before
+    .before .before .before .before .before .before .before .before .args .slot) lent (f .marks) (c .staged2 .result)
+    (c .before .before .before .before .before .before .before .before .before .before .before .before .with .result)
+    (c .before .before .before .before .before .before .before .put2 .last .1 .1 .1 .1 .1 .1 .0)
+    (putMid headerNumbers (length (c .before .before .before .before .before .before .before .before .before .before
+    .before .before .before .before .before .before .before .before .before .before .before .before .args .marks .now) -
+    headerNumbers) (c .before .before .before .before .before .before .before .before .before .before .before .before
+    .before .before .before .before .before .before .before .before .before .before .args .marks .now)
+    (c .before .before .before .before .before .before .before .put2 .last .1 .1 .1 .1 .1 .1 .0))
+    (c .before .before .before .before .before .before .before .put2 .last .1 .1 .1 .1 .1 .0) new
+    (rw rest at (c .before .before .before .before .before .before .before .put2 .ensures)) whole (c .staged2 .ensures))
 
 pub store-spec : {M : Type 1} → statement M
 store-spec =

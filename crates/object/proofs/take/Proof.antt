@@ -39,7 +39,18 @@ store-requires : tie.Need-store-requires
 store-requires c κs =
     let lent : Lent = shares (c .before .before .before .before .before .before .before .before .before .before .before .before .before .before .before .before .before .args .header .now) (c .before .before .before .before .before .before .before .before .before .before .before .before .before .before .before .before .before .args .body .now) (c .before .before .before .before .before .before .before .before .before .before .before .before .before .before .before .before .before .args .marks .now) in
     let s : Segment = segment (c .before .before .before .before .before .before .before .before .before .before .before .before .before .before .before .before .before .args .number) (c .before .before .before .before .before .before .before .before .before .before .before .before .before .before .before .before .before .args .last) (c .before .before .before .before .before .before .before .before .before .before .before .before .before .before .before .before .before .args .bytes .now) in
-    decided-fits (c .before .before .before .before .before .before .before .before .before .before .before .before .before .before .before .before .before .args .part) (c .before .before .before .before .before .before .before .before .before .before .before .before .before .before .before .before .before .args .limit) s (c .before .before .before .before .before .before .before .before .before .before .before .before .before .before .before .before .before .args .slot) lent (c .before .before .before .before .before .before .before .before .before .before .tally-of .result) (c .before .before .before .before .decided .given .0 .0) (c .before .before .before .before .before .before .before .before .before .before .before .before .before .before .before .before .before .pre) (c .before .before .before .before .before .before .before .before .before .before .tally-of .ensures .0) (sym (c .before .before .before .before .before .before .decide .ensures) ∙ c .before .before .before .before .decided .given .1)
+    decided-fits (c .before .before .before .before .before .before .before .before .before .before .before .before
+    .before .before .before .before .before .args .part)
+    (c .before .before .before .before .before .before .before .before .before .before .before .before .before .before
+    .before .before .before .args .limit) s
+    (c .before .before .before .before .before .before .before .before .before .before .before .before .before .before
+    .before .before .before .args .slot) lent
+    (c .before .before .before .before .before .before .before .before .before .before .tally-of .result)
+    (c .before .before .before .before .decided .given .0 .0)
+    (c .before .before .before .before .before .before .before .before .before .before .before .before .before .before
+    .before .before .before .pre) (c .before .before .before .before .before .before .before .before .before .before
+    .tally-of .ensures .0) (sym (c .before .before .before .before .before .before .decide .ensures) ∙
+    c .before .before .before .before .decided .given .1)
 
 same-length : tie.Need-same-length
 same-length c = search needs

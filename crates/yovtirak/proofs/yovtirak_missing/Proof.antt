@@ -57,5 +57,6 @@ returns-3 c =
 
 pub yovtirak-missing-spec : {M : Type 1} → statement M
 yovtirak-missing-spec =
-    tie.close (tie.spec returns readable-requires returns-2 collector-from-requires counts-from-requires missing-requires
+    tie.close (tie.spec returns readable-requires returns-2 collector-from-requires counts-from-requires
+    missing-requires
     awaited-word-requires returns-3)

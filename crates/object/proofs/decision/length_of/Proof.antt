@@ -25,13 +25,19 @@ enum-told-2 : tie.Need-enum-told-2
 enum-told-2 c = search needs
 
 cast-t7 : tie.Need-cast-t7
-cast-t7 c = record { fits = omega (arith, rw (c .before .before .before .core .given .1) at (c .before .before .before .before .before .pre .0)) }
+cast-t7 c = record {
+  fits = omega
+      (arith, rw (c .before .before .before .core .given .1) at (c .before .before .before .before .before .pre .0));
+}
 
 enum-told-3 : tie.Need-enum-told-3
 enum-told-3 c = search needs
 
 cast-t8 : tie.Need-cast-t8
-cast-t8 c = record { fits = omega (arith, rw (c .before .before .before .core .given .1) at (c .before .before .before .before .before .pre .0)) }
+cast-t8 c = record {
+  fits = omega
+      (arith, rw (c .before .before .before .core .given .1) at (c .before .before .before .before .before .pre .0));
+}
 
 returns-2 : tie.Need-returns-2
 returns-2 c = rw (c .before .before .before .core .given .1, c .enum-told2 .given .1) refl

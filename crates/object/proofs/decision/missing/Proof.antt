@@ -39,7 +39,8 @@ enum-told-2 c = search needs
 returns-2 : tie.Need-returns-2
 unfolding missingBy
 returns-2 c = rw (
-  sym (c .before .before .before .before .before .before .length-of .ensures) ∙ c .before .before .before .before .header .given .1,
+  sym (c .before .before .before .before .before .before .length-of .ensures) ∙
+      c .before .before .before .before .header .given .1,
   sym (c .before .before .length-of2 .ensures) ∙ c .enum-told2 .given .1,
 ) refl
 
@@ -63,34 +64,74 @@ add-came c = search needs
 
 returns-3 : tie.Need-returns-3
 returns-3 c =
-    let none : 0 ≡ c .before .before .before .before .before .before .before .before .header .given .0 .0 + c .before .before .before .before .body .given .0 .0 - (c .before .before .arrived .result + c .before .arrived2 .result) = omega arith in
-    ap (λ (n : ℕ). suc n) none ∙ known-missing (c .before .before .before .before .before .before .before .before .before .before .before .args .core) (c .before .before .before .before .before .before .before .before .before .before .before .args .h) (c .before .before .before .before .before .before .before .before .before .before .before .args .b) (c .before .before .before .before .before .before .before .before .before .before .before .args .p)
+    let none : 0 ≡ c .before .before .before .before .before .before .before .before .header .given .0 .0 +
+    c .before .before .before .before .body .given .0 .0 -
+    (c .before .before .arrived .result + c .before .arrived2 .result) = omega arith in
+    ap (λ (n : ℕ). suc n) none ∙ known-missing
+    (c .before .before .before .before .before .before .before .before .before .before .before .args .core)
+    (c .before .before .before .before .before .before .before .before .before .before .before .args .h)
+    (c .before .before .before .before .before .before .before .before .before .before .before .args .b)
+    (c .before .before .before .before .before .before .before .before .before .before .before .args .p)
     (c .before .before .before .before .before .before .before .before .before .before .before .args .q)
-    (c .before .before .before .before .before .before .before .before .header .given .0 .0) (c .before .before .before .before .body .given .0 .0)
+    (c .before .before .before .before .before .before .before .before .header .given .0 .0)
+    (c .before .before .before .before .body .given .0 .0)
     (c .before .before .arrived .result) (c .before .arrived2 .result)
-    (sym (c .before .before .before .before .before .before .before .before .before .before .length-of .ensures) ∙ c .before .before .before .before .before .before .before .before .header .given .1)
-    (sym (c .before .before .before .before .before .before .length-of2 .ensures) ∙ c .before .before .before .before .body .given .1)
+    (sym (c .before .before .before .before .before .before .before .before .before .before .length-of .ensures) ∙
+    c .before .before .before .before .before .before .before .before .header .given .1)
+    (sym (c .before .before .before .before .before .before .length-of2 .ensures) ∙
+    c .before .before .before .before .body .given .1)
     (c .before .before .arrived .ensures .0) (c .before .arrived2 .ensures .0)
 
 cast-rest : tie.Need-cast-rest
 cast-rest c =
-    let h = length-low Header (c .before .before .before .before .before .before .before .before .before .before .before .args .core) (c .before .before .before .before .before .before .before .before .before .before .before .args .p) (c .before .before .before .before .before .before .before .before .before .before .before .pre .0) (c .before .before .before .before .before .before .before .before .before .before .before .pre .1) (c .before .before .before .before .before .before .before .before .header .given .0 .0) (sym (c .before .before .before .before .before .before .before .before .before .before .length-of .ensures) ∙ c .before .before .before .before .before .before .before .before .header .given .1) in
-    let b = length-low Body (c .before .before .before .before .before .before .before .before .before .before .before .args .core) (c .before .before .before .before .before .before .before .before .before .before .before .args .q) (c .before .before .before .before .before .before .before .before .before .before .before .pre .0) (c .before .before .before .before .before .before .before .before .before .before .before .pre .2) (c .before .before .before .before .body .given .0 .0) (sym (c .before .before .before .before .before .before .length-of2 .ensures) ∙ c .before .before .before .before .body .given .1) in
+    let h = length-low Header (c .before .before .before .before .before .before .before .before .before .before .before
+    .args .core) (c .before .before .before .before .before .before .before .before .before .before .before .args .p)
+    (c .before .before .before .before .before .before .before .before .before .before .before .pre .0)
+    (c .before .before .before .before .before .before .before .before .before .before .before .pre .1)
+    (c .before .before .before .before .before .before .before .before .header .given .0 .0)
+    (sym (c .before .before .before .before .before .before .before .before .before .before .length-of .ensures) ∙
+    c .before .before .before .before .before .before .before .before .header .given .1) in
+    let b = length-low Body (c .before .before .before .before .before .before .before .before .before .before .before
+    .args .core) (c .before .before .before .before .before .before .before .before .before .before .before .args .q)
+    (c .before .before .before .before .before .before .before .before .before .before .before .pre .0)
+    (c .before .before .before .before .before .before .before .before .before .before .before .pre .2)
+    (c .before .before .before .before .body .given .0 .0)
+    (sym (c .before .before .before .before .before .before .length-of2 .ensures) ∙
+    c .before .before .before .before .body .given .1) in
     record { fits = omega (arith, h, b) }
 
 add-result : tie.Need-add-result
 add-result c =
-    let h = length-low Header (c .before .before .before .before .before .before .before .before .before .before .before .args .core) (c .before .before .before .before .before .before .before .before .before .before .before .args .p) (c .before .before .before .before .before .before .before .before .before .before .before .pre .0) (c .before .before .before .before .before .before .before .before .before .before .before .pre .1) (c .before .before .before .before .before .before .before .before .header .given .0 .0) (sym (c .before .before .before .before .before .before .before .before .before .before .length-of .ensures) ∙ c .before .before .before .before .before .before .before .before .header .given .1) in
-    let b = length-low Body (c .before .before .before .before .before .before .before .before .before .before .before .args .core) (c .before .before .before .before .before .before .before .before .before .before .before .args .q) (c .before .before .before .before .before .before .before .before .before .before .before .pre .0) (c .before .before .before .before .before .before .before .before .before .before .before .pre .2) (c .before .before .before .before .body .given .0 .0) (sym (c .before .before .before .before .before .before .length-of2 .ensures) ∙ c .before .before .before .before .body .given .1) in
+    let h = length-low Header (c .before .before .before .before .before .before .before .before .before .before .before
+    .args .core) (c .before .before .before .before .before .before .before .before .before .before .before .args .p)
+    (c .before .before .before .before .before .before .before .before .before .before .before .pre .0)
+    (c .before .before .before .before .before .before .before .before .before .before .before .pre .1)
+    (c .before .before .before .before .before .before .before .before .header .given .0 .0)
+    (sym (c .before .before .before .before .before .before .before .before .before .before .length-of .ensures) ∙
+    c .before .before .before .before .before .before .before .before .header .given .1) in
+    let b = length-low Body (c .before .before .before .before .before .before .before .before .before .before .before
+    .args .core) (c .before .before .before .before .before .before .before .before .before .before .before .args .q)
+    (c .before .before .before .before .before .before .before .before .before .before .before .pre .0)
+    (c .before .before .before .before .before .before .before .before .before .before .before .pre .2)
+    (c .before .before .before .before .body .given .0 .0)
+    (sym (c .before .before .before .before .before .before .length-of2 .ensures) ∙
+    c .before .before .before .before .body .given .1) in
     record { fits = omega (arith, h, b) }
 
 returns-4 : tie.Need-returns-4
-returns-4 c = add-one _ ∙ known-missing (c .before .before .before .before .before .before .before .before .before .before .before .args .core) (c .before .before .before .before .before .before .before .before .before .before .before .args .h) (c .before .before .before .before .before .before .before .before .before .before .before .args .b) (c .before .before .before .before .before .before .before .before .before .before .before .args .p)
+returns-4 c = add-one _ ∙ known-missing
+    (c .before .before .before .before .before .before .before .before .before .before .before .args .core)
+    (c .before .before .before .before .before .before .before .before .before .before .before .args .h)
+    (c .before .before .before .before .before .before .before .before .before .before .before .args .b)
+    (c .before .before .before .before .before .before .before .before .before .before .before .args .p)
     (c .before .before .before .before .before .before .before .before .before .before .before .args .q)
-    (c .before .before .before .before .before .before .before .before .header .given .0 .0) (c .before .before .before .before .body .given .0 .0)
+    (c .before .before .before .before .before .before .before .before .header .given .0 .0)
+    (c .before .before .before .before .body .given .0 .0)
     (c .before .before .arrived .result) (c .before .arrived2 .result)
-    (sym (c .before .before .before .before .before .before .before .before .before .before .length-of .ensures) ∙ c .before .before .before .before .before .before .before .before .header .given .1)
-    (sym (c .before .before .before .before .before .before .length-of2 .ensures) ∙ c .before .before .before .before .body .given .1)
+    (sym (c .before .before .before .before .before .before .before .before .before .before .length-of .ensures) ∙
+    c .before .before .before .before .before .before .before .before .header .given .1)
+    (sym (c .before .before .before .before .before .before .length-of2 .ensures) ∙
+    c .before .before .before .before .body .given .1)
     (c .before .before .arrived .ensures .0) (c .before .arrived2 .ensures .0)
 
 pub missing-spec : {M : Type 1} → statement M

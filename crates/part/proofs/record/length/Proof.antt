@@ -23,13 +23,22 @@ sub-before : tie.Need-sub-before
 sub-before c = search needs
 
 mul-before : tie.Need-mul-before
-mul-before c = record { fits = omega (arith, whole-low (c .before .before .before .args .p) (c .before .before .before .pre) (omega arith)) }
+mul-before c = record {
+  fits = omega
+      (arith, whole-low (c .before .before .before .args .p) (c .before .before .before .pre) (omega arith));
+}
 
 add-whole : tie.Need-add-whole
-add-whole c = record { fits = omega (arith, whole-low (c .before .before .before .args .p) (c .before .before .before .pre) (omega arith)) }
+add-whole c = record {
+  fits = omega
+      (arith, whole-low (c .before .before .before .args .p) (c .before .before .before .pre) (omega arith));
+}
 
 cast-t10 : tie.Need-cast-t10
-cast-t10 c = record { fits = omega (arith, whole-low (c .before .before .before .args .p) (c .before .before .before .pre) (omega arith)) }
+cast-t10 c = record {
+  fits = omega
+      (arith, whole-low (c .before .before .before .args .p) (c .before .before .before .pre) (omega arith));
+}
 
 returns-4 : tie.Need-returns-4
 returns-4 c = let p = c .before .before .before .args .p in
