@@ -411,7 +411,8 @@ class Walk:
         """A field that is read: its type and its value are named, as what the prover would fill in spells them out."""
         given = '{τ = %s}' % mir
         read = 'look-in ! %d %s {v = %s} (sub ! %d %s refl (whole !))' % (at, given, value, number, given)
-        return '{v = %s} (of-opd ! (load ! {v = %s} (from ! (fld ! %s refl (stop !))) (%s)))' % (value, value, given, read)
+        load = 'load ! {v = %s} (from ! (fld ! %s refl (stop !))) (%s)' % (value, given, read)
+        return '{v = %s} (of-opd ! (%s))' % (value, load)
 
     def said(s):
         """Said, and the names of the last values: in the order of the caller's parameters."""
@@ -607,8 +608,13 @@ class Walk:
         t = c.at('_%d' % tl)
         c.say('land ! (from ! (stop !)) (init ! {0} refl ({1} .typed r _ is .0)) $ rewrite ! {0} (λ (u : Val). ‵ (fat fullShare {2} l{3} 0 u)) (ap only ({4} r _ is)) refl $'.format(t, s.K['lawful'], s.K['mir'], tl, s.K['tells']))
         c.say('-- the record is stored, and the rest returned')
-        c.say('assigns ! %s (from ! (hop ! (look ! %d refl) (stop !))) (store-raw ! %d refl (typedC (r .%s) (is-rec r w is))) $' % (s.field(t, 0, s.rec['mir'], 'machC (r .%s)' % cf), c.at(me), c.at('cell'), cf))
-        c.say('assigns ! %s (from ! (stop !)) (init ! %d {τ = %s} {v = machP (r .%s)} refl (%s .typed (r .%s) _ (is-rest r w is) .0)) $' % (s.field(t, 1, s.rest['mir'], 'machP (r .%s)' % rf), c.at('_0'), s.rest['mir'], rf, s.rest['lawful'], rf))
+        stored = 'store-raw ! %d refl (typedC (r .%s) (is-rec r w is))' % (c.at('cell'), cf)
+        c.say('assigns ! %s (from ! (hop ! (look ! %d refl) (stop !))) (%s) $'
+              % (s.field(t, 0, s.rec['mir'], 'machC (r .%s)' % cf), c.at(me), stored))
+        returned = 'init ! %d {τ = %s} {v = machP (r .%s)} refl (%s .typed (r .%s) _ (is-rest r w is) .0)' % (
+            c.at('_0'), s.rest['mir'], rf, s.rest['lawful'], rf)
+        c.say('assigns ! %s (from ! (stop !)) (%s) $'
+              % (s.field(t, 1, s.rest['mir'], 'machP (r .%s)' % rf), returned))
         c.rep(0, ['ownC'], s.makeC('(r .%s)' % cf, '(is-rec r w is)'))
         c.move('cell', 'ownC', 'obor', 'obs', 'auth')
         c.rep(5, ['obs', 'bor', 'lft'], 'closes ! tt R (r .%s) (machC (r .%s) ∷ []) b o $' % (cf, cf))
