@@ -1,19 +1,21 @@
 // What the collector answers (document 01, "What comes back"): one type, and one table with a row for
 // each answer: its number, its name and the values that are returned with it. Every contract above
 // speaks of answers through that table. The answers that carry nothing are one case with a reason in it.
+#![tactic(auto)]
+
 ghost use Rattle.std.specs.Prelude.{◌≡◌};
 ghost use Rattle.answer.specs.Table.{number_of, name_of, returned_with, refusal_row, reason_row, row_of, Reads};
 ghost use Rattle.answer.specs.Letters.{Spells};
 
 // The two parts of an object.
-#[derive(Drop)]
+#[derive(Clone, Copy)]
 pub enum Part {
     Header,
     Body,
 }
 
 // The segment that an answer speaks of: its transport number, its part and its segment number.
-#[derive(Drop)]
+#[derive(Clone, Copy)]
 pub struct Heard {
     pub number: u16,
     pub part: Part,
@@ -22,7 +24,7 @@ pub struct Heard {
 
 // What the sender of a group meant by a repeat: its repetition index, its continuity index and its
 // repetition count. All three are 0 for a segment that came without a group.
-#[derive(Drop)]
+#[derive(Clone, Copy)]
 pub struct Repetition {
     pub index: u8,
     pub continuity: u8,
@@ -30,7 +32,7 @@ pub struct Repetition {
 }
 
 // Why a group is not read: numbers 10 to 16.
-#[derive(Drop)]
+#[derive(Clone, Copy)]
 pub enum Refusal {
     Length,
     NoCheck,
@@ -42,7 +44,7 @@ pub enum Refusal {
 }
 
 // Why a call gives nothing: numbers 19 to 26, of which 23 is retired.
-#[derive(Drop)]
+#[derive(Clone, Copy)]
 pub enum Reason {
     NotHeld,
     Unfinished,
@@ -53,7 +55,7 @@ pub enum Reason {
     State,
 }
 
-#[derive(Drop)]
+#[derive(Clone, Copy)]
 pub enum Answer {
     Stored(Heard, Repetition),
     Complete(Heard, Repetition),
@@ -67,7 +69,7 @@ pub enum Answer {
 
 // The values that come with an answer: a segment's with what its sender meant by a repeat, a segment's alone, a
 // transport number alone, or none.
-#[derive(Drop)]
+#[derive(Clone, Copy)]
 pub enum Returned {
     Sent(Heard, Repetition),
     Segment(Heard),
@@ -76,14 +78,14 @@ pub enum Returned {
 }
 
 // A name in ASCII: its letters, filled up with blanks, and how many they are.
-#[derive(Drop)]
+#[derive(Clone, Copy)]
 pub struct Name {
     pub letters: [u8; 10],
     pub length: usize,
 }
 
 // A row of the table.
-#[derive(Drop)]
+#[derive(Clone, Copy)]
 struct Row {
     number: u8,
     letters: [u8; 10],

@@ -1,6 +1,8 @@
 // The worked cases of document 01, "Both sides of the line", others at each bound and those of the empty last segment,
 // run on the decision of crate `cut` and written with its verdict, one case a line. What must be written comes from the
 // independent program, which searches every length and every size (independent/src/bin/cases.rs).
+#![tactic(auto)]
+
 ghost use Rattle.std.specs.Prelude.{◌≡◌, true, false, ◌<◌};
 ghost use Rattle.cases.specs.Pieces.{is_there, count_of, kept_with, top_with, goes_with, verdict_by, verdict_of};
 
@@ -11,7 +13,7 @@ const LIMIT: usize = 12288;
 const MOST: usize = 1048576;
 
 // A segment, as far as the decision looks at it. One with a number of more than 15 bits is none.
-#[derive(Drop)]
+#[derive(Clone, Copy)]
 struct Piece {
     number: usize,
     last: bool,
@@ -19,7 +21,7 @@ struct Piece {
 }
 
 // What the decision makes of a case.
-#[derive(Drop)]
+#[derive(Clone, Copy)]
 enum Verdict {
     Conflicts,
     Fits,

@@ -2,6 +2,8 @@
 // counts that the caller lends. Its limits are the type's constants (specs/Bounds.antt), and opening
 // is a function of the type. Every call, a question too, checks all that it is given before anything
 // else, the counts among it; what it answers and all that it leaves is one definition (specs/Calls.antt).
+#![tactic(auto)]
+
 ghost use Rattle.std.specs.Prelude.{◌≡◌, true, ◌<◌};
 ghost use Rattle.object.specs.Asked.{Offered};
 ghost use Rattle.slots.specs.Find.{find_in};
@@ -22,7 +24,7 @@ use slots::Found;
 use wire::{Carried, Reading};
 
 // A collector: the limit on a body, how many slots it has, and the slots.
-#[derive(Drop)]
+#[derive(Clone, Copy)]
 pub struct Collector {
     pub limit: usize,
     pub count: usize,
@@ -30,7 +32,7 @@ pub struct Collector {
 }
 
 // The bounds of the type.
-#[derive(Drop)]
+#[derive(Clone, Copy)]
 pub struct BoundingNumbers {
     pub group_least: usize,
     pub group_most: usize,
@@ -49,7 +51,7 @@ pub struct BoundingNumbers {
 }
 
 // Whether a collector is open, or why it is not.
-#[derive(Drop)]
+#[derive(Clone, Copy)]
 pub enum Opening {
     Open,
     Denied(Reason),
@@ -57,7 +59,7 @@ pub enum Opening {
 
 // What an opening hands back. A refused one hands back a collector that every call answers with
 // STATE.
-#[derive(Drop)]
+#[derive(Clone, Copy)]
 pub struct Opened {
     pub opening: Opening,
     pub collector: Collector,
@@ -65,7 +67,7 @@ pub struct Opened {
 }
 
 // Where a finished object is, or why it can't be shown.
-#[derive(Drop)]
+#[derive(Clone, Copy)]
 pub enum Located {
     At(usize),
     Denied(Reason),
@@ -82,7 +84,7 @@ fn located_as(stage: Stage, i: usize) -> Located
 }
 
 // What a call answers, and the collector and the counts afterwards.
-#[derive(Drop)]
+#[derive(Clone, Copy)]
 pub struct Reply {
     pub answer: Answer,
     pub collector: Collector,
@@ -91,7 +93,7 @@ pub struct Reply {
 
 // What a segment comes to: the answer, and the slot that is put in one place, if one is. It is handed
 // from function to function in place of the collector, which is more than ten times as large.
-#[derive(Drop)]
+#[derive(Clone, Copy)]
 enum Change {
     Nothing(Answer),
     At(usize, Slot, Answer),

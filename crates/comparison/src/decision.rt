@@ -10,7 +10,7 @@ use answer::Part;
 use cut::{Core, Record};
 
 // What is kept of a part: 1 + the highest number of a full segment, or 0, and its record.
-#[derive(Drop)]
+#[derive(Clone, Copy)]
 struct Kept {
     top: usize,
     part: Record,

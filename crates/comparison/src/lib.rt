@@ -1,5 +1,7 @@
 // What the comparison with the independent program calls, from Rust: the proved functions below
 // the collector, exported on numbers and slices. Nothing else links it.
+#![tactic(auto)]
+
 mod decision;
 mod headers;
 

@@ -1,6 +1,8 @@
 // The header core (EN 301 234, clause 5.1): 7 bytes with the four fields BodySize, HeaderSize,
 // ContentType and ContentSubType, read off any bytes. Bytes that are not there read as 0, so that
 // a header segment of any length can be asked what it says.
+#![tactic(auto)]
+
 ghost use Rattle.std.specs.Prelude.{◌≡◌, ◌<◌, get_or};
 ghost use Rattle.cut.specs.Requirement.{body_size, header_size, content_type, content_sub_type};
 

@@ -1,12 +1,14 @@
 // The five counts (document 01, "Five counts"): each is the number of such answers since opening,
 // and stays at 2147483647. Which answers are counted where is one definition, by cases on the
 // answer.
+#![tactic(auto)]
+
 ghost use Rattle.std.specs.Prelude.{◌≡◌};
 ghost use Rattle.counts.specs.Counted.{risen, none_yet, counted, within};
 
 use answer::Answer;
 
-#[derive(Drop)]
+#[derive(Clone, Copy)]
 pub struct Counts {
     pub taken: u32,
     pub repeated: u32,

@@ -2,6 +2,8 @@
 // by x^16 + x^12 + x^5 + 1 that starts from all ones and is complemented. The definition divides
 // one bit at a time; the code takes a byte at a time, from a table of 256 remainders whose rule,
 // eight steps from the index in the high byte, is proved once over the whole table.
+#![tactic(auto)]
+
 ghost use Rattle.std.specs.Prelude.{◌≡◌};
 ghost use Rattle.crc.specs.CheckWord.{check_word};
 

@@ -2,6 +2,8 @@
 // from one object within the bounds, cut at one size a part. specs/Requirement.antt says what that means,
 // specs/Decision.antt decides it on numbers, and specs/laws/Theorem.antt proves that decision exact. The bounds and the
 // types are here; the code stands over it: crate part has one part, and crate object joins the two.
+#![tactic(auto)]
+
 pub const HEADER_LEAST: usize = 7;
 
 pub const HEADER_MOST: usize = 1024;
@@ -19,7 +21,7 @@ pub const HEADER_NUMBERS: usize = 64;
 pub const BODY_NUMBERS: usize = 1024;
 
 // What header segment 0 says, once it is in: BodySize and HeaderSize.
-#[derive(Drop)]
+#[derive(Clone, Copy)]
 pub enum Core {
     Unseen,
     Seen { body: usize, header: usize },
@@ -27,7 +29,7 @@ pub enum Core {
 
 // The bounds of a part: its length, and how many segment numbers it has. Where least and most meet, its length is
 // known.
-#[derive(Drop)]
+#[derive(Clone, Copy)]
 pub struct Bounds {
     pub least: usize,
     pub most: usize,
@@ -36,7 +38,7 @@ pub struct Bounds {
 
 // What is kept of a part: the size of its cut, 0 while it isn't known; end, 1 + the number of the last segment, 0 while
 // it isn't in; tail, the length of that one.
-#[derive(Drop)]
+#[derive(Clone, Copy)]
 pub struct Record {
     pub size: usize,
     pub end: usize,
@@ -44,7 +46,7 @@ pub struct Record {
 }
 
 // A number of bytes, once it is known.
-#[derive(Drop)]
+#[derive(Clone, Copy)]
 pub enum Amount {
     Unknown,
     Known(u32),

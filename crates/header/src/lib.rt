@@ -4,6 +4,8 @@
 // clauses 5.1 and 5.2, with the single parameters and the matching of names from TS 101 498-1, clause 5.4. No function
 // that others call asks anything of its bytes but that the core's 7 are there, as they are in every finished header,
 // and no byte past the header is looked at.
+#![tactic(auto)]
+
 ghost use Rattle.std.specs.Prelude.{◌≡◌, ◌≤◌, ◌<◌, length, eqb};
 ghost use Rattle.octets.specs.Octets.{both};
 ghost use Rattle.cut.specs.Requirement.{header_least};
@@ -18,7 +20,7 @@ pub const CORE: usize = cut::HEADER_LEAST;
 const IDENTIFIERS: usize = 64;
 
 // One parameter: its identifier, where its data starts in the header, and how many bytes it has.
-#[derive(Drop)]
+#[derive(Clone, Copy)]
 pub struct Parameter {
     pub identifier: u8,
     pub start: usize,
@@ -26,28 +28,28 @@ pub struct Parameter {
 }
 
 // A parameter, or none.
-#[derive(Drop)]
+#[derive(Clone, Copy)]
 pub enum Found {
     Nothing,
     One(Parameter),
 }
 
 // Priority's byte.
-#[derive(Drop)]
+#[derive(Clone, Copy)]
 pub enum Priority {
     Absent,
     Byte(u8),
 }
 
 // ContentName's data: where it starts in the header, and how many bytes it has.
-#[derive(Drop)]
+#[derive(Clone, Copy)]
 pub enum Name {
     Absent,
     Data(usize, usize),
 }
 
 // What a header says.
-#[derive(Drop)]
+#[derive(Clone, Copy)]
 pub struct Fields {
     pub body_size: u32,
     pub header_size: u16,
@@ -58,21 +60,21 @@ pub struct Fields {
 }
 
 // Why a header is refused: its list is broken; a single parameter comes twice.
-#[derive(Drop)]
+#[derive(Clone, Copy)]
 pub enum Refusal {
     Header,
     Duplicate,
 }
 
 // What reading a header gives.
-#[derive(Drop)]
+#[derive(Clone, Copy)]
 pub enum Reading {
     Refused(Refusal),
     Read(Fields),
 }
 
 // What one pass over the list has noted so far.
-#[derive(Drop)]
+#[derive(Clone, Copy)]
 struct Notes {
     repeated: bool,
     priority: Found,
@@ -80,7 +82,7 @@ struct Notes {
 }
 
 // What one pass comes to.
-#[derive(Drop)]
+#[derive(Clone, Copy)]
 enum Scan {
     Broken,
     Whole(Notes),

@@ -2,3 +2,4 @@
 // opening. Definitions and theorems alone, no code: a call is one of the collector's own, each is
 // handed the state and the lent memory just as the one before left them, and what was stored under a
 // number is read off the answers.
+#![tactic(auto)]

@@ -3,6 +3,8 @@
 // (specs/Layout.antt). Words that hold no state are told by `readable`; a free slot's other words
 // and the slots past the number of slots play no part in it (document 01, STATE). Nothing is lost:
 // a collector that is written reads back as it was.
+#![tactic(auto)]
+
 ghost use Rattle.std.specs.Prelude.{◌≡◌, ◌++◌, ◌+◌, ◌*◌, ◌≤◌, length, take};
 ghost use Rattle.slots.specs.Stores.{slots_most};
 ghost use Rattle.layout.specs.Layout.{stage_tag, header_word, body_word, five, slot_words, slots_words, words_of, count_words, stage_from, stage_at, number_from, missing_from, record_at, slot_in, slots_from, collector_from, counts_from, slot_readable, readable_from, readable};

@@ -4,6 +4,8 @@
 // and all that it leaves is the same definition as that of the call by value
 // (collector/specs/Calls.antt). Beside each stands a function that lends a local record for the call,
 // for callers that have the counts by value.
+#![tactic(auto)]
+
 ghost use Rattle.std.specs.Prelude.{◌≡◌};
 ghost use Rattle.collector.specs.State.{stores, state, start};
 ghost use Rattle.collector.specs.Calls.{take_group, drop_number, open_with};
@@ -14,28 +16,28 @@ use collector::{Collector, Opening};
 use counts::Counts;
 
 // What a call answers, and the collector afterwards.
-#[derive(Drop)]
+#[derive(Clone, Copy)]
 pub struct Answered {
     pub answer: Answer,
     pub collector: Collector,
 }
 
 // Whether a collector is open, and the collector.
-#[derive(Drop)]
+#[derive(Clone, Copy)]
 pub struct Begun {
     pub opening: Opening,
     pub collector: Collector,
 }
 
 // A call by value: the counts that it leaves beside it.
-#[derive(Drop)]
+#[derive(Clone, Copy)]
 pub struct CountedAnswer {
     pub counts: Counts,
     pub answered: Answered,
 }
 
 // An opening by value: the counts that it leaves beside it.
-#[derive(Drop)]
+#[derive(Clone, Copy)]
 pub struct CountedOpening {
     pub counts: Counts,
     pub begun: Begun,

@@ -3,6 +3,8 @@
 // more of the input is read. All memory is lent here, once, so none grows with the input. What an
 // input leaves is what its lines leave, each done once, in order (`lines-done` in
 // specs/laws/Theorems.antt).
+#![tactic(auto)]
+
 ghost use Rattle.std.specs.Prelude.{◌≡◌, ◌≤◌, length, take};
 ghost use Rattle.collector.specs.State.{stores};
 ghost use Rattle.listing.specs.Listed.{leaving, served, next_of, listed_as, line_listed, input_listed, end_listed, Reads};
@@ -26,7 +28,7 @@ const BODY_STORE: usize = SLOTS * LIMIT;
 const MARKS: usize = SLOTS * Collector::SLOT_MARKS;
 
 // The collector, and the counts that are lent to it.
-#[derive(Drop)]
+#[derive(Clone, Copy)]
 struct Held {
     collector: Collector,
     counts: Counts,
@@ -34,7 +36,7 @@ struct Held {
 
 // What is carried from line to line: how many lines came, how many characters of the next one are
 // kept, and what is held.
-#[derive(Drop)]
+#[derive(Clone, Copy)]
 struct Listing {
     lines: u64,
     kept: usize,
@@ -42,7 +44,7 @@ struct Listing {
 }
 
 // What one read left, and how many bytes came.
-#[derive(Drop)]
+#[derive(Clone, Copy)]
 struct Went {
     listing: Listing,
     count: usize,

@@ -2,6 +2,8 @@
 // whatever the chunks are that it comes in, and what one line asks for, whatever its characters
 // are. A group's bytes are left in lent memory, with the CRC behind them where the line has none; a
 // malformed line leaves that memory as it was.
+#![tactic(auto)]
+
 ghost use Rattle.std.specs.Prelude.{true, ◌≡◌, ◌+◌, ◌≤◌, length, take};
 ghost use Rattle.octets.specs.Octets.{over};
 ghost use Rattle.listing_input.specs.Hex.{digit_of, is_hex, bytes_of};
@@ -19,7 +21,7 @@ pub const GROUP_MOST: usize = 8217;
 
 // What a line asks for: a group of so many bytes, which stand in the lent memory, to be taken; a
 // transport number to be dropped; or neither, which is LINE.
-#[derive(Drop)]
+#[derive(Clone, Copy)]
 pub enum Line {
     Group(usize),
     Drop(u16),
@@ -28,7 +30,7 @@ pub enum Line {
 
 // What a chunk gives of a line: where the next line starts, how many characters of this one are
 // kept, and whether a newline ended it.
-#[derive(Drop)]
+#[derive(Clone, Copy)]
 pub struct Gathered {
     pub next: usize,
     pub kept: usize,

@@ -1,6 +1,8 @@
 // The lines that the listing writes (document 01, "The listing program"): one for each answer, one
 // for each malformed line, and the five counts at the end. Each is laid over the start of lent
 // memory, byte for byte as its definition spells it, and the rest of that memory stays.
+#![tactic(auto)]
+
 ghost use Rattle.std.specs.Prelude.{◌≡◌, [], ◌∷◌, ◌++◌, ◌+◌, ◌≤◌, ◌<◌, length, drop};
 ghost use Rattle.answer.specs.Letters.{letters as spelling};
 ghost use Rattle.answer.specs.Table.{name_of};
@@ -12,7 +14,7 @@ ghost use Rattle.listing_output.specs.Text.{space, text_of, part_of, segment_tex
 use answer::{Answer, Heard, Part, Repetition, Returned};
 
 // A number's decimal digits: those from `start` on.
-#[derive(Drop)]
+#[derive(Clone, Copy)]
 struct Numeral {
     digits: [u8; 20],
     start: usize,

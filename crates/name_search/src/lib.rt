@@ -2,6 +2,8 @@
 // of a header, and the lowest transport number among the finished objects that have a name. Only the
 // headers of finished objects are read, which have their core; else they may be any bytes, and one that
 // is refused has no name.
+#![tactic(auto)]
+
 ghost use Rattle.std.specs.Prelude.{◌≡◌, ◌+◌, ◌≤◌, length};
 ghost use Rattle.cut.specs.Requirement.{header_least};
 ghost use Rattle.header.specs.laws.Search.{is_named};
@@ -13,7 +15,7 @@ use header::{Found, Name, Parameter, Reading};
 use object::{Slot, Stage};
 
 // Whose a name is: nobody's, or that of the finished object with this transport number.
-#[derive(Drop)]
+#[derive(Clone, Copy)]
 pub enum Holder {
     Nobody,
     Number(u16),

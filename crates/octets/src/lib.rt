@@ -4,6 +4,8 @@
 // before, inside and after it and how it reads on the whole store; what marks add up to is in specs/laws/Marks.antt.
 // This is how document 01 stores a segment ("One object, one cut"). No loop here leaves early: a pass over all bytes is
 // the faster one.
+#![tactic(auto)]
+
 ghost use Rattle.std.specs.Prelude.{◌≡◌, ◌+◌, ◌≤◌, min, length, take, drop};
 ghost use Rattle.octets.specs.Octets.{over, zeros, equal, largest_of, sum_of};
 

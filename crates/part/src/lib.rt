@@ -1,6 +1,8 @@
 // One part of an object being gathered (document 01, "One object, one cut"), within any bounds: its record by value,
 // its marks and its share of a store lent. Whether a number is in and what stands there, whether one segment more fits,
 // the record with it, the segment put, and whether the part is sound. It knows neither header nor body.
+#![tactic(auto)]
+
 pub mod bounds;
 pub mod record;
 

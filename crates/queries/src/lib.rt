@@ -1,6 +1,8 @@
 // Questions about objects: what the header of a finished one says, its name as a part of the header
 // store, whose a name is, and how many bytes of an object, finished or not, are still to come. A
 // question changes nothing; it checks the state before anything else, the counts too.
+#![tactic(auto)]
+
 ghost use Rattle.std.specs.Prelude.{◌≡◌};
 ghost use Rattle.cut.specs.Missing.{amount_of};
 ghost use Rattle.collector.specs.State.{stores, state};
@@ -17,21 +19,21 @@ use name_search::Holder;
 use slots::Found;
 
 // What a finished object's header says, or why it is not told.
-#[derive(Drop)]
+#[derive(Clone, Copy)]
 pub enum Asked {
     Fields(Fields),
     Denied(Reason),
 }
 
 // The finished object that has a name, or why none is told.
-#[derive(Drop)]
+#[derive(Clone, Copy)]
 pub enum Sought {
     Number(u16),
     Denied(Reason),
 }
 
 // How many bytes of an object are still to come, once that is known, or why it is not told.
-#[derive(Drop)]
+#[derive(Clone, Copy)]
 pub enum Awaited {
     Bytes(Amount),
     Denied(Reason),

@@ -3,6 +3,8 @@
 // into one of the slots, a slot dropped, and a finished object's part of a store. Everything that runs over slots or
 // marks stands here; the collector above has the type, the answers and the counts. Each function is one definition
 // (specs/), and slot i has share i of each store and of the marks.
+#![tactic(auto)]
+
 ghost use Rattle.std.specs.Prelude.{◌≡◌, ◌+◌, ◌*◌, ◌≤◌, ◌<◌, leb, length, take, drop, set};
 ghost use Rattle.octets.specs.Octets.{zeros};
 ghost use Rattle.cut.specs.Requirement.{header_most, segment};
@@ -29,7 +31,7 @@ pub const SLOTS_MOST: usize = 16;
 pub const SLOT_MARKS: usize = cut::HEADER_NUMBERS + cut::BODY_NUMBERS;
 
 // Where a slot is found, or that none is.
-#[derive(Drop)]
+#[derive(Clone, Copy)]
 pub enum Found {
     Nothing,
     At(usize),

@@ -2,6 +2,8 @@
 // the group that segment's bytes stand, what its sender meant by a repeat and where the end user
 // address stands, or the first refusal in document 01's order. Any bytes of any length are read;
 // nothing past them is looked at.
+#![tactic(auto)]
+
 ghost use Rattle.std.specs.Prelude.{◌≡◌, ◌+◌, ◌/◌, ◌%◌, ◌≤◌, ◌<◌, length};
 ghost use Rattle.wire.specs.Wire.{check_bytes, word_at};
 ghost use Rattle.wire.specs.Reading.{kind_of, check_holds, least_size, size_wrong, reading_of, address_of};
@@ -26,7 +28,7 @@ pub const FULL_LEAST: usize = 16;
 const CHECK_BYTES: usize = 2;
 
 // What a group carries.
-#[derive(Drop)]
+#[derive(Clone, Copy)]
 pub enum Kind {
     Carries(Part),
     Other,
@@ -35,7 +37,7 @@ pub enum Kind {
 // A segment as a group carries it: its transport number, its part, its segment number, whether it is the last
 // one, and where in the group its bytes start and how many they are. Beside it, what plays no part in gathering:
 // what the sender meant by a repeat, and where in the group the end user address starts and how many bytes it has.
-#[derive(Drop)]
+#[derive(Clone, Copy)]
 pub struct Carried {
     pub number: u16,
     pub part: Part,
@@ -48,7 +50,7 @@ pub struct Carried {
     pub address_length: usize,
 }
 
-#[derive(Drop)]
+#[derive(Clone, Copy)]
 pub enum Reading {
     Read(Carried),
     Refused(Refusal),

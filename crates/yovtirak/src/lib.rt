@@ -2,6 +2,8 @@
 // is the caller's, the state and the counts too, as words (crate `layout`). Words that are no sound
 // state are answered with STATE, whatever they hold. What each call returns and leaves is one
 // definition (specs/Exports.antt) over the collector's own.
+#![tactic(auto)]
+
 ghost use Rattle.std.specs.Prelude.{◌≡◌, ◌<◌, length};
 ghost use Rattle.slots.specs.Stores.{slot_at};
 ghost use Rattle.layout.specs.Layout.{words_of, count_words};

@@ -1,0 +1,7 @@
+-- `collector::Collector::answered` meets its contract: the answer is counted, and nothing else changes.
+-- Assumes nothing.
+use borrow.Author.Rules.{rules}
+use Rattle.collector.proofs.Collector.answered.Goals as goal
+
+pub returns : goal.returns
+returns c = λ lent. rw c.counted.ensures

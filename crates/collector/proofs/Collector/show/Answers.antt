@@ -1,0 +1,15 @@
+-- `collector::Collector::show` meets its contract: where the object is, then its part of a store.
+-- Assumes nothing.
+use mathlib.Core.Path.{sym, ◌∙◌}
+use Rattle.collector.specs.Calls.{show}
+use borrow.Author.Rules.{rules}
+use Rattle.collector.proofs.Collector.show.Goals as goal
+
+pub returns-in_default : goal.returns-in_default
+unfolding show
+returns-in_default c = rw (sym c.locate.ensures ∙ c.in_default.is)
+
+pub returns : goal.returns
+unfolding show
+returns c = rw (sym c.locate.ensures ∙ c.in-At.is)
+    c.shown_at.ensures

@@ -1,0 +1,36 @@
+-- `comparison::beside_field` meets its contract, arm by arm.
+-- Assumes nothing.
+use borrow.Author.Tests.{ne_eqb}
+use Rattle.comparison.specs.Fields.{beside_field}
+use borrow.Author.Rules.{rules}
+use Rattle.comparison.proofs.beside_field.Goals as goal
+
+pub returns-in-7 : goal.returns-in-7
+unfolding beside_field
+returns-in-7 c = rw c.in-7.is
+
+pub returns-in-8 : goal.returns-in-8
+unfolding beside_field
+returns-in-8 c = rw c.in-8.is
+
+pub returns-in-9 : goal.returns-in-9
+unfolding beside_field
+returns-in-9 c = rw c.in-9.is
+
+pub returns-in-10 : goal.returns-in-10
+unfolding beside_field
+returns-in-10 c = rw c.in-10.is
+
+pub returns-in-11 : goal.returns-in-11
+unfolding beside_field
+returns-in-11 c = rw c.in-11.is
+
+pub returns-in_default : goal.returns-in_default
+unfolding beside_field
+returns-in_default c = simp (
+  ne_eqb _ 7 c.in-7.rest.0.0.0.0.1,
+  ne_eqb _ 8 c.in-7.rest.0.0.0.1,
+  ne_eqb _ 9 c.in-7.rest.0.0.1,
+  ne_eqb _ 10 c.in-7.rest.0.1,
+  ne_eqb _ 11 c.in-7.rest.1,
+)

@@ -1,0 +1,12 @@
+-- `comparison::decision::accepts_body` meets its contract. Assumes nothing.
+use mathlib.Core.Path.{refl, sym, ◌∙◌}
+use borrow.Author.Rules.{rules}
+use borrow.Author.Tests.{not-true, not-false}
+use Rattle.comparison.proofs.decision.accepts_body.Goals as goal
+
+pub returns-then-not-joins : goal.returns-then-not-joins
+returns-then-not-joins c = rw (sym c.joins.ensures ∙ not-true _ c.if-not-joins.true) refl
+
+pub returns : goal.returns
+returns c = rw (sym c.joins.ensures ∙ not-false _ c.if-not-joins.false)
+    (rw c.kept_with-with.ensures at c.suits.ensures)

@@ -1,0 +1,16 @@
+-- `core_fields::octet` meets its contract: a byte, or 0 past the end.
+-- Assumes nothing.
+use mathlib.Core.Path.{refl, sym}
+use native.Mathlib.Omega.{arith}
+use lib.ListN.{get_or-eq_default}
+use borrow.Author.Rules.{rules}
+use Rattle.core_fields.proofs.octet.Goals as goal
+
+pub overflow_cast-result : goal.overflow_cast-result
+overflow_cast-result c = omega (arith, c.type_inv.bytes c.args.at)
+
+pub returns-then-at-bytes : goal.returns-then-at-bytes
+returns-then-at-bytes c = (refl, omega (arith, c.type_inv.bytes c.args.at))
+
+pub returns : goal.returns
+returns c = (sym (get_or-eq_default c.args.bytes.now 0 c.if-at-bytes.false), omega arith)

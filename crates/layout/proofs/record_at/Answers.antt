@@ -1,0 +1,10 @@
+-- `layout::record_at` meets its contract.
+-- Assumes nothing.
+use mathlib.Core.Path.{refl}
+use Rattle.layout.specs.Layout.{record_at}
+use borrow.Author.Rules.{rules}
+use Rattle.layout.proofs.record_at.Goals as goal
+
+pub returns : goal.returns
+unfolding record_at
+returns c = refl

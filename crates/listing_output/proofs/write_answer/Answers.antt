@@ -1,0 +1,35 @@
+-- `listing_output::write_answer` meets its contract: number, name and values, one behind the other.
+-- Assumes nothing.
+use borrow.Author.Rules.{rules}
+use mathlib.Core.Path.{◌≡◌, refl, ap}
+use mathlib.Core.List.{List, [], ◌∷◌, ◌++◌}
+use Prim.Native.Nat.{ℕ}
+use native.Mathlib.Omega.{arith}
+use Rattle.answer.specs.declared.Returned.{Returned}
+use Rattle.answer.specs.declared.Returned.TheVariants.{Sent, Segment, Number, Nothing}
+use Rattle.answer.specs.Letters.{letters}
+use Rattle.answer.specs.Table.{name_of, returned_with}
+use Rattle.listing_output.specs.Number.{decimal}
+use Rattle.listing_output.specs.laws.Put.{put_same, put_then, put_whole}
+use Rattle.listing_output.specs.Text.{space, text_of, values_of, answer_text}
+use Rattle.listing_output.proofs.write_answer.Goals as goal
+
+-- there are values, whatever is returned
+with_values : (number name : List ℕ) (returned : Returned)
+    → (number ++ (space ∷ [])) ++ ((name ++ (space ∷ [])) ++ text_of (values_of returned))
+    ≡ text_of (number ∷ name ∷ values_of returned)
+with_values number name (Sent heard repetition) = refl
+with_values number name (Segment heard) = refl
+with_values number name (Number value) = refl
+with_values number name Nothing = refl
+
+pub returns : goal.returns
+unfolding answer_text
+returns c =
+    let number = c.put_decimal-name in
+    let name = c.put_name-values in
+    let values = put_same c.put_returned.ensures.put
+    (ap (λ (returned : Returned). text_of (values_of returned)) c.returned_with.ensures) in
+    put_whole (put_same (put_then number.ensures.0 (put_then name.ensures.0 values (omega arith)) (omega arith))
+    (with_values (decimal c.args.line) (letters (name_of c.args.answer))
+    (returned_with c.args.answer))) (omega arith)

@@ -1,0 +1,47 @@
+-- `object::take` meets its contract: what is decided, and then stored.
+-- Assumes nothing.
+use mathlib.Core.Path.{sym, ◌∙◌}
+use Rattle.cut.specs.Requirement.{Segment, segment}
+use Rattle.object.specs.Take.{take_into}
+use Rattle.object.specs.laws.Decided.{offered-readable, decided-fits}
+use borrow.Author.Rules.{rules}
+use Rattle.object.specs.Parts.{Lent, shares}
+use Rattle.object.proofs.take.Goals as goal
+
+pub decide-decided-requires : goal.decide-decided-requires
+decide-decided-requires c =
+    let lent : Lent =
+    shares c.args.header.now
+    c.args.body.now
+    c.args.marks.now in
+    offered-readable c.tally_of-held.result
+    c.args.part
+    c.args.number
+    c.args.limit
+    c.args.slot lent
+    c.requires
+    c.tally_of-held.ensures.0
+
+pub store-requires : goal.store-requires
+store-requires c =
+    let lent : Lent = shares c.args.header.now c.args.body.now c.args.marks.now in
+    let s : Segment = segment c.args.number c.args.last c.args.bytes.now in
+    decided-fits c.args.part
+    c.args.limit s
+    c.args.slot lent
+    c.tally_of-held.result
+    c.in-Fits.core
+    c.requires c.tally_of-held.ensures.0 (sym c.decide-decided.ensures ∙
+    c.in-Fits.is)
+
+pub returns-in-Repeat : goal.returns-in-Repeat
+unfolding take_into
+returns-in-Repeat c = rw (sym c.decide-decided.ensures ∙ c.in-Repeat.is)
+
+pub returns-in-Conflict : goal.returns-in-Conflict
+unfolding take_into
+returns-in-Conflict c = rw (sym c.decide-decided.ensures ∙ c.in-Conflict.is)
+
+pub returns-in-Fits : goal.returns-in-Fits
+unfolding take_into
+returns-in-Fits c = rw (sym c.decide-decided.ensures ∙ c.in-Fits.is) c.store.ensures

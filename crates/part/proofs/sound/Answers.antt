@@ -1,0 +1,16 @@
+-- `part::sound` meets its contract: the record is right, and what is in can be.
+-- Assumes nothing.
+use mathlib.Core.Path.{sym, ◌∙◌}
+use borrow.Author.Tests.{not-true, not-false}
+use Rattle.part.specs.Asked.{sound_part}
+use borrow.Author.Rules.{rules}
+use Rattle.part.proofs.sound.Goals as goal
+
+pub returns-then-not-record_right : goal.returns-then-not-record_right
+unfolding sound_part
+returns-then-not-record_right c = rw (sym c.record_right.ensures ∙ not-true _ c.if-not-record_right.true)
+
+pub returns : goal.returns
+unfolding sound_part
+returns c = rw (sym c.record_right.ensures ∙ not-false _ c.if-not-record_right.false)
+    c.possible.ensures

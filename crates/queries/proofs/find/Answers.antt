@@ -1,0 +1,27 @@
+-- `queries::find` meets its contract: STATE, then the search.
+-- Assumes nothing.
+use mathlib.Core.Path.{sym, ap, ◌∙◌}
+use borrow.Author.Tests.{not-true, not-false}
+use Rattle.collector.specs.State.{stores, state}
+use Rattle.queries.specs.Questions.{sought_as, find}
+use Rattle.queries.specs.laws.Theorems.{cores-searched}
+use borrow.Author.Rules.{rules}
+use Rattle.queries.proofs.find.Goals as goal
+
+pub returns-then-not-is_sound : goal.returns-then-not-is_sound
+unfolding find
+returns-then-not-is_sound c = rw (sym c.is_sound.ensures ∙ not-true _ c.if-not-is_sound.true)
+
+pub find-requires : goal.find-requires
+find-requires c =
+    let a = c.args in
+    let lent = stores a.header a.body a.marks in
+    let good = sym c.is_sound.ensures ∙ not-false _ c.if-not-is_sound.false in
+    cores-searched (state a.collector a.counts lent) good
+
+pub returns : goal.returns
+unfolding find
+returns c =
+    let good = sym c.is_sound.ensures ∙ not-false _
+    c.if-not-is_sound.false in
+    rw good (c.sought_as.ensures ∙ ap sought_as c.find.ensures)

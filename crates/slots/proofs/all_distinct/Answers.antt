@@ -1,0 +1,44 @@
+-- `slots::all_distinct` meets its contract: what is not looked at yet decides, at each turn.
+-- Assumes nothing.
+use Prim.Native.Nat.{◌-◌}
+use mathlib.Core.Path.{◌≡◌, refl, sym, ◌∙◌}
+use native.Mathlib.Omega.{arith}
+use lib.ListN.{length, take, drop, length-take}
+use borrow.Author.Tests.{not-true, not-false}
+use borrow.Author.Rules.{rules}
+use Rattle.slots.specs.laws.Keys.{distinct_none, distinct-on}
+use Rattle.slots.specs.Keys.{distinct_keys}
+use Rattle.slots.proofs.all_distinct.Goals as goal
+
+sixteen : (s : goal.Start) → length s.args.t2 ≡ 16
+sixteen s = s.well-formed.1.0.1.0.1
+
+pub loop-i-init : goal.loop-i-init
+loop-i-init c = refl
+
+pub returns-then-not-is_unlike : goal.returns-then-not-is_unlike
+returns-then-not-is_unlike c =
+    let a = c.args in
+    sym (c.loop-i.invariant
+    ∙ rw (
+      distinct-on a.t2 a.count c.loop-i.i (omega arith)
+          (omega (arith, sixteen c)),
+      sym c.is_unlike.ensures ∙ not-true _ c.if-not-is_unlike.true,
+    )
+    refl)
+
+pub loop-i-preserved : goal.loop-i-preserved
+loop-i-preserved c =
+    let a = c.args in
+    c.loop-i.invariant
+    ∙ rw (
+      distinct-on a.t2 a.count c.loop-i.i (omega arith)
+          (omega (arith, sixteen c)),
+      sym c.is_unlike.ensures ∙ not-false _ c.if-not-is_unlike.false,
+    )
+    refl
+
+pub returns : goal.returns
+returns c =
+    let a = c.args in
+    sym (c.loop-i.invariant ∙ distinct_none a.t2 a.count c.loop-i.i (rw length-take (omega arith)))

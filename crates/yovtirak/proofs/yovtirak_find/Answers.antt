@@ -1,0 +1,41 @@
+-- `yovtirak::yovtirak_find` meets its contract: the words are read, and the name is looked for.
+-- Assumes nothing.
+use mathlib.Core.Path.{◌≡◌, refl, sym, ◌∙◌}
+use mathlib.Core.Bool.{true}
+use borrow.Author.Tests.{eq-eqb, ne_eqb, not-true, not-false}
+use Rattle.layout.specs.Layout.{readable}
+use Rattle.yovtirak.specs.Exports.{find_call}
+use Rattle.yovtirak.specs.laws.Exports.{readable-length}
+use borrow.Author.Rules.{rules}
+use Rattle.yovtirak.proofs.yovtirak_find.Goals as goal
+
+-- the state's words hold one
+held : (e : goal.Else-not-readable) → readable
+    e.args.state.now ≡ true
+held e = sym e.readable.ensures ∙ not-false _ e.if-not-readable.false
+
+pub returns-then-counts-ne-COUNTS : goal.returns-then-counts-ne-COUNTS
+unfolding find_call
+returns-then-counts-ne-COUNTS c = rw (ne_eqb _ _ c.if-counts-ne-COUNTS.true) refl
+
+pub returns-then-not-readable : goal.returns-then-not-readable
+unfolding find_call
+returns-then-not-readable c = rw (
+  eq-eqb _ _ c.if-counts-ne-COUNTS.false,
+  sym c.readable.ensures ∙ not-true _ c.if-not-readable.true,
+) refl
+
+pub collector_from-collector-requires : goal.collector_from-collector-requires
+collector_from-collector-requires c =
+    readable-length c.args.state.now (held c)
+
+pub returns : goal.returns
+unfolding find_call
+returns c =
+    rw (
+      eq-eqb _ _ c.if-counts-ne-COUNTS.false,
+      held c,
+      ← c.collector_from-collector.ensures,
+      ← c.counts_from-counted.ensures,
+      ← c.find.ensures,
+    ) c.sought_word.ensures

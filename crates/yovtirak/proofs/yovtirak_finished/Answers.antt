@@ -1,0 +1,63 @@
+-- `yovtirak::yovtirak_finished` meets its contract: the words are read, and the object is located.
+-- Assumes nothing.
+use mathlib.Core.Path.{◌≡◌, refl, sym, ◌∙◌}
+use mathlib.Core.Bool.{true}
+use borrow.Author.Tests.{eq-eqb, ne_eqb, not-true, not-false}
+use Rattle.layout.specs.Layout.{readable}
+use Rattle.yovtirak.specs.Exports.{finished_call}
+use Rattle.yovtirak.specs.laws.Exports.{readable-length}
+use borrow.Author.Rules.{rules}
+use Rattle.yovtirak.proofs.yovtirak_finished.Goals as goal
+
+-- the state's words hold one
+held : (e : goal.Else-not-readable) → readable
+    e.args.state.now ≡ true
+held e = sym e.readable.ensures ∙ not-false _ e.if-not-readable.false
+
+pub returns-then-place-ne3 : goal.returns-then-place-ne3
+unfolding finished_call
+returns-then-place-ne3 c = rw (ne_eqb _ _ c.if-place-ne3.true) refl
+
+pub returns-then-counts-ne-COUNTS : goal.returns-then-counts-ne-COUNTS
+unfolding finished_call
+returns-then-counts-ne-COUNTS c = rw (eq-eqb _ _ c.if-place-ne3.false, ne_eqb _ _ c.if-counts-ne-COUNTS.true) refl
+
+pub returns-then-not-readable : goal.returns-then-not-readable
+unfolding finished_call
+returns-then-not-readable c = rw (
+  eq-eqb _ _ c.if-place-ne3.false,
+  eq-eqb _ _ c.if-counts-ne-COUNTS.false,
+  sym c.readable.ensures ∙ not-true _ c.if-not-readable.true,
+) refl
+
+pub collector_from-collector-requires : goal.collector_from-collector-requires
+collector_from-collector-requires c =
+    readable-length c.args.state.now (held c)
+
+pub returns-in_default : goal.returns-in_default
+unfolding finished_call
+returns-in_default c =
+    rw (
+      eq-eqb _ _ c.if-place-ne3.false,
+      eq-eqb _ _ c.if-counts-ne-COUNTS.false,
+      held c,
+      ← c.collector_from-collector.ensures,
+      ← c.counts_from-counted.ensures,
+      ← c.locate-located.ensures,
+      c.refused_word.ensures,
+      c.in_default.is,
+    ) refl
+
+pub returns : goal.returns
+unfolding finished_call
+returns c =
+    rw (
+      eq-eqb _ _ c.if-place-ne3.false,
+      eq-eqb _ _ c.if-counts-ne-COUNTS.false,
+      held c,
+      ← c.collector_from-collector.ensures,
+      ← c.counts_from-counted.ensures,
+      sym c.locate-located.ensures ∙ c.in-At.is,
+      c.put_place.ensures,
+      c.Stage-at.ensures,
+    ) refl

@@ -1,0 +1,49 @@
+-- `yovtirak::yovtirak_take` meets its contract: the words are read, handed to the collector, and written.
+-- Assumes nothing.
+use mathlib.Core.Path.{◌≡◌, refl, sym, ◌∙◌}
+use mathlib.Core.Bool.{true}
+use borrow.Author.Tests.{eq-eqb, ne_eqb, not-true, not-false}
+use Rattle.layout.specs.Layout.{readable}
+use Rattle.yovtirak.specs.Exports.{left, take_call}
+use Rattle.yovtirak.specs.laws.Exports.{readable-length}
+use borrow.Author.Rules.{rules}
+use Rattle.yovtirak.proofs.yovtirak_take.Goals as goal
+
+-- the state's words hold one
+held : (e : goal.Else-not-readable) → readable
+    e.args.state.now ≡ true
+held e = sym e.readable.ensures ∙ not-false _ e.if-not-readable.false
+
+pub returns-then-counts-ne-COUNTS : goal.returns-then-counts-ne-COUNTS
+unfolding take_call
+returns-then-counts-ne-COUNTS c = rw (ne_eqb _ _ c.if-counts-ne-COUNTS.true) refl
+
+pub returns-then-not-readable : goal.returns-then-not-readable
+unfolding take_call
+returns-then-not-readable c = rw (
+  eq-eqb _ _ c.if-counts-ne-COUNTS.false,
+  sym c.readable.ensures ∙ not-true _ c.if-not-readable.true,
+) refl
+
+pub collector_from-collector-requires : goal.collector_from-collector-requires
+collector_from-collector-requires c =
+    readable-length c.args.state.now (held c)
+
+pub leave-requires : goal.leave-requires
+leave-requires c =
+    (readable-length c.args.state.now (held c), c.if-counts-ne-COUNTS.left)
+
+pub returns : goal.returns
+unfolding take_call left
+returns c =
+    let l = c.leave.ensures in
+    rw (
+      eq-eqb _ _ c.if-counts-ne-COUNTS.false,
+      held c,
+      ← c.collector_from-collector.ensures,
+      ← c.counts_from-before.ensures,
+      ← c.taken-after.ensures,
+      l.0,
+      l.1,
+      l.2,
+    ) refl
