@@ -9,15 +9,15 @@ use Rattle.cases.proofs.Laws.{there-number}
 use Rattle.cases.proofs.top_with.Goals as goal
 
 pub returns-then-not-is_there : goal.returns-then-not-is_there
-returns-then-not-is_there c = rw (sym c.is_there.ensures ∙ not-true _ c.if-not-is_there.true) refl
+returns-then-not-is_there c = rw (sym c.is_there.ensures ∙ c.if-not-is_there.true) refl
 
 pub returns-then-piece : goal.returns-then-piece
-returns-then-piece c = rw (sym c.is_there.ensures ∙ not-false _ c.if-not-is_there.false, c.if-piece.true) refl
+returns-then-piece c = rw (sym c.is_there.ensures ∙ c.if-not-is_there.false, c.if-piece.true) refl
 
 pub returns-then-piece-top : goal.returns-then-piece-top
 returns-then-piece-top c =
     rw (
-      sym c.is_there.ensures ∙ not-false _ c.if-not-is_there.false,
+      sym c.is_there.ensures ∙ c.if-not-is_there.false,
       c.if-piece.false,
     ) (omega arith)
 
@@ -27,13 +27,13 @@ overflow_add-result c =
       arith,
       there-number c.args.piece
           (sym c.is_there.ensures
-          ∙ not-false _ c.if-not-is_there.false),
+          ∙ c.if-not-is_there.false),
     )
 
 pub returns : goal.returns
 returns c =
     rw (
       sym c.is_there.ensures
-          ∙ not-false _ c.if-not-is_there.false,
+          ∙ c.if-not-is_there.false,
       c.if-piece.false,
     ) (omega arith)

@@ -4,10 +4,10 @@ use borrow.Author.Tests.{not-true, not-false}
 use Rattle.cases.proofs.verdict_by.Goals as goal
 
 pub returns-then-not-suits : goal.returns-then-not-suits
-returns-then-not-suits c = rw (not-true c.args.suits c.if-not-suits.true) refl
+returns-then-not-suits c = rw (c.if-not-suits.true) refl
 
 pub returns-then-finished : goal.returns-then-finished
-returns-then-finished c = rw (not-false c.args.suits c.if-not-suits.false, c.if-finished.true) refl
+returns-then-finished c = rw (c.if-not-suits.false, c.if-finished.true) refl
 
 pub returns : goal.returns
-returns c = rw (not-false c.args.suits c.if-not-suits.false, c.if-finished.false) refl
+returns c = rw (c.if-not-suits.false, c.if-finished.false) refl

@@ -11,7 +11,7 @@ unfolding verdict_of
 returns-then-not-goes_with c =
     let e = c.kept_with-held.ensures ∙ ap (kept_with c.args.first)
     c.nothing-2.ensures in
-    rw (← e, ← c.top_with-top.ensures, sym c.Goes-with.ensures ∙ not-true _ c.if-not-goes_with.true)
+    rw (← e, ← c.top_with-top.ensures, sym c.Goes-with.ensures ∙ c.if-not-goes_with.true)
     refl
 
 pub returns : goal.returns
@@ -26,7 +26,7 @@ returns c =
       ← headers,
       ← c.top_with-top.ensures,
       sym c.Goes-with.ensures
-          ∙ not-false _ c.if-not-goes_with.false,
+          ∙ c.if-not-goes_with.false,
       ← c.kept_with-bodies.ensures,
       ← c.count_of.ensures.0,
       ← c.count_of-2.ensures.0,

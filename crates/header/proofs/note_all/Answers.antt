@@ -42,7 +42,7 @@ width_fits-requires c = tt
 pub returns-then-not-width_fits : goal.returns-then-not-width_fits
 returns-then-not-width_fits c =
     let s = c.loop-at in
-    let w : width_fits _ _ ≡ false = sym c.width_fits.ensures ∙ not-true _ c.if-not-width_fits.true in
+    let w : width_fits _ _ ≡ false = sym c.width_fits.ensures ∙ c.if-not-width_fits.true in
     sym (rw w at
     (scan-one _ s.at s.seen s.notes _ c.loop-at-test.true
     (found c))) ∙ s.invariant
@@ -73,7 +73,7 @@ pub loop-at-preserved : goal.loop-at-preserved
 loop-at-preserved c =
     let s = c.loop-at in
     let w : width_fits _ _ ≡ true = sym c.width_fits.ensures
-    ∙ not-false _ c.if-not-width_fits.false in
+    ∙ c.if-not-width_fits.false in
     rw c.noted-notes.ensures
     (sym (rw w at
     (scan-one _ s.at s.seen s.notes _

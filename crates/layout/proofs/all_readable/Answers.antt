@@ -21,7 +21,7 @@ pub returns-then-not-slot_readable : goal.returns-then-not-slot_readable
 returns-then-not-slot_readable c =
     let a = c.args in
     sym (c.loop-i.invariant.2 ∙ readable-more a.words.now a.count c.loop-i.i c.loop-i.at
-    (omega arith) ∙ rw (sym c.slot_readable.ensures ∙ not-true _ c.if-not-slot_readable.true) refl)
+    (omega arith) ∙ rw (sym c.slot_readable.ensures ∙ c.if-not-slot_readable.true) refl)
 
 pub loop-i-preserved : goal.loop-i-preserved
 loop-i-preserved c =
@@ -29,7 +29,7 @@ loop-i-preserved c =
       omega arith,
       omega arith,
       c.loop-i.invariant.2 ∙ readable-more a.words.now a.count c.loop-i.i c.loop-i.at
-          (omega arith) ∙ rw (sym c.slot_readable.ensures ∙ not-false _ c.if-not-slot_readable.false) refl,
+          (omega arith) ∙ rw (sym c.slot_readable.ensures ∙ c.if-not-slot_readable.false) refl,
     )
 
 pub returns : goal.returns

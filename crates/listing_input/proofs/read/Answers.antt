@@ -34,19 +34,18 @@ pub returns-then-not-is_hex : goal.returns-then-not-is_hex
 returns-then-not-is_hex c =
     let line = c.args.line.now in
     rw (no-hex line c.if-line-gt-LINE_MOST.false c.if-line-ne9.false
-    (ap is_hex (sym (to_the_end line)) ∙ sym c.is_hex.ensures ∙ not-true _ c.if-not-is_hex.true))
+    (ap is_hex (sym (to_the_end line)) ∙ sym c.is_hex.ensures ∙ c.if-not-is_hex.true))
     (refl, over_nothing _ 0)
 
 pub asked-requires : goal.asked-requires
 asked-requires c =
     let line = c.args.line.now in
-    let hex = sym c.is_hex.ensures ∙ not-false _ c.if-not-is_hex.false in
+    let hex = sym c.is_hex.ensures ∙ c.if-not-is_hex.false in
     (hex, (simp (length-take, length-drop) (omega arith), search rules))
 
 pub returns : goal.returns
 returns c =
     let line = c.args.line.now in
-    let hex = ap is_hex (sym (to_the_end line)) ∙ sym c.is_hex.ensures ∙ not-false _
-    c.if-not-is_hex.false in
+    let hex = ap is_hex (sym (to_the_end line)) ∙ sym c.is_hex.ensures ∙ c.if-not-is_hex.false in
     rw (well-formed line c.if-line-gt-LINE_MOST.false c.if-line-ne9.false hex)
     (rw (← to_the_end line) c.asked.ensures.value, rw (← to_the_end line) c.asked.ensures.group_after)

@@ -74,7 +74,7 @@ returns-then-not-takes c =
     let marked = rw c.marks_of.ensures at
     c.holds.ensures in
     let core : c.core_with-core.result ≡ said c.args.part c.args.limit s c.args.slot lent = c.core_with-core.ensures ∙ ap (λ (t : Tally). core_with c.args.part s t.core) c.requires.tallied in
-    decided-new c.args.part c.args.limit s c.args.slot lent false (sym marked ∙ c.if-holds.false) (sym (not-true _ c.if-not-takes.true) ∙ (rw core at c.takes.ensures))
+    decided-new c.args.part c.args.limit s c.args.slot lent false (sym marked ∙ c.if-holds.false) (sym (c.if-not-takes.true) ∙ (rw core at c.takes.ensures))
 
 pub returns : goal.returns
 unfolding parts_of core_in
@@ -84,4 +84,4 @@ returns c =
     let marked = rw c.marks_of.ensures at
     c.holds.ensures in
     let core : c.core_with-core.result ≡ said c.args.part c.args.limit s c.args.slot lent = c.core_with-core.ensures ∙ ap (λ (t : Tally). core_with c.args.part s t.core) c.requires.tallied in
-    rw core (decided-new c.args.part c.args.limit s c.args.slot lent true (sym marked ∙ c.if-holds.false) (sym (not-false _ c.if-not-takes.false) ∙ (rw core at c.takes.ensures)))
+    rw core (decided-new c.args.part c.args.limit s c.args.slot lent true (sym marked ∙ c.if-holds.false) (sym (c.if-not-takes.false) ∙ (rw core at c.takes.ensures)))

@@ -14,13 +14,13 @@ use Rattle.object.proofs.soundness_of.Goals as goal
 
 pub returns-then-not-marks_right : goal.returns-then-not-marks_right
 unfolding soundness sound_slot sound_parts parts_of core_in
-returns-then-not-marks_right c = rw (sym c.marks_right.ensures ∙ not-true _ c.if-not-marks_right.true)
+returns-then-not-marks_right c = rw (sym c.marks_right.ensures ∙ c.if-not-marks_right.true)
 
 pub tally_of-held-requires : goal.tally_of-held-requires
 tally_of-held-requires c = (
   c.requires,
   right-bits _ _ c.marks_right.ensures
-      (not-false _ c.if-not-marks_right.false),
+      (c.if-not-marks_right.false),
 )
 
 pub returns-then-not-core_fits : goal.returns-then-not-core_fits
@@ -29,8 +29,8 @@ returns-then-not-core_fits c =
     let within = rw c.tally_of-held.ensures.0 at c.core_fits.ensures in
     rw (
       sym c.marks_right.ensures
-          ∙ not-false _ c.if-not-marks_right.false,
-      sym within ∙ not-true _ c.if-not-core_fits.true,
+          ∙ c.if-not-marks_right.false,
+      sym within ∙ c.if-not-core_fits.true,
     )
 
 pub sound-requires : goal.sound-requires
@@ -44,7 +44,7 @@ sound-requires c = rw (
     c.args.marks.now
     c.requires
     (right-bits _ _ c.marks_right.ensures
-    (not-false _ c.if-not-marks_right.false)))
+    (c.if-not-marks_right.false)))
 
 pub returns-then-not-sound : goal.returns-then-not-sound
 unfolding soundness sound_slot sound_parts parts_of core_in
@@ -59,10 +59,10 @@ returns-then-not-sound c =
     ) at c.sound.ensures in
     rw (
       sym c.marks_right.ensures
-          ∙ not-false _ c.if-not-marks_right.false,
+          ∙ c.if-not-marks_right.false,
       sym within
-          ∙ not-false _ c.if-not-core_fits.false,
-      sym header ∙ not-true _ c.if-not-sound.true,
+          ∙ c.if-not-core_fits.false,
+      sym header ∙ c.if-not-sound.true,
     )
 
 pub sound-requires-2 : goal.sound-requires-2
@@ -74,8 +74,7 @@ sound-requires-2 c = rw (
     (counted Body c.args.limit
     c.tally_of-held.result.core
     c.args.marks.now c.requires
-    (right-bits _ _ c.marks_right.ensures (not-false _
-    c.if-not-marks_right.false)))
+    (right-bits _ _ c.marks_right.ensures (c.if-not-marks_right.false)))
 
 pub returns-then-not-sound-2 : goal.returns-then-not-sound-2
 unfolding soundness sound_slot sound_parts parts_of core_in
@@ -92,7 +91,7 @@ returns-then-not-sound-2 c =
       c.tally_of-held.ensures.0,
       c.marks_of-2.ensures,
     ) at c.sound-2.ensures in
-    rw (sym c.marks_right.ensures ∙ not-false _ c.if-not-marks_right.false, sym within ∙ not-false _ c.if-not-core_fits.false, sym header ∙ not-false _ c.if-not-sound.false, sym body ∙ not-true _ c.if-not-sound-2.true)
+    rw (sym c.marks_right.ensures ∙ c.if-not-marks_right.false, sym within ∙ c.if-not-core_fits.false, sym header ∙ c.if-not-sound.false, sym body ∙ c.if-not-sound-2.true)
 
 pub returns-then-not-same_stage : goal.returns-then-not-same_stage
 unfolding soundness sound_slot sound_parts parts_of core_in stage_of
@@ -115,13 +114,13 @@ returns-then-not-same_stage c =
       c.stage_from.ensures,
       c.tally_of-held.ensures.0,
     ) at c.same_stage.ensures in
-    rw (sym c.marks_right.ensures ∙ not-false _ c.if-not-marks_right.false, sym within ∙ not-false _ c.if-not-core_fits.false, sym header ∙ not-false _ c.if-not-sound.false, sym body ∙ not-false _ c.if-not-sound-2.false, sym stage ∙ not-true _ c.if-not-same_stage.true)
+    rw (sym c.marks_right.ensures ∙ c.if-not-marks_right.false, sym within ∙ c.if-not-core_fits.false, sym header ∙ c.if-not-sound.false, sym body ∙ c.if-not-sound-2.false, sym stage ∙ c.if-not-same_stage.true)
 
 pub missing-requires : goal.missing-requires
 missing-requires c =
     let a = c.args in
     let bits = right-bits _ _ c.marks_right.ensures
-    (not-false _ c.if-not-marks_right.false) in
+    (c.if-not-marks_right.false) in
     let header = rw (
       c.bounds_of-bounds.ensures,
       c.marks_of.ensures,
@@ -136,10 +135,10 @@ missing-requires c =
       right-small Header a.limit c.tally_of-held.result.core a.slot.header
           (marks_of Header a.marks.now)
           (marks-bits Header a.marks.now bits)
-          (sym header ∙ not-false _ c.if-not-sound.false),
+          (sym header ∙ c.if-not-sound.false),
       right-small Body a.limit c.tally_of-held.result.core a.slot.body
           (marks_of Body a.marks.now)
-          (marks-bits Body a.marks.now bits) (sym body ∙ not-false _ c.if-not-sound-2.false),
+          (marks-bits Body a.marks.now bits) (sym body ∙ c.if-not-sound-2.false),
     )
 
 pub returns-then-told-missing : goal.returns-then-told-missing
@@ -164,16 +163,12 @@ returns-then-told-missing c =
     ) at c.same_stage.ensures in
     let missing = rw c.tally_of-held.ensures.0 at c.missing.ensures in
     rw (
-      sym c.marks_right.ensures ∙ not-false _
-          c.if-not-marks_right.false,
-      sym within ∙ not-false _
-          c.if-not-core_fits.false,
-      sym header ∙ not-false _
-          c.if-not-sound.false,
+      sym c.marks_right.ensures ∙ c.if-not-marks_right.false,
+      sym within ∙ c.if-not-core_fits.false,
+      sym header ∙ c.if-not-sound.false,
       sym body ∙
-          not-false _ c.if-not-sound-2.false,
-      sym stage ∙ not-false _
-          c.if-not-same_stage.false,
+          c.if-not-sound-2.false,
+      sym stage ∙ c.if-not-same_stage.false,
       ne_eqb _ _ (λ e. c.if-told-missing.true (e ∙ sym missing)),
     )
 
@@ -199,16 +194,12 @@ returns c =
     ) at c.same_stage.ensures in
     let missing = rw c.tally_of-held.ensures.0 at c.missing.ensures in
     rw (
-      sym c.marks_right.ensures ∙ not-false _
-          c.if-not-marks_right.false,
-      sym within ∙ not-false _
-          c.if-not-core_fits.false,
-      sym header ∙ not-false _
-          c.if-not-sound.false,
+      sym c.marks_right.ensures ∙ c.if-not-marks_right.false,
+      sym within ∙ c.if-not-core_fits.false,
+      sym header ∙ c.if-not-sound.false,
       sym body ∙
-          not-false _ c.if-not-sound-2.false,
-      sym stage ∙ not-false _
-          c.if-not-same_stage.false,
+          c.if-not-sound-2.false,
+      sym stage ∙ c.if-not-same_stage.false,
       eq-eqb _ _ (c.if-told-missing.false ∙ missing),
       c.tally_of-held.ensures.0,
     )

@@ -6,18 +6,18 @@ use borrow.Author.Rules.{rules}
 use Rattle.object.proofs.stage_from.Goals as goal
 
 pub returns-then-not-finished : goal.returns-then-not-finished
-returns-then-not-finished c = rw (sym c.finished.ensures ∙ not-true _ c.if-not-finished.true)
+returns-then-not-finished c = rw (sym c.finished.ensures ∙ c.if-not-finished.true)
 
 pub returns-in-Unseen : goal.returns-in-Unseen
 returns-in-Unseen c =
     rw (
-      sym c.finished.ensures ∙ not-false _ c.if-not-finished.false,
+      sym c.finished.ensures ∙ c.if-not-finished.false,
       c.in-Unseen.is,
     )
 
 pub returns-in-Seen : goal.returns-in-Seen
 returns-in-Seen c =
     rw (
-      sym c.finished.ensures ∙ not-false _ c.if-not-finished.false,
+      sym c.finished.ensures ∙ c.if-not-finished.false,
       c.in-Seen.is,
     )

@@ -9,7 +9,7 @@ use borrow.Author.Rules.{rules}
 use Rattle.object.proofs.takes.Goals as goal
 
 pub returns-then-not-core_fits : goal.returns-then-not-core_fits
-returns-then-not-core_fits c = rw (sym c.core_fits.ensures ∙ not-true _ c.if-not-core_fits.true)
+returns-then-not-core_fits c = rw (sym c.core_fits.ensures ∙ c.if-not-core_fits.true)
 
 pub fits-requires : goal.fits-requires
 fits-requires c = rw (
@@ -33,8 +33,8 @@ returns-then-not-fits c =
     ) at c.fits2.ensures in
     rw (
       sym c.core_fits.ensures
-          ∙ not-false _ c.if-not-core_fits.false,
-      sym own ∙ not-true _ c.if-not-fits.true,
+          ∙ c.if-not-core_fits.false,
+      sym own ∙ c.if-not-fits.true,
     )
 
 pub marks_of-requires-2 : goal.marks_of-requires-2
@@ -63,7 +63,7 @@ returns-then-not-possible c =
       c.other_part-other.ensures,
     ) at
     c.possible.ensures in
-    rw (sym c.core_fits.ensures ∙ not-false _ c.if-not-core_fits.false, sym own ∙ not-false _ c.if-not-fits.false, sym possible ∙ not-true _ c.if-not-possible.true)
+    rw (sym c.core_fits.ensures ∙ c.if-not-core_fits.false, sym own ∙ c.if-not-fits.false, sym possible ∙ c.if-not-possible.true)
 
 pub returns : goal.returns
 returns c =
@@ -81,4 +81,4 @@ returns c =
       c.other_part-other.ensures,
     ) at
     c.possible.ensures in
-    rw (sym c.core_fits.ensures ∙ not-false _ c.if-not-core_fits.false, sym own ∙ not-false _ c.if-not-fits.false, sym possible ∙ not-false _ c.if-not-possible.false)
+    rw (sym c.core_fits.ensures ∙ c.if-not-core_fits.false, sym own ∙ c.if-not-fits.false, sym possible ∙ c.if-not-possible.false)

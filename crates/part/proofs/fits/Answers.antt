@@ -21,7 +21,7 @@ returns-then-not-joins c =
     rw c.requires.sum at
     (c.joins.ensures ∙ ap (λ (f : Bool). joins f a.last a.count a.kept)
     c.full.ensures) in
-    rw (sym joined ∙ not-true _ c.if-not-joins.true)
+    rw (sym joined ∙ c.if-not-joins.true)
 
 pub returns : goal.returns
 unfolding fits_in
@@ -31,4 +31,4 @@ returns c =
     a.count a.kept = rw c.requires.sum at
     (c.joins.ensures ∙ ap (λ (f : Bool). joins f a.last a.count a.kept)
     c.full.ensures) in
-    rw (sym joined ∙ not-false _ c.if-not-joins.false) (rw c.add-with.ensures at c.accepts.ensures)
+    rw (sym joined ∙ c.if-not-joins.false) (rw c.add-with.ensures at c.accepts.ensures)

@@ -7,7 +7,7 @@ use borrow.Author.Rules.{rules}
 use Rattle.part.proofs.place_of.Goals as goal
 
 pub returns-then-not-last : goal.returns-then-not-last
-returns-then-not-last c = rw (not-true c.args.last c.if-not-last.true)
+returns-then-not-last c = rw (c.if-not-last.true)
 
 pub returns-then-size-ne0 : goal.returns-then-size-ne0
 returns-then-size-ne0 c = let a = c.args in
@@ -15,7 +15,7 @@ returns-then-size-ne0 c = let a = c.args in
 
 pub returns-then-number-eq0 : goal.returns-then-number-eq0
 returns-then-number-eq0 c = rw (
-  not-false c.args.last c.if-not-last.false,
+  c.if-not-last.false,
   c.if-size-ne0.false,
   c.if-number-eq0.true,
 )

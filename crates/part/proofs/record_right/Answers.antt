@@ -12,7 +12,7 @@ use Rattle.part.proofs.record_right.Goals as goal
 
 pub returns-then-not-end_right : goal.returns-then-not-end_right
 unfolding record_right
-returns-then-not-end_right c = rw (sym c.end_right.ensures ∙ not-true _ c.if-not-end_right.true)
+returns-then-not-end_right c = rw (sym c.end_right.ensures ∙ c.if-not-end_right.true)
 
 pub returns-then-full : goal.returns-then-full
 unfolding record_right
@@ -21,7 +21,7 @@ returns-then-full c =
     c.args.marks.now =
     rw c.requires.sum at c.full.ensures in
     rw (
-      sym c.end_right.ensures ∙ not-false _ c.if-not-end_right.false,
+      sym c.end_right.ensures ∙ c.if-not-end_right.false,
       sym full
           ∙ c.if-full.true,
     )
@@ -36,7 +36,7 @@ returns c =
     c.full.ensures in
     rw (
       sym c.end_right.ensures
-          ∙ not-false _ c.if-not-end_right.false,
+          ∙ c.if-not-end_right.false,
       sym full
           ∙ c.if-full.false,
     )

@@ -16,7 +16,7 @@ returns-then-not-same_flag c =
     let flag : c.same_flag.result ≡ same_flag c.args.last
     (eqb (suc c.args.number)
     c.args.kept.end) = cc in
-    rw (sym flag ∙ not-true _ c.if-not-same_flag.true)
+    rw (sym flag ∙ c.if-not-same_flag.true)
 
 pub returns : goal.returns
 unfolding same_segment segment_at
@@ -25,6 +25,6 @@ returns c =
     ≡ same_flag c.args.last
     (eqb (suc c.args.number)
     c.args.kept.end) = cc in
-    rw (sym flag ∙ not-false _ c.if-not-same_flag.false)
+    rw (sym flag ∙ c.if-not-same_flag.false)
     (c.same.ensures ∙ ap (equal c.args.bytes.now)
     c.segment_at.ensures)

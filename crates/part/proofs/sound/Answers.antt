@@ -8,9 +8,9 @@ use Rattle.part.proofs.sound.Goals as goal
 
 pub returns-then-not-record_right : goal.returns-then-not-record_right
 unfolding sound_part
-returns-then-not-record_right c = rw (sym c.record_right.ensures ∙ not-true _ c.if-not-record_right.true)
+returns-then-not-record_right c = rw (sym c.record_right.ensures ∙ c.if-not-record_right.true)
 
 pub returns : goal.returns
 unfolding sound_part
-returns c = rw (sym c.record_right.ensures ∙ not-false _ c.if-not-record_right.false)
+returns c = rw (sym c.record_right.ensures ∙ c.if-not-record_right.false)
     c.possible.ensures

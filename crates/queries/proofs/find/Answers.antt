@@ -10,18 +10,17 @@ use Rattle.queries.proofs.find.Goals as goal
 
 pub returns-then-not-is_sound : goal.returns-then-not-is_sound
 unfolding find
-returns-then-not-is_sound c = rw (sym c.is_sound.ensures ∙ not-true _ c.if-not-is_sound.true)
+returns-then-not-is_sound c = rw (sym c.is_sound.ensures ∙ c.if-not-is_sound.true)
 
 pub find-requires : goal.find-requires
 find-requires c =
     let a = c.args in
     let lent = stores a.header a.body a.marks in
-    let good = sym c.is_sound.ensures ∙ not-false _ c.if-not-is_sound.false in
+    let good = sym c.is_sound.ensures ∙ c.if-not-is_sound.false in
     cores-searched (state a.collector a.counts lent) good
 
 pub returns : goal.returns
 unfolding find
 returns c =
-    let good = sym c.is_sound.ensures ∙ not-false _
-    c.if-not-is_sound.false in
+    let good = sym c.is_sound.ensures ∙ c.if-not-is_sound.false in
     rw good (c.sought_as.ensures ∙ ap sought_as c.find.ensures)

@@ -14,19 +14,19 @@ use Rattle.queries.proofs.missing.Goals as goal
 
 pub returns-then-not-is_sound : goal.returns-then-not-is_sound
 unfolding missing
-returns-then-not-is_sound c = rw (sym c.is_sound.ensures ∙ not-true _ c.if-not-is_sound.true) refl
+returns-then-not-is_sound c = rw (sym c.is_sound.ensures ∙ c.if-not-is_sound.true) refl
 
 pub returns-in_default : goal.returns-in_default
 unfolding missing
 returns-in_default c =
-    let good = sym c.is_sound.ensures ∙ not-false _ c.if-not-is_sound.false in
+    let good = sym c.is_sound.ensures ∙ c.if-not-is_sound.false in
     rw (good, sym c.find.ensures ∙ c.in_default.is) refl
 
 pub returns-then-i-ge-SLOTS_MOST : goal.returns-then-i-ge-SLOTS_MOST
 returns-then-i-ge-SLOTS_MOST c =
     let a = c.args in
     let lent = stores a.header a.body a.marks in
-    let good = sym c.is_sound.ensures ∙ not-false _ c.if-not-is_sound.false in
+    let good = sym c.is_sound.ensures ∙ c.if-not-is_sound.false in
     let found = sym c.find.ensures ∙ c.in-At.is in
     let slots = slots-sound (state a.t1 a.counts lent) good in
     let within = found_inside a.t1.limit a.t1.count a.t1.slots lent slots a.number _ found in
@@ -35,6 +35,6 @@ returns-then-i-ge-SLOTS_MOST c =
 pub returns : goal.returns
 unfolding missing slot_at free_slot
 returns c =
-    let good = sym c.is_sound.ensures ∙ not-false _ c.if-not-is_sound.false in
+    let good = sym c.is_sound.ensures ∙ c.if-not-is_sound.false in
     rw (good, sym c.find.ensures ∙ c.in-At.is)
     (ap Bytes c.amount_of.ensures)

@@ -23,7 +23,7 @@ returns-then-not-is_unlike c =
     ∙ rw (
       distinct-on a.t2 a.count c.loop-i.i (omega arith)
           (omega (arith, sixteen c)),
-      sym c.is_unlike.ensures ∙ not-true _ c.if-not-is_unlike.true,
+      sym c.is_unlike.ensures ∙ c.if-not-is_unlike.true,
     )
     refl)
 
@@ -34,7 +34,7 @@ loop-i-preserved c =
     ∙ rw (
       distinct-on a.t2 a.count c.loop-i.i (omega arith)
           (omega (arith, sixteen c)),
-      sym c.is_unlike.ensures ∙ not-false _ c.if-not-is_unlike.false,
+      sym c.is_unlike.ensures ∙ c.if-not-is_unlike.false,
     )
     refl
 

@@ -25,7 +25,7 @@ within : (c : goal.Else-not-within_limits)
     → let s = start c in
     within_limits s.args.limit s.args.count (length (lent s).header) (length (lent s).body)
     (length (lent s).marks) ≡ true
-within c = sym c.within_limits.ensures ∙ not-false _ c.if-not-within_limits.false
+within c = sym c.within_limits.ensures ∙ c.if-not-within_limits.false
 
 -- so each slot has its shares
 limits : (c : goal.Else-not-within_limits)
@@ -39,7 +39,7 @@ sixteen s = s.well-formed.1.1.0.1.0.1
 
 pub returns-then-not-within_limits : goal.returns-then-not-within_limits
 unfolding sound_slots
-returns-then-not-within_limits c = rw (sym c.within_limits.ensures ∙ not-true _ c.if-not-within_limits.true) refl
+returns-then-not-within_limits c = rw (sym c.within_limits.ensures ∙ c.if-not-within_limits.true) refl
 
 pub all_distinct-requires : goal.all_distinct-requires
 all_distinct-requires c = (limits c).slots
@@ -55,11 +55,11 @@ told c =
 
 pub returns-then-not-all_distinct : goal.returns-then-not-all_distinct
 unfolding sound_slots
-returns-then-not-all_distinct c = rw (within c, told c ∙ not-true _ c.if-not-all_distinct.true) refl
+returns-then-not-all_distinct c = rw (within c, told c ∙ c.if-not-all_distinct.true) refl
 
 pub loop-i-init : goal.loop-i-init
 unfolding sound_slots
-loop-i-init c = rw (within c, told c ∙ not-false _ c.if-not-all_distinct.false, both-only) refl
+loop-i-init c = rw (within c, told c ∙ c.if-not-all_distinct.false, both-only) refl
 
 pub offset_bounds-slots-i : goal.offset_bounds-slots-i
 offset_bounds-slots-i c = omega (arith, (limits c).slots)
@@ -81,7 +81,7 @@ returns-then-not-right_at c =
     ∙ rw (
       right-on a.t3 a.count c.loop-i.i (omega arith) (omega (arith, sixteen s, (limits c).slots))
           a.limit (lent s),
-      sym c.right_at.ensures ∙ not-true _ c.if-not-right_at.true,
+      sym c.right_at.ensures ∙ c.if-not-right_at.true,
     ) refl)
 
 pub overflow_add-i : goal.overflow_add-i
@@ -96,7 +96,7 @@ loop-i-preserved c =
     ∙ rw (
       right-on a.t3 a.count c.loop-i.i (omega arith) (omega (arith, sixteen s, (limits c).slots))
           a.limit (lent s),
-      sym c.right_at.ensures ∙ not-false _ c.if-not-right_at.false,
+      sym c.right_at.ensures ∙ c.if-not-right_at.false,
     ) refl
 
 pub returns : goal.returns

@@ -11,7 +11,7 @@ use Rattle.slots.proofs.start_of.Goals as goal
 
 inside : (c : goal.Else-not-starts_inside) → let a = c.args in a.i * a.width ≤ length a.store.now
 inside c = let a = c.args in leb-true (a.i * a.width) (length a.store.now)
-    (sym c.starts_inside.ensures ∙ not-false _ c.if-not-starts_inside.false)
+    (sym c.starts_inside.ensures ∙ c.if-not-starts_inside.false)
 
 pub returns-then-not-starts_inside : goal.returns-then-not-starts_inside
 returns-then-not-starts_inside c =
@@ -20,7 +20,7 @@ returns-then-not-starts_inside c =
     (omega (
       arith,
       leb-false (a.i * a.width) (length a.store.now)
-          (sym c.starts_inside.ensures ∙ not-true _ c.if-not-starts_inside.true),
+          (sym c.starts_inside.ensures ∙ c.if-not-starts_inside.true),
     ))
 
 pub overflow_mul-start : goal.overflow_mul-start

@@ -15,6 +15,6 @@ returns-in-4 c = rw c.in-4.is
 pub returns-in-0-to-2 : goal.returns-in-0-to-2
 unfolding kind_of
 returns-in-0-to-2 c = rw (
-  ne_eqb c.args.type-number 3 c.in-3.rest.0.1,
-  ne_eqb c.args.type-number 4 c.in-3.rest.1,
+  ne_eqb c.args.type_number 3 c.in-3.rest.0.1,
+  ne_eqb c.args.type_number 4 c.in-3.rest.1,
 )

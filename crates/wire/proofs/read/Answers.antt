@@ -40,7 +40,7 @@ returns-then-not-check_holds c =
       le-ltb _ _ c.if-group-gt-GROUP_MOST.false,
       ne_eqb _ _ c.if-flags-eq0.false,
       le-ltb _ _ c.if-group-lt4.false,
-      sym c.check_holds.ensures ∙ not-true _ c.if-not-check_holds.true,
+      sym c.check_holds.ensures ∙ c.if-not-check_holds.true,
     )
 
 pub returns-in_default : goal.returns-in_default
@@ -52,7 +52,7 @@ returns-in_default c =
       ne_eqb _ _ c.if-flags-eq0.false,
       le-ltb _ _ c.if-group-lt4.false,
       sym c.check_holds.ensures
-          ∙ not-false _ c.if-not-check_holds.false,
+          ∙ c.if-not-check_holds.false,
       sym c.kind_of.ensures ∙ c.in_default.is,
     )
 
@@ -63,7 +63,7 @@ returns c =
       le-ltb _ _ c.if-group-gt-GROUP_MOST.false,
       ne_eqb _ _ c.if-flags-eq0.false,
       le-ltb _ _ c.if-group-lt4.false,
-      sym c.check_holds.ensures ∙ not-false _ c.if-not-check_holds.false,
+      sym c.check_holds.ensures ∙ c.if-not-check_holds.false,
       sym c.kind_of.ensures ∙ c.in-Carries.is,
     )
     c.session.ensures)

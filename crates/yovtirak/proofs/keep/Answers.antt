@@ -6,8 +6,8 @@ use borrow.Author.Rules.{rules}
 use Rattle.yovtirak.proofs.keep.Goals as goal
 
 pub returns-then-not-changes : goal.returns-then-not-changes
-returns-then-not-changes c = rw (sym c.changes.ensures ∙ not-true _ c.if-not-changes.true) refl
+returns-then-not-changes c = rw (sym c.changes.ensures ∙ c.if-not-changes.true) refl
 
 pub returns : goal.returns
 returns c =
-    rw (sym c.changes.ensures ∙ not-false _ c.if-not-changes.false) c.put_collector.ensures
+    rw (sym c.changes.ensures ∙ c.if-not-changes.false) c.put_collector.ensures

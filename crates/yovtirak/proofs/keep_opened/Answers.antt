@@ -6,8 +6,8 @@ use borrow.Author.Rules.{rules}
 use Rattle.yovtirak.proofs.keep_opened.Goals as goal
 
 pub returns-then-not-is_open : goal.returns-then-not-is_open
-returns-then-not-is_open c = rw (sym c.is_open.ensures ∙ not-true _ c.if-not-is_open.true) refl
+returns-then-not-is_open c = rw (sym c.is_open.ensures ∙ c.if-not-is_open.true) refl
 
 pub returns : goal.returns
 returns c =
-    rw (sym c.is_open.ensures ∙ not-false _ c.if-not-is_open.false) c.put_collector.ensures
+    rw (sym c.is_open.ensures ∙ c.if-not-is_open.false) c.put_collector.ensures

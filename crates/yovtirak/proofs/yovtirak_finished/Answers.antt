@@ -12,7 +12,7 @@ use Rattle.yovtirak.proofs.yovtirak_finished.Goals as goal
 -- the state's words hold one
 held : (e : goal.Else-not-readable) → readable
     e.args.state.now ≡ true
-held e = sym e.readable.ensures ∙ not-false _ e.if-not-readable.false
+held e = sym e.readable.ensures ∙ e.if-not-readable.false
 
 pub returns-then-place-ne3 : goal.returns-then-place-ne3
 unfolding finished_call
@@ -27,7 +27,7 @@ unfolding finished_call
 returns-then-not-readable c = rw (
   eq-eqb _ _ c.if-place-ne3.false,
   eq-eqb _ _ c.if-counts-ne-COUNTS.false,
-  sym c.readable.ensures ∙ not-true _ c.if-not-readable.true,
+  sym c.readable.ensures ∙ c.if-not-readable.true,
 ) refl
 
 pub collector_from-collector-requires : goal.collector_from-collector-requires

@@ -12,7 +12,7 @@ use Rattle.yovtirak.proofs.yovtirak_missing.Goals as goal
 -- the state's words hold one
 held : (e : goal.Else-not-readable) → readable
     e.args.state.now ≡ true
-held e = sym e.readable.ensures ∙ not-false _ e.if-not-readable.false
+held e = sym e.readable.ensures ∙ e.if-not-readable.false
 
 pub returns-then-counts-ne-COUNTS : goal.returns-then-counts-ne-COUNTS
 unfolding missing_call
@@ -22,7 +22,7 @@ pub returns-then-not-readable : goal.returns-then-not-readable
 unfolding missing_call
 returns-then-not-readable c = rw (
   eq-eqb _ _ c.if-counts-ne-COUNTS.false,
-  sym c.readable.ensures ∙ not-true _ c.if-not-readable.true,
+  sym c.readable.ensures ∙ c.if-not-readable.true,
 ) refl
 
 pub collector_from-collector-requires : goal.collector_from-collector-requires

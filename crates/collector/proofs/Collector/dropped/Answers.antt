@@ -15,7 +15,7 @@ use Rattle.collector.proofs.Collector.dropped.Goals as goal
 pub returns-then-not-is_sound : goal.returns-then-not-is_sound
 unfolding drop_number
 returns-then-not-is_sound c =
-    let a = c.args in rw (sym c.is_sound.ensures ∙ not-true _ c.if-not-is_sound.true)
+    let a = c.args in rw (sym c.is_sound.ensures ∙ c.if-not-is_sound.true)
     (c.answered.ensures (stores a.header a.body a.marks))
 
 pub returns-in_default : goal.returns-in_default
@@ -23,7 +23,7 @@ unfolding drop_number
 returns-in_default c =
     let a = c.args in
     let lent = stores a.header a.body a.marks in
-    let good = sym c.is_sound.ensures ∙ not-false _ c.if-not-is_sound.false in
+    let good = sym c.is_sound.ensures ∙ c.if-not-is_sound.false in
     rw (good, sym c.find.ensures ∙ c.in_default.is)
     (c.answered-in_default.ensures lent)
 
@@ -31,7 +31,7 @@ pub drop_at-all-requires : goal.drop_at-all-requires
 drop_at-all-requires c =
     let a = c.args in
     let lent = stores a.header a.body a.marks in
-    let good = sym c.is_sound.ensures ∙ not-false _ c.if-not-is_sound.false in
+    let good = sym c.is_sound.ensures ∙ c.if-not-is_sound.false in
     let found = sym c.find.ensures ∙ c.in-At.is in
     let slots = slots-sound (state a.self a.counts lent) good in
     let within = found_inside a.self.limit a.self.count a.self.slots lent slots a.number _ found in
@@ -42,6 +42,6 @@ unfolding drop_number
 returns c =
     let a = c.args in
     let lent = stores a.header a.body a.marks in
-    let good = sym c.is_sound.ensures ∙ not-false _ c.if-not-is_sound.false in
+    let good = sym c.is_sound.ensures ∙ c.if-not-is_sound.false in
     rw (good, sym c.find.ensures ∙ c.in-At.is, ← c.drop_at-all.ensures)
     (c.answered-2.ensures _)

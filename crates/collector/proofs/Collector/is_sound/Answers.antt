@@ -8,8 +8,8 @@ use Rattle.collector.proofs.Collector.is_sound.Goals as goal
 
 pub returns-then-not-sound : goal.returns-then-not-sound
 unfolding sound
-returns-then-not-sound c = rw (sym c.sound.ensures ∙ not-true _ c.if-not-sound.true)
+returns-then-not-sound c = rw (sym c.sound.ensures ∙ c.if-not-sound.true)
 
 pub returns : goal.returns
 unfolding sound
-returns c = rw (sym c.sound.ensures ∙ not-false _ c.if-not-sound.false) c.are_within.ensures
+returns c = rw (sym c.sound.ensures ∙ c.if-not-sound.false) c.are_within.ensures

@@ -13,19 +13,19 @@ use Rattle.collector.proofs.Collector.locate.Goals as goal
 
 pub returns-then-not-is_sound : goal.returns-then-not-is_sound
 unfolding locate
-returns-then-not-is_sound c = rw (sym c.is_sound.ensures ∙ not-true _ c.if-not-is_sound.true)
+returns-then-not-is_sound c = rw (sym c.is_sound.ensures ∙ c.if-not-is_sound.true)
 
 pub returns-in_default : goal.returns-in_default
 unfolding locate
 returns-in_default c =
-    let good = sym c.is_sound.ensures ∙ not-false _ c.if-not-is_sound.false in
+    let good = sym c.is_sound.ensures ∙ c.if-not-is_sound.false in
     rw (good, sym c.find.ensures ∙ c.in_default.is)
 
 pub returns-then-i-ge-SLOTS_MOST : goal.returns-then-i-ge-SLOTS_MOST
 returns-then-i-ge-SLOTS_MOST c =
     let a = c.args in
     let lent = stores a.header a.body a.marks in
-    let good = sym c.is_sound.ensures ∙ not-false _ c.if-not-is_sound.false in
+    let good = sym c.is_sound.ensures ∙ c.if-not-is_sound.false in
     let found = sym c.find.ensures ∙ c.in-At.is in
     let slots = slots-sound (state a.t1 a.counts lent) good in
     let within = found_inside a.t1.limit a.t1.count a.t1.slots lent slots a.number _ found in
@@ -34,5 +34,5 @@ returns-then-i-ge-SLOTS_MOST c =
 pub returns : goal.returns
 unfolding locate slot_at free_slot
 returns c =
-    let good = sym c.is_sound.ensures ∙ not-false _ c.if-not-is_sound.false in
+    let good = sym c.is_sound.ensures ∙ c.if-not-is_sound.false in
     rw (good, sym c.find.ensures ∙ c.in-At.is) c.located_as.ensures

@@ -9,7 +9,7 @@ use Rattle.collector.proofs.Collector.opened.Goals as goal
 pub returns-then-not-within_limits : goal.returns-then-not-within_limits
 unfolding open_with
 returns-then-not-within_limits c = rw (
-  sym c.within_limits.ensures ∙ not-true _ c.if-not-within_limits.true,
+  sym c.within_limits.ensures ∙ c.if-not-within_limits.true,
   c.free_slot-free.ensures,
 )
 
@@ -17,7 +17,7 @@ pub returns : goal.returns
 unfolding open_with
 returns c =
     rw (
-      sym c.within_limits.ensures ∙ not-false _ c.if-not-within_limits.false,
+      sym c.within_limits.ensures ∙ c.if-not-within_limits.false,
       c.free_slot-free.ensures,
       c.none_yet.ensures,
       c.clear.ensures,

@@ -11,15 +11,14 @@ use Rattle.collector.proofs.Collector.segment_taken.Goals as goal
 pub returns-then-not-is_sound : goal.returns-then-not-is_sound
 unfolding take_segment
 returns-then-not-is_sound c =
-    let a = c.args in rw (sym c.is_sound.ensures ∙ not-true _ c.if-not-is_sound.true)
+    let a = c.args in rw (sym c.is_sound.ensures ∙ c.if-not-is_sound.true)
     (c.answered.ensures (stores a.header a.body a.marks))
 
 pub take_segment-change-requires : goal.take_segment-change-requires
 take_segment-change-requires c =
     let a = c.args in
     let lent = stores a.header a.body a.marks in
-    let good = sym c.is_sound.ensures ∙ not-false _
-    c.if-not-is_sound.false in slots-sound (state a.self a.counts lent) good
+    let good = sym c.is_sound.ensures ∙ c.if-not-is_sound.false in slots-sound (state a.self a.counts lent) good
 
 pub changed-requires : goal.changed-requires
 changed-requires c = c.take_segment-change.ensures.0
@@ -29,5 +28,5 @@ unfolding take_segment
 returns c =
     let a = c.args in
     let lent = stores a.header a.body a.marks in
-    let good = sym c.is_sound.ensures ∙ not-false _ c.if-not-is_sound.false in
+    let good = sym c.is_sound.ensures ∙ c.if-not-is_sound.false in
     rw good (c.changed.ensures _ ∙ c.take_segment-change.ensures.1 a.counts)

@@ -14,11 +14,11 @@ use Rattle.collector.specs.Arrival.{arrival}
 use Rattle.collector.proofs.Collector.take_first.Goals as goal
 
 pub returns-then-not-fits_alone : goal.returns-then-not-fits_alone
-returns-then-not-fits_alone c = (omega arith, λ counts. rw (sym c.fits_alone.ensures ∙ not-true _ c.if-not-fits_alone.true) refl)
+returns-then-not-fits_alone c = (omega arith, λ counts. rw (sym c.fits_alone.ensures ∙ c.if-not-fits_alone.true) refl)
 
 pub returns-in_default : goal.returns-in_default
 returns-in_default c =
-    let alone = sym c.fits_alone.ensures ∙ not-false _ c.if-not-fits_alone.false in
+    let alone = sym c.fits_alone.ensures ∙ c.if-not-fits_alone.false in
     (omega arith, λ counts. rw (alone, sym c.free.ensures ∙ c.in_default.is) refl)
 
 pub take_at-requires : goal.take_at-requires
@@ -39,7 +39,7 @@ returns c =
     let lent = stores a.header a.body a.marks in
     let o = sound-open a.self.limit a.self.count a.self.slots lent c.requires _
     (sym c.free.ensures ∙ c.in-At.is) in
-    let alone = sym c.fits_alone.ensures ∙ not-false _ c.if-not-fits_alone.false in
+    let alone = sym c.fits_alone.ensures ∙ c.if-not-fits_alone.false in
     rw (alone, sym c.free.ensures ∙ c.in-At.is)
     (put_as a.self _ (arrival a.heard a.repetition a.last a.bytes.now) lent
     c.fresh_slot-fresh.result (fresh_slot a.heard.number) c.take_at.ensures

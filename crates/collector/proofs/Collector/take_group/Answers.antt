@@ -13,12 +13,12 @@ use Rattle.collector.proofs.Collector.take_group.Goals as goal
 
 pub returns-then-not-is_sound : goal.returns-then-not-is_sound
 unfolding take_group
-returns-then-not-is_sound c = (omega arith, rw (sym c.is_sound.ensures ∙ not-true _ c.if-not-is_sound.true) refl)
+returns-then-not-is_sound c = (omega arith, rw (sym c.is_sound.ensures ∙ c.if-not-is_sound.true) refl)
 
 pub returns-in_default : goal.returns-in_default
 unfolding take_group
 returns-in_default c =
-    let good = sym c.is_sound.ensures ∙ not-false _ c.if-not-is_sound.false in
+    let good = sym c.is_sound.ensures ∙ c.if-not-is_sound.false in
     let told = c.in_default.is in
     let why = c.refusal_of.ensures ∙ ap refusal_of told in
     (omega arith, rw (good, sym c.read-reading.ensures ∙ told, why) refl)
@@ -34,7 +34,7 @@ pub take_segment-requires : goal.take_segment-requires
 take_segment-requires c =
     let a = c.args in
     let lent = stores a.header a.body a.marks in
-    let good = sym c.is_sound.ensures ∙ not-false _ c.if-not-is_sound.false in
+    let good = sym c.is_sound.ensures ∙ c.if-not-is_sound.false in
     slots-sound (state a.self a.counts lent) good
 
 pub returns : goal.returns
@@ -42,7 +42,7 @@ unfolding take_group take_segment
 returns c =
     let a = c.args in
     let carried = c.in-Read.carried in
-    let good = sym c.is_sound.ensures ∙ not-false _ c.if-not-is_sound.false in
+    let good = sym c.is_sound.ensures ∙ c.if-not-is_sound.false in
     let read = sym c.read-reading.ensures ∙ c.in-Read.is in
     let long : carried.start + carried.length - carried.start ≡ carried.length = omega arith in
     let left = rw (long, c.heard_as.ensures) at (c.take_segment.ensures.1 a.counts) in

@@ -5,9 +5,9 @@ use borrow.Author.Tests.{not-true, not-false}
 use Rattle.comparison.proofs.decision.accepts_header.Goals as goal
 
 pub returns-then-not-joins : goal.returns-then-not-joins
-returns-then-not-joins c = rw (sym c.joins.ensures ∙ not-true _ c.if-not-joins.true) refl
+returns-then-not-joins c = rw (sym c.joins.ensures ∙ c.if-not-joins.true) refl
 
 pub returns : goal.returns
 returns c =
-    rw (sym c.joins.ensures ∙ not-false _ c.if-not-joins.false)
+    rw (sym c.joins.ensures ∙ c.if-not-joins.false)
     (rw (c.kept_with-with.ensures, c.core_with-said.ensures) at c.suits.ensures)

@@ -8,11 +8,11 @@ use Rattle.cut.specs.Decision.{possible, suits}
 use Rattle.object.proofs.decision.suits.Goals as goal
 
 -- what a test gave, of what its callee ensures
-failed : {r x : Bool} → r ≡ x → not r ≡ true → x ≡ false
-failed {r} e f = sym e ∙ not-true r f
+failed : {r x : Bool} → r ≡ x → r ≡ false → x ≡ false
+failed {r} e f = sym e ∙ f
 
-passed : {r x : Bool} → r ≡ x → not r ≡ false → x ≡ true
-passed {r} e f = sym e ∙ not-false r f
+passed : {r x : Bool} → r ≡ x → r ≡ true → x ≡ true
+passed {r} e f = sym e ∙ f
 
 pub returns-then-not-core_fits : goal.returns-then-not-core_fits
 unfolding suits
