@@ -14,7 +14,6 @@ use Rattle.object.specs.Asked.{Fitting}
 use Rattle.object.specs.laws.Stored.{record_is, number_small, can-move, can-put, own-small, still-is, still-move, summed-header, summed-body, stored-header, stored-body}
 use Rattle.object.specs.laws.Inside.{lent-bits, after_small, still-small, header-small}
 use Rattle.object.proofs.Laws.{back_whole}
-use borrow.Author.Rules.{rules}
 use Rattle.object.specs.Parts.{Lent, shares, parts_of}
 use Rattle.object.proofs.store.Goals as goal
 
@@ -48,7 +47,7 @@ put-requires c =
     let told = c.in-Header.is in
     let f : Fitting c.args.tally Header c.args.limit c.args.core s c.args.slot lent = rw told at c.requires in
     let new = (rw (c.bounds_of-bounds.ensures, c.kept_of.ensures, c.total_in-own.ensures, told) at c.with-new.ensures) ∙ record_is c.args.tally c.args.limit c.args.core s c.args.slot lent Header f in
-    rw new (can-move c.args.tally c.args.limit c.args.core s c.args.slot lent Header f, can-put c.args.tally c.args.limit c.args.core s c.args.slot lent Header f)
+    rw new record { can_move = can-move c.args.tally c.args.limit c.args.core s c.args.slot lent Header f; can_put = can-put c.args.tally c.args.limit c.args.core s c.args.slot lent Header f }
 
 pub settle-requires : goal.settle-requires
 unfolding parts_of
@@ -105,7 +104,7 @@ put-requires-in-Body c =
     let f : Fitting c.args.tally Body c.args.limit c.args.core s c.args.slot lent = rw told at c.requires in
     let new = (rw (c.bounds_of-bounds.ensures, c.kept_of.ensures, c.total_in-own.ensures, told) at c.with-new.ensures) ∙ record_is c.args.tally c.args.limit c.args.core s c.args.slot lent Body f in
     let rest = take_all (length c.args.marks.now - header_numbers) (drop header_numbers c.args.marks.now) (rw length-drop (omega arith)) in
-    rw (new, rest) (can-move c.args.tally c.args.limit c.args.core s c.args.slot lent Body f, can-put c.args.tally c.args.limit c.args.core s c.args.slot lent Body f)
+    rw (new, rest) record { can_move = can-move c.args.tally c.args.limit c.args.core s c.args.slot lent Body f; can_put = can-put c.args.tally c.args.limit c.args.core s c.args.slot lent Body f }
 
 pub overflow_add-own-in-Body : goal.overflow_add-own-in-Body
 overflow_add-own-in-Body c =

@@ -1,11 +1,9 @@
 -- `object::takes` meets its contract, test by test.
 -- Assumes nothing.
 use mathlib.Core.Path.{sym, ◌∙◌}
-use borrow.Author.Tests.{not-true, not-false}
 use Rattle.cut.specs.Parts.{other_part}
 use Rattle.object.proofs.Laws.{counted}
 use native.Mathlib.Omega.{arith}
-use borrow.Author.Rules.{rules}
 use Rattle.object.proofs.takes.Goals as goal
 
 pub returns-then-not-core_fits : goal.returns-then-not-core_fits
@@ -30,7 +28,7 @@ returns-then-not-fits c =
       c.bounds_of-bounds.ensures,
       c.kept_of-kept.ensures,
       c.marks_of.ensures,
-    ) at c.fits2.ensures in
+    ) at c.fits.ensures in
     rw (
       sym c.core_fits.ensures
           ∙ c.if-not-core_fits.false,
@@ -54,7 +52,7 @@ returns-then-not-possible c =
       c.kept_of-kept.ensures,
       c.marks_of.ensures,
     ) at
-    c.fits2.ensures in
+    c.fits.ensures in
     let possible =
     rw (
       c.bounds_of-within.ensures,
@@ -72,7 +70,7 @@ returns c =
       c.kept_of-kept.ensures,
       c.marks_of.ensures,
     ) at
-    c.fits2.ensures in
+    c.fits.ensures in
     let possible =
     rw (
       c.bounds_of-within.ensures,
