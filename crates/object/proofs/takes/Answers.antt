@@ -43,7 +43,9 @@ marks_of-requires-2 c =
     )
 
 pub possible-requires : goal.possible-requires
-possible-requires c = rw (c.requires.0.theirs, c.marks_of-2.ensures, c.bounds_of-within.ensures, c.other_part-other.ensures) (counted (other_part c.args.part) c.args.limit c.args.core c.args.marks.now c.requires.0.long c.requires.1)
+possible-requires c =
+    rw (c.requires.0.theirs, c.marks_of-2.ensures, c.bounds_of-within.ensures, c.other_part-other.ensures)
+    (counted (other_part c.args.part) c.args.limit c.args.core c.args.marks.now c.requires.0.long c.requires.1)
 
 pub returns-then-not-possible : goal.returns-then-not-possible
 returns-then-not-possible c =
@@ -61,7 +63,11 @@ returns-then-not-possible c =
       c.other_part-other.ensures,
     ) at
     c.possible.ensures in
-    rw (sym c.core_fits.ensures ∙ c.if-not-core_fits.false, sym own ∙ c.if-not-fits.false, sym possible ∙ c.if-not-possible.true)
+    rw (
+      sym c.core_fits.ensures ∙ c.if-not-core_fits.false,
+      sym own ∙ c.if-not-fits.false,
+      sym possible ∙ c.if-not-possible.true,
+    )
 
 pub returns : goal.returns
 returns c =
@@ -79,4 +85,8 @@ returns c =
       c.other_part-other.ensures,
     ) at
     c.possible.ensures in
-    rw (sym c.core_fits.ensures ∙ c.if-not-core_fits.false, sym own ∙ c.if-not-fits.false, sym possible ∙ c.if-not-possible.false)
+    rw (
+      sym c.core_fits.ensures ∙ c.if-not-core_fits.false,
+      sym own ∙ c.if-not-fits.false,
+      sym possible ∙ c.if-not-possible.false,
+    )
