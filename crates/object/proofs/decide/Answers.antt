@@ -2,13 +2,12 @@
 -- Assumes nothing.
 use mathlib.Core.Path.{◌≡◌, sym, ap, ◌∙◌}
 use mathlib.Core.Bool.{true, false}
-use borrow.Author.Tests.{not-true, not-false, leb-true}
+use borrow.Author.Tests.{leb-true}
 use Rattle.cut.specs.Requirement.{Segment, segment}
 use Rattle.cut.specs.Parts.{other_part}
 use Rattle.cut.specs.Kept.{core_with}
 use Rattle.object.specs.declared.Tally.{Tally}
 use Rattle.object.specs.laws.Decided.{said, tallied-total, decided-held, decided-new}
-use borrow.Author.Rules.{rules}
 use Rattle.object.specs.Parts.{Lent, shares, parts_of}
 use Rattle.object.specs.Stage.{core_in}
 use Rattle.object.proofs.decide.Goals as goal

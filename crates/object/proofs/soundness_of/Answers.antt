@@ -1,12 +1,11 @@
 -- `object::soundness_of` meets its contract, test by test.
 -- Assumes nothing.
 use mathlib.Core.Path.{sym, ◌∙◌}
-use borrow.Author.Tests.{not-true, not-false, eq-eqb, ne_eqb}
+use borrow.Author.Tests.{eq-eqb, ne_eqb}
 use Rattle.answer.specs.declared.Part.TheVariants.{Header, Body}
 use Rattle.object.specs.Sound.{sound_parts, sound_slot}
 use Rattle.object.specs.Asked.{soundness}
 use Rattle.object.proofs.Laws.{counted, right-bits}
-use borrow.Author.Rules.{rules}
 use Rattle.object.specs.Parts.{marks_of, parts_of}
 use Rattle.object.specs.Stage.{core_in, stage_of, missing_in}
 use Rattle.object.specs.laws.Inside.{marks-bits, right-small}

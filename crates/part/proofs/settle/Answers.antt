@@ -3,7 +3,6 @@
 use mathlib.Core.Path.{sym, ◌∙◌}
 use native.Mathlib.Omega.{arith}
 use Rattle.part.proofs.Laws.{pos, moved-known, moved-first, moved_down}
-use borrow.Author.Rules.{rules}
 use Rattle.part.proofs.settle.Goals as goal
 
 pub returns-then-old-ne0 : goal.returns-then-old-ne0
