@@ -46,21 +46,23 @@ pub struct Import {
     pub name: String,
 }
 
-impl Import {
-    /// The file of definitions or laws that it brings in; nothing where that is none of the project's, or
-    /// a type that code declares.
-    pub fn file(&self) -> Option<String> {
-        let crate_name = self.module.first()?.strip_prefix("Rattle·")?;
-        match &self.module[1..] {
-            [specs, inner @ ..] if specs == "specs" && inner.first()? != "declared" => {
-                Some(format!(
-                    "crates/{}/specs/{}.antt",
-                    crate_name.trim_end_matches("·specs"),
-                    inner.join("/")
-                ))
-            }
-            _ => None,
+/// The crate whose `specs/` a module is of, and its path there: `Rattle.CRATE.specs.Path`.
+pub fn of_specs(module: &[String]) -> Option<(&str, &[String])> {
+    match module {
+        [library, crate_name, specs, inner @ ..] if library == "Rattle" && specs == "specs" => {
+            Some((crate_name, inner))
         }
+        _ => None,
+    }
+}
+
+impl Import {
+    /// The file of definitions or laws that it brings in, the project's or another's; nothing where that
+    /// is a type that code declares.
+    pub fn file(&self) -> Option<String> {
+        let (crate_name, inner) = of_specs(&self.module)?;
+        let is_file = inner.first()? != "declared";
+        is_file.then(|| format!("crates/{crate_name}/specs/{}.antt", inner.join("/")))
     }
 }
 

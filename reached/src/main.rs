@@ -34,9 +34,10 @@ fn read(path: &Path) -> Result<String, String> {
 fn crates() -> Result<Vec<String>, String> {
     let text = read(Path::new("crates.txt"))?;
     let named = text.lines().filter(|line| !line.starts_with('#'));
-    Ok(named
-        .filter_map(|line| line.split_once(':'))
-        .map(|(name, _)| name.to_string())
+    let names = named.filter_map(|line| line.split([' ', ':']).next());
+    Ok(names
+        .filter(|name| !name.is_empty())
+        .map(String::from)
         .collect())
 }
 

@@ -202,5 +202,5 @@ fn typed(inside: &[Token]) -> Option<usize> {
 
 /// A word of a name: the name itself or, of an operator, one of its words.
 fn is_word_of(word: &str, name: &str) -> bool {
-    word == name || (name.contains('_') && name.split('_').any(|part| part == word))
+    word == name || (name.contains('◌') && name.split('◌').any(|part| part == word))
 }

@@ -1,6 +1,6 @@
 //! All files, and what a name in one of them means.
 
-use crate::file::{Entry, File, Import};
+use crate::file::{of_specs, Entry, File, Import};
 use crate::reader::Reader;
 use crate::{sources, specs};
 use std::collections::{BTreeMap, BTreeSet, HashMap};
@@ -92,16 +92,24 @@ impl Repository {
         paths.find_map(|path| self.declared_in(path, name))
     }
 
+    /// A crate of that name is one of the project's.
+    fn has(&self, crate_name: &str) -> bool {
+        let folder = format!("crates/{crate_name}/");
+        self.files.keys().any(|path| path.starts_with(&folder))
+    }
+
     /// What of a module a name means; nothing where the module is not one of the project's.
     fn of_module(&self, module: &[String], name: &str) -> Result<Option<Meaning>, String> {
         let missing = || format!("`{name}` is not found in `{}`", module.join("."));
-        let Some(library) = module[0].strip_prefix("Rattle·") else {
+        let Some((crate_name, inner)) = of_specs(module) else {
             return Ok(None);
         };
-        let crate_name = library.trim_end_matches("·specs");
-        match module {
-            [_, specs, declared, inner @ ..] if specs == "specs" && declared == "declared" => {
-                let is_variant = inner.last().is_some_and(|last| last == "the-variants");
+        if !self.has(crate_name) {
+            return Ok(None);
+        }
+        match inner {
+            [declared, inner @ ..] if declared == "declared" => {
+                let is_variant = inner.last().is_some_and(|last| last == "TheVariants");
                 let of = if is_variant {
                     &inner[..inner.len() - 1]
                 } else {
@@ -114,11 +122,10 @@ impl Repository {
                     ..meaning
                 }))
             }
-            [_, specs, inner @ ..] if specs == "specs" => {
+            _ => {
                 let path = format!("crates/{crate_name}/specs/{}.antt", inner.join("/"));
                 self.declared_in(&path, name).map(Some).ok_or_else(missing)
             }
-            _ => Err(missing()),
         }
     }
 
@@ -139,7 +146,7 @@ impl Repository {
                         .insert(import.name.clone(), import.module.clone());
                     None
                 }
-                Some(_) if is_code && !import.module[0].contains('·') => self.of_crate(import),
+                Some(_) if is_code && import.module[0] != "Rattle" => self.of_crate(import),
                 Some(item) => self.of_module(&import.module, item)?,
             };
             if let Some(meaning) = meaning {
@@ -154,11 +161,11 @@ impl Repository {
             }
         }
         // An operator's words mean the operator.
-        let is_operator = |name: &&String| !is_code && name.contains('_');
+        let is_operator = |name: &&String| name.contains('◌');
         let operators: Vec<String> = scope.names.keys().filter(is_operator).cloned().collect();
         for operator in operators {
             let meaning = scope.names[&operator].clone();
-            for word in operator.split('_').filter(|word| !word.is_empty()) {
+            for word in operator.split('◌').filter(|word| !word.is_empty()) {
                 scope.names.entry(word.into()).or_insert(meaning.clone());
             }
         }
@@ -174,7 +181,7 @@ impl Repository {
             if let Some(brought) = scope.modules.get(first) {
                 return self.of_module(brought, &path[1]);
             }
-            if first.starts_with("Rattle·") {
+            if first == "Rattle" {
                 return self.of_module(module, last);
             }
         }

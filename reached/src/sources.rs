@@ -95,16 +95,42 @@ fn declared(lines: &[&str], word: &str) -> Option<(Vec<Part>, usize)> {
     Some((members(body, word == "enum"), count))
 }
 
+/// What code brings in with `use`, from behind that word on: `a::B;`, `a::{B, C as D};`.
+fn used(text: &str) -> Option<Vec<Import>> {
+    let (module, items) = text.strip_suffix(';')?.rsplit_once("::")?;
+    let module: Vec<String> = module.split("::").map(String::from).collect();
+    let items = match items.strip_prefix('{') {
+        Some(items) => items.strip_suffix('}')?,
+        None => items,
+    };
+    let import = |item: &str| {
+        let (item, name) = item.split_once(" as ").unwrap_or((item, item));
+        Import {
+            module: module.clone(),
+            item: Some(item.into()),
+            name: name.into(),
+        }
+    };
+    Some(items.split(',').map(str::trim).map(import).collect())
+}
+
+/// Whether a line begins a clause of a contract, with a name or without: `ensures {`, `requires low {`.
+fn begins_clause(line: &str, word: &str) -> bool {
+    let behind = line.trim_start().strip_prefix(word);
+    behind.is_some_and(|rest| rest.starts_with([' ', '*']) && rest.contains('{'))
+}
+
+fn is_clause(line: &str) -> bool {
+    begins_clause(line, "requires") || begins_clause(line, "ensures")
+}
+
 /// The text before a function's body, from its first line on, and on how many lines it stands.
 fn before_body(lines: &[&str]) -> Option<(String, usize)> {
     let mut text = String::new();
     let mut depth = 0_i64;
     for (count, line) in lines.iter().enumerate() {
         let bare = line.trim_start();
-        let starts = depth == 0
-            && ["requires {", "ensures {"]
-                .iter()
-                .any(|word| bare.starts_with(word));
+        let starts = depth == 0 && is_clause(line);
         if depth == 0 && !starts && line.ends_with('{') {
             text.push_str(line.trim_end_matches('{'));
             return Some((text, count + usize::from(bare != "{")));
@@ -145,14 +171,7 @@ pub fn parse(text: &str) -> Result<File, String> {
             file.imports
                 .extend(specs::imports(&tokens(import.trim_end_matches(';')))?);
         } else if let Some(import) = line.strip_prefix("use ") {
-            let path = import.trim_end_matches(';').split("::").map(String::from);
-            let mut module: Vec<String> = path.collect();
-            let item = module.pop().ok_or_else(not_read)?;
-            file.imports.push(Import {
-                module,
-                name: item.clone(),
-                item: Some(item),
-            });
+            file.imports.extend(used(import).ok_or_else(not_read)?);
         } else if ["struct", "enum", "const"].contains(&word) {
             let (parts, count) = declared(&lines[at..], word).ok_or_else(not_read)?;
             let entry = Entry {
@@ -165,13 +184,10 @@ pub fn parse(text: &str) -> Result<File, String> {
             let (head, count) = before_body(&lines[at..]).ok_or_else(not_read)?;
             let (given, behind) = bracketed(&head, '(', ')').ok_or_else(not_read)?;
             let mut parts = arguments(given);
-            let clauses = behind
-                .find("requires {")
-                .into_iter()
-                .chain(behind.find("ensures {"))
-                .min();
-            let (returned, mut rest) = behind.split_at(clauses.unwrap_or(behind.len()));
-            parts.push(Part::Statement(words(returned)));
+            let before = behind.split_inclusive('\n');
+            let before = before.take_while(|line| !is_clause(line));
+            let (returned, mut rest) = behind.split_at(before.map(str::len).sum());
+            parts.push(Part::Field(vec!["result".into()], words(returned)));
             while let Some((clause, next)) = bracketed(rest, '{', '}') {
                 parts.push(Part::Statement(tokens(clause)));
                 rest = next;
@@ -181,7 +197,7 @@ pub fn parse(text: &str) -> Result<File, String> {
                 lines: &filled(&lines, top, at + count) | &above,
                 function: Some(Function {
                     is_public: bare.starts_with("pub "),
-                    ensures: behind.contains("ensures {"),
+                    ensures: behind.lines().any(|line| begins_clause(line, "ensures")),
                 }),
                 ..Entry::default()
             };

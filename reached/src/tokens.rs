@@ -2,9 +2,9 @@
 
 #[derive(Clone, Debug, PartialEq)]
 pub enum Kind {
-    /// A name, or names with dots between them: `pick`, `Answer.State`.
+    /// A name, or names with dots between them: `pick`, `Answer.State`, `s.stores`.
     Name(Vec<String>),
-    /// A field that is taken: ` .number`.
+    /// A field that is taken of what stands in brackets: `.number`.
     Field,
     /// One of `( ) { } ; , @`, and the dot behind the names that a `λ` binds.
     Mark(char),

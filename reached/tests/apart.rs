@@ -18,7 +18,7 @@ fn told(project: &Repository, name: &str) -> Vec<String> {
 
 const DEFINED: &str = "abbrev pub least : ℕ\nleast = 16\n";
 const PROVED: &str =
-    "use Rattle·one·specs.specs.Sizes.{least}\n\npub least-is : least ≡ 16\nleast-is = refl\n";
+    "use Rattle.one.specs.Sizes.{least}\n\npub least-is : least ≡ 16\nleast-is = refl\n";
 
 #[test]
 fn definitions_and_laws_stand_apart() {
@@ -38,7 +38,7 @@ fn a_law_among_definitions_is_told() {
 #[test]
 fn a_definition_among_laws_is_told_with_the_file_that_brings_it_in() {
     let sizes =
-        "use Rattle·one·specs.specs.laws.Sizes.{twice}\n\nabbrev pub least : ℕ\nleast = twice 8\n";
+        "use Rattle.one.specs.laws.Sizes.{twice}\n\nabbrev pub least : ℕ\nleast = twice 8\n";
     let laws = "abbrev pub twice : ℕ → ℕ\ntwice n = n + n\n";
     let told = told(&project(sizes, laws), "least");
     assert_eq!(

@@ -11,20 +11,20 @@ const PROMISE: &str = "crates/top/specs/Promise.antt";
 
 const WORDS_TEXT: &str = "\
 -- Words.
-use Prim.Native.Nat.{ℕ, _+_}
-use Rattle·base·specs.specs.declared.Slot.{Slot}
-use Rattle·base·specs.specs.declared.Stage.the-variants as Stage
-use Rattle·base·specs.specs.declared.Stage.the-variants.{Free as Empty}
+use Rattle.std.specs.Prelude.{ℕ, ◌+◌}
+use Rattle.base.specs.declared.Slot.{Slot}
+use Rattle.base.specs.declared.Stage.TheVariants as Stage
+use Rattle.base.specs.declared.Stage.TheVariants.{Free as Empty}
 
-infixr 1 _or-else_
+infixr 1 ◌or_else◌
 -- one of two
-abbrev pub _or-else_ : ℕ → ℕ → ℕ
-a or-else b = a
+abbrev pub ◌or_else◌ : ℕ → ℕ → ℕ
+a or_else b = a
 
 -- three lines
 -- with their comment
 unfoldable pub width : ℕ → ℕ
-width n = n or-else 1
+width n = n or_else 1
 
 -- a label, a field and bound names mention nothing
 abbrev pub made : (width : ℕ) → Slot
@@ -33,8 +33,8 @@ made width = record { size = width; stage = Stage.Full }
 abbrev pub size : ℕ
 size = 3
 
-abbrev pub isEmpty : Slot → ℕ
-isEmpty s = (λ size. size) (s .size)
+abbrev pub is_empty : Slot → ℕ
+is_empty s = (λ size. size) s.size
 
 pub data Kind : Type 0 where
   wide narrow : (size : ℕ) → Kind
@@ -53,7 +53,7 @@ unused = size
 ";
 
 const LAWS_TEXT: &str = "\
-use Rattle·base·specs.specs.Words.{Kind, wide, narrow, width, size}
+use Rattle.base.specs.Words.{Kind, wide, narrow, width, size}
 
 module _ (k : Kind) where
   -- a definition inside a block
@@ -96,20 +96,21 @@ pub const WIDE: usize = DEEP * 2;
 ";
 
 const CALLS_TEXT: &str = "\
-use base::Slot;
-ghost use Rattle·base.specs.Words.{made, size, width};
+use base::{Slot, Stage as Step};
+ghost use Rattle.base.specs.Words.{made, size, width};
 
 // Called from outside.
 pub fn make(size: usize) -> Slot
-    requires { ⌜ size ≡ 0 ⌝ }
-    ensures { λ r. ⌜ r ≡ record { width = made size } .width ⌝ }
+    requires none { size ≡ 0 }
+    ensures value { result ≡ record { width = made size }.width }
+    ensures* alone { made result ≡ made 0 }
 {
     width(size)
 }
 ";
 
 const PROMISE_TEXT: &str = "\
-use Rattle·base.specs.Words.{width}
+use Rattle.base.specs.Words.{width}
 pub promised : (n : ℕ) → width n ≡ n
 promised n = proof
 ";
@@ -142,13 +143,13 @@ fn reached_from(path: &str, name: &str) -> Vec<String> {
 
 #[test]
 fn an_operator_is_mentioned_by_its_words() {
-    assert_eq!(reached_from(WORDS, "width"), ["_or-else_"]);
+    assert_eq!(reached_from(WORDS, "width"), ["◌or_else◌"]);
 }
 
 #[test]
 fn bound_names_and_labels_are_no_mention() {
     assert_eq!(reached_from(WORDS, "made"), ["Slot", "Stage"]);
-    assert_eq!(reached_from(WORDS, "isEmpty"), ["Slot", "Stage"]);
+    assert_eq!(reached_from(WORDS, "is_empty"), ["Slot", "Stage"]);
 }
 
 #[test]
@@ -179,7 +180,7 @@ fn a_law_that_a_definition_mentions_is_said_and_not_followed() {
 
 #[test]
 fn of_a_law_the_statement_is_read_and_not_the_proof() {
-    assert_eq!(reached_from(PROMISE, "promised"), ["_or-else_", "width"]);
+    assert_eq!(reached_from(PROMISE, "promised"), ["width", "◌or_else◌"]);
     assert_eq!(
         reached_from(LAWS, "law"),
         ["inside", "Kind", "Sorted", "bound", "size"]
@@ -212,7 +213,7 @@ fn lines_are_counted_with_the_comment_right_above() {
     assert_eq!(lines(LAWS, "law"), [3, 9]);
     assert_eq!(lines(CODE, "Slot"), [1, 2, 3, 4, 5]);
     assert_eq!(lines(CODE, "WIDE"), [20, 21]);
-    assert_eq!(lines(CALLS, "make()"), [4, 5, 6, 7]);
+    assert_eq!(lines(CALLS, "make()"), [4, 5, 6, 7, 8]);
 }
 
 #[test]
@@ -220,6 +221,6 @@ fn what_is_not_read_is_an_error() {
     let text = "f : ℕ → Type 0\nf n = elim n [ zero ↦ ℕ | suc m ↦ ℕ ]\n";
     let project = Repository::new(&[(WORDS.into(), text.into())]).unwrap();
     assert!(reach(&project, &[Item::new(WORDS, "f")]).is_err());
-    let text = "use Rattle·base·specs.specs.Words.{missing}\n";
+    let text = "use Rattle.base.specs.Words.{missing}\n";
     assert!(Repository::new(&[(WORDS.into(), text.into())]).is_err());
 }

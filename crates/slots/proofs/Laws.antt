@@ -1,9 +1,9 @@
 -- Laws that the proofs of the code share.
 -- Assumes nothing.
 use mathlib.Core.Path.{◌≡◌, refl, sym, ◌∙◌}
-use mathlib.Core.Logic.{◌≢◌, ⊎_elim}
+use mathlib.Core.Logic.{◌≢◌}
 use mathlib.Core.Bool.{Bool, true, false}
-use mathlib.Core.List.{List, [], ◌∷◌}
+use mathlib.Core.List.{List, []}
 use Prim.Native.Nat.{ℕ, ◌+◌, ◌-◌, ◌*◌, ◌/◌, ◌≤◌, ◌<◌}
 use native.Mathlib.Nat.{le-div_iff_mul-le}
 use native.Mathlib.Decide.{dec_le}
@@ -12,15 +12,12 @@ use native.Mathlib.Omega.{arith}
 use lib.ListN.{length, get_or, take, drop, length-replicate}
 use lib.Dec.{leb}
 use borrow.Author.Tests.{le-leb, lt-leb}
-use types.Run.{OneOf}
-use denote.Enum.Declared.{tag_of}
 use Rattle.octets.specs.Octets.{zeros}
 use Rattle.answer.specs.declared.Part.{Part}
 use Rattle.cut.specs.Lists.{both}
 use Rattle.object.specs.declared.Slot.{Slot}
 use Rattle.object.specs.declared.Stage.{Stage}
 use Rattle.object.specs.declared.Stage.TheVariants.{Free, Gathering, Finished}
-use Rattle.object.specs.contracts.Stage.{the_type}
 use Rattle.slots.specs.declared.Found.TheVariants.{Nothing, At}
 use Rattle.slots.specs.Stores.{free_slot}
 use Rattle.slots.specs.Find.{first_from}
@@ -76,13 +73,13 @@ module _ (w i count : ℕ) (store : List ℕ) where
   start-some h = let e : i * w + count - i * w ≡ count = omega arith in rw (le-leb (i * w + count) (length store) h, e)
       refl
 
--- ---- an object that is not finished: the tag is that of another stage
+-- ---- an object that is not finished
 
 pub unfinished : (part : Part) (stage : Stage) (limit i : ℕ) (header body : List ℕ)
-    → OneOf (0 ∷ 1 ∷ []) (tag_of the_type stage) → [] ≡ shown_as part stage limit i header body
+    → ((m n : ℕ) → stage ≢ Finished m n) → [] ≡ shown_as part stage limit i header body
 unfinished part Free limit i header body h = refl
 unfinished part Gathering limit i header body h = refl
-unfinished part (Finished m n) limit i header body h = ⊎_elim (λ e. absurd (omega arith)) (λ e. absurd (omega arith)) h
+unfinished part (Finished m n) limit i header body h = absurd (h m n refl)
 
 -- marks of which none is set
 pub zeros-long : (n : ℕ) → length (zeros n) ≡ n

@@ -7,6 +7,8 @@ use Prim.Native.Nat.{ℕ, ◌+◌, ◌*◌, ◌/◌, ◌%◌, ◌-◌, ◌≤◌
 use native.Mathlib.Omega.{arith}
 use lib.Bits.{bit_xor, xor_lt}
 use lib.ListN.{length, drop, get_or, drop_of_length-le}
+use mir.Syntax.{w8}
+use mir.Val.{Fits}
 use borrow.Author.Rules.{rules}
 use Rattle.crc.specs.CheckWord.{step, divided, check_word}
 use Rattle.crc.specs.laws.Remainders.{steps, steps-small, byte-entered, divided-on}
@@ -24,23 +26,29 @@ overflow_cast-high c = omega (arith, c.type_inv.bytes c.loop-i.i)
 high_small : (remainder byte : ℕ) → remainder < 0x10000 → byte < 0x100 → bit_xor (remainder / 0x100) byte < 0x100
 high_small remainder byte h g = xor_lt 8 (remainder / 0x100) byte (omega arith) g
 
-place-small : (c : goal.After-shared_slice_known-1)
-    → bit_xor (c.loop-i.remainder / 0x100)
-    (get_or c.args.bytes.now c.loop-i.i 0) < 0x100
-place-small c =
-    high_small c.loop-i.remainder
-    (get_or c.args.bytes.now c.loop-i.i 0)
-    c.loop-i.invariant.1
-    (omega (arith, c.type_inv.bytes c.loop-i.i))
+place-small : (bytes : List ℕ) (i remainder : ℕ) → remainder < 0x10000 → Fits w8 (get_or bytes i 0)
+    → bit_xor (remainder / 0x100) (get_or bytes i 0) < 0x100
+place-small bytes i remainder h g = high_small remainder (get_or bytes i 0) h (omega (arith, g))
 
 pub overflow_cast-high-in-loop-i : goal.overflow_cast-high-in-loop-i
-overflow_cast-high-in-loop-i c = omega (arith, place-small c)
+overflow_cast-high-in-loop-i c =
+    omega (
+      arith,
+      place-small c.args.bytes.now c.loop-i.i c.loop-i.remainder c.loop-i.invariant.1
+          (c.type_inv.bytes c.loop-i.i),
+    )
 
 pub offset_bounds-table-high : goal.offset_bounds-table-high
-offset_bounds-table-high c = omega (arith, place-small c)
+offset_bounds-table-high c =
+    omega (
+      arith,
+      place-small c.args.bytes.now c.loop-i.i c.loop-i.remainder c.loop-i.invariant.1
+          (c.type_inv.bytes c.loop-i.i),
+    )
 
 pub bounds-table-high : goal.bounds-table-high
-bounds-table-high c = place-small c
+bounds-table-high c =
+    place-small c.args.bytes.now c.loop-i.i c.loop-i.remainder c.loop-i.invariant.1 (c.type_inv.bytes c.loop-i.i)
 
 -- the table's entry is what eight steps give, so the byte has entered
 module _ (bytes : List ℕ) (i remainder entry : ℕ) (within : i < length bytes) (small : remainder < 0x10000)
@@ -65,9 +73,12 @@ loop-i-preserved c =
     let at = c.loop-i.i in
     let remainder = c.loop-i.remainder in
     let within : at < length slice = omega arith in
-    let byte : get_or slice at 0 < 0x100 = omega (arith, c.type_inv.bytes at) in
+    let fits = c.type_inv.bytes at in
+    let byte : get_or slice at 0 < 0x100 = omega (arith, fits) in
     let small = c.loop-i.invariant.1 in
-    let rule = entry_of c.loop-i.invariant.3 (bit_xor (remainder / 0x100) (get_or slice at 0)) (place-small c)
+    let rule =
+    entry_of c.loop-i.invariant.3 (bit_xor (remainder / 0x100) (get_or slice at 0))
+    (place-small slice at remainder small fits)
     in (
       omega arith,
       next_small slice at remainder _ within small byte rule,

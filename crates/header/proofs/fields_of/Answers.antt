@@ -1,6 +1,5 @@
 -- Each field is what its own function says.
 use Rattle.header.specs.Parameters.{fields_of}
-use borrow.Author.Rules.{rules}
 use Rattle.header.proofs.fields_of.Goals as goal
 
 pub returns : goal.returns

@@ -4,7 +4,6 @@ use mathlib.Core.Path.{sym}
 use borrow.Author.Tests.{lt-ltb, le-ltb}
 use Rattle.header.specs.Parameters.{length_at}
 use Rattle.header.specs.laws.Parameters.{within-not, length-known}
-use borrow.Author.Rules.{rules}
 use native.Mathlib.Omega.{arith}
 use Rattle.header.proofs.measured_at.Goals as goal
 

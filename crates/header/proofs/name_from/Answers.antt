@@ -1,4 +1,3 @@
-use borrow.Author.Rules.{rules}
 use Rattle.header.proofs.name_from.Goals as goal
 
 pub returns-in-One : goal.returns-in-One

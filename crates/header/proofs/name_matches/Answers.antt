@@ -20,11 +20,11 @@ pub returns-then-name_data-eq0 : goal.returns-then-name_data-eq0
 returns-then-name_data-eq0 c =
     let a = c.args in
     rw (c.same.ensures, c.without_slash.ensures)
-    (sym (bare a.name-data.now a.asked.now c.if-name_data-eq0.true))
+    (sym (bare a.name_data.now a.asked.now c.if-name_data-eq0.true))
 
 pub returns : goal.returns
 unfolding name_matches
 returns c =
     let a = c.args in
     rw (c.same-2.ensures, c.without_slash-3.ensures, c.without_slash-2.ensures)
-    (ap (λ (l : List ℕ). equal (unslashed l) (unslashed a.asked.now)) (rest-is a.name-data.now))
+    (ap (λ (l : List ℕ). equal (unslashed l) (unslashed a.asked.now)) (rest-is a.name_data.now))

@@ -1,7 +1,6 @@
 -- The name is what the reading says.
 use mathlib.Core.Path.{sym, ap, ◌∙◌}
 use Rattle.header.specs.Parameters.{name_in}
-use borrow.Author.Rules.{rules}
 use Rattle.header.proofs.name_of.Goals as goal
 
 pub returns-in-Refused : goal.returns-in-Refused

@@ -1,16 +1,9 @@
 -- The loop's invariant: what is left of the list, noted from here on, comes to what the whole list does.
 use Prim.Native.Nat.{◌-◌}
-use mathlib.Core.Path.{◌≡◌, refl, sym, ◌∙◌}
-use mathlib.Core.Bool.{true, false}
-use borrow.Author.Tests.{not-true, not-false}
+use mathlib.Core.Path.{◌≡◌}
 use lib.ListN.{length}
-use Rattle.header.specs.declared.Found.TheVariants.{One}
-use Rattle.header.specs.Parameters.{parameters_from, found_at, width_fits}
+use Rattle.header.specs.Parameters.{parameters_from}
 use Rattle.header.specs.laws.Scan.{scanned, scan_header}
-use Rattle.header.specs.laws.Parameters.{Known, found-known, found-on}
-use Rattle.header.specs.laws.Exact.{scan-end, scan-broken, scan-one}
-use borrow.Author.Rules.{rules}
-use native.Mathlib.Omega.{arith}
 use Rattle.header.proofs.note_all.Given as goal
 
 abbrev pub invariant-loop-at : goal.invariant-loop-at

@@ -1,5 +1,4 @@
 -- Each arm says which case of `note` holds.
-use borrow.Author.Tests.{ne_eqb}
 use Rattle.header.specs.laws.Scan.{note}
 use borrow.Author.Rules.{rules}
 use Rattle.header.proofs.noted.Goals as goal
@@ -14,4 +13,4 @@ returns-in-12 c = rw (c.repeats-repeated.ensures, c.in-12.is)
 
 pub returns-in_default : goal.returns-in_default
 unfolding note
-returns-in_default c = rw (c.repeats-repeated.ensures, ne_eqb _ _ c.in-10.rest.0.1, ne_eqb _ _ c.in-10.rest.1)
+returns-in_default c = search rules

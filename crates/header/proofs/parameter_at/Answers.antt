@@ -4,7 +4,6 @@ use mathlib.Core.Path.{◌≡◌, sym}
 use lib.ListN.{get_or}
 use Rattle.header.specs.Parameters.{found_at, parameter_at}
 use Rattle.header.specs.laws.Parameters.{found-past}
-use borrow.Author.Rules.{rules}
 use native.Mathlib.Omega.{arith}
 use Rattle.header.proofs.parameter_at.Goals as goal
 
@@ -27,12 +26,5 @@ pub returns-in_default : goal.returns-in_default
 unfolding found_at parameter_at
 returns-in_default c =
     let a = c.args in
-    let e : get_or a.header.now a.at 0 / 64 ≡ 3 =
-    omega (
-      arith,
-      c.in-0.rest.0.0.1,
-      c.in-0.rest.0.1,
-      c.in-0.rest.1,
-      c.type_inv.header a.at,
-    ) in
+    let e : get_or a.header.now a.at 0 / 64 ≡ 3 = omega (arith, c.type_inv.header a.at) in
     rw (c.measured_at.ensures, e)

@@ -1,4 +1,3 @@
-use borrow.Author.Rules.{rules}
 use Rattle.header.proofs.priority_of.Goals as goal
 
 pub bounds-header-start : goal.bounds-header-start

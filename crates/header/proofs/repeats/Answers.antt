@@ -1,6 +1,5 @@
 -- The two tests say which case of the definition holds.
 use borrow.Author.Tests.{eq-eqb, ne_eqb}
-use borrow.Author.Rules.{rules}
 use Rattle.header.proofs.repeats.Goals as goal
 
 pub returns-then-mark-eq1 : goal.returns-then-mark-eq1

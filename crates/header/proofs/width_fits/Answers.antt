@@ -1,5 +1,5 @@
 -- Each arm says which case of `width_fits` holds.
-use borrow.Author.Tests.{ne_eqb}
+use borrow.Author.Rules.{rules}
 use Rattle.header.specs.Parameters.{width_fits}
 use Rattle.header.proofs.width_fits.Goals as goal
 
@@ -13,4 +13,4 @@ returns-in-12 c = rw c.in-12.is
 
 pub returns-in_default : goal.returns-in_default
 unfolding width_fits
-returns-in_default c = rw (ne_eqb _ _ c.in-10.rest.0.1, ne_eqb _ _ c.in-10.rest.1)
+returns-in_default c = search rules

@@ -2,7 +2,6 @@
 use Prim.Native.Nat.{◌≤◌, ◌+◌, ◌-◌}
 use mathlib.Core.Path.{◌≡◌, refl, sym, ◌∙◌}
 use mathlib.Core.Bool.{true}
-use mathlib.Core.Logic.{⊎_elim}
 use borrow.Author.Tests.{eq-eqb, ne_eqb}
 use lib.ListN.{length, get_or, drop}
 use lib.Seq.{drop-length}
@@ -10,6 +9,7 @@ use Rattle.octets.specs.Octets.{both, equal}
 use Rattle.octets.proofs.Turns.{equal-turn, equal-lengths, both_false, both_true}
 use native.Mathlib.Omega.{arith}
 use Rattle.octets.proofs.same.Goals as goal
+use Rattle.octets.proofs.same.Goals.{then-a-i, else-a-i}
 
 pub returns-then-a-b : goal.returns-then-a-b
 returns-then-a-b c = sym (equal-lengths _ _ c.if-a-b.true)
@@ -25,10 +25,11 @@ loop-i-preserved c =
     let t = equal-turn a i (omega arith) b (omega arith) in
     let left = equal (drop (i + 1) a) (drop (i + 1) b) in
     let kept : both c.if-a-i.alike left ≡ both c.loop-i.alike (equal (drop i a) (drop i b)) =
-    ⊎_elim
-    (λ w. rw (w.1, t, ne_eqb (get_or a i 0) (get_or b i 0) w.0.taken) (sym (both_false c.loop-i.alike refl)))
-    (λ w. rw (w.1, t, eq-eqb (get_or a i 0) (get_or b i 0) w.0.left))
-    c.if-a-i.branch in
+    elim c.if-a-i.branch [
+      | then-a-i w ↦
+          rw (w.alike-is, t, ne_eqb (get_or a i 0) (get_or b i 0) w.if-a-i.true) (sym (both_false c.loop-i.alike refl))
+      | else-a-i w ↦ rw (w.alike-is, t, eq-eqb (get_or a i 0) (get_or b i 0) w.if-a-i.false)
+    ] in
     (omega arith, kept ∙ c.loop-i.invariant.1)
 
 pub returns : goal.returns

@@ -11,14 +11,13 @@ use Rattle.octets.specs.laws.Over.{over-start}
 use Rattle.part.specs.Memory.{place_of}
 use Rattle.part.specs.Moves.{settled, put}
 use Rattle.part.specs.laws.Inside.{place-lies}
-use borrow.Author.Rules.{rules}
 use Rattle.part.proofs.put.Goals as goal
 
 pub overflow_add-at : goal.overflow_add-at
 overflow_add-at c =
     let a = c.args in
     let moved : List ℕ = c.settle.new.share in
-    let kept : length moved ≡ length a.share.now = c.settle.auto.1.1.0 in
+    let kept : length moved ≡ length a.share.now = c.settle.auto.share in
     let lies = place-lies a.last (length moved) a.new.size a.number (length a.bytes.now)
     (omega (arith, c.requires.can_put.inside, kept)) in
     omega (arith, c.place_of-at.ensures, lies, kept)
@@ -28,9 +27,9 @@ unfolding put settled
 returns c =
     let a = c.args in
     let moved : List ℕ = c.settle.new.share in
-    let kept : length moved ≡ length a.share.now =
-    c.settle.auto.1.1.0 in
-    let lies = place-lies a.last (length moved) a.new.size a.number (length a.bytes.now) (omega (arith, c.requires.can_put.inside, kept)) in
+    let kept : length moved ≡ length a.share.now = c.settle.auto.share in
+    let lies = place-lies a.last (length moved) a.new.size a.number (length a.bytes.now)
+    (omega (arith, c.requires.can_put.inside, kept)) in
     let at = c.place_of-at.result in
     let count = length a.bytes.now in
     let fits : at + (at + count - at) ≤ length moved =

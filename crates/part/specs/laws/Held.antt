@@ -1,7 +1,7 @@
 -- The segments of the marked numbers: each is what is read at its number, their numbers are the marked ones, and any
 -- list of segments that a part holds has the same ones.
 use Rattle.std.specs.Prelude.{◌≡◌, refl, ◌↔◌, List, [], ◌∷◌, ℕ, zero, suc, ◌+◌, ◌≤◌, ◌<◌, get_or}
-use Rattle.std.proofs.Common.{sym, ap, ◌∙◌, inl, inr, arith}
+use Rattle.std.proofs.Common.{sym, ap, subst, ◌∙◌, inl, inr, arith}
 use Rattle.cut.specs.laws.Lists.{each_map, each-among}
 use Rattle.cut.specs.Requirement.{Segment}
 use Rattle.cut.specs.laws.Segment.{Numbered, Same, Agree, among-numbered}
@@ -46,7 +46,8 @@ numbered-marked m i zero (zero ∷ ms) h = absurd (omega (arith, from_low m (suc
 numbered-marked m i (suc j) (zero ∷ ms) h = numbered-marked m (suc i) j ms (rw shift at h)
 numbered-marked m i zero (suc k ∷ ms) h = omega arith
 numbered-marked m i (suc j) (suc k ∷ ms) (inl e) = absurd (omega (arith, at-number m i))
-numbered-marked m i (suc j) (suc k ∷ ms) (inr h) = numbered-marked m (suc i) j ms (rw shift at h)
+numbered-marked m i (suc j) (suc k ∷ ms) (inr h) =
+    numbered-marked m (suc i) j ms (subst (λ n. Numbered n (marked_from m (suc i) ms)) (shift i j) h)
 
 marked-numbered : (m : Memory) (i j : ℕ) (marks : List ℕ) → 0 < get_or marks j 0 → Numbered (i + j) (marked_from m i marks)
 marked-numbered m i zero [] h = absurd (omega arith)
@@ -54,7 +55,8 @@ marked-numbered m i (suc j) [] h = absurd (omega arith)
 marked-numbered m i zero (zero ∷ ms) h = absurd (omega arith)
 marked-numbered m i (suc j) (zero ∷ ms) h = rw shift (marked-numbered m (suc i) j ms h)
 marked-numbered m i zero (suc k ∷ ms) h = inl (omega (arith, at-number m i))
-marked-numbered m i (suc j) (suc k ∷ ms) h = inr (rw shift (marked-numbered m (suc i) j ms h))
+marked-numbered m i (suc j) (suc k ∷ ms) h =
+    inr (subst (λ n. Numbered n (marked_from m (suc i) ms)) (sym (shift i j)) (marked-numbered m (suc i) j ms h))
 
 from_zero : (n : ℕ) → 0 + n ≡ n
 from_zero n = omega arith

@@ -1,17 +1,10 @@
 -- `slots::all_distinct` meets its contract: what is not looked at yet decides, at each turn.
 -- Assumes nothing.
-use Prim.Native.Nat.{◌-◌}
-use mathlib.Core.Path.{◌≡◌, refl, sym, ◌∙◌}
+use mathlib.Core.Path.{refl, sym, ◌∙◌}
 use native.Mathlib.Omega.{arith}
-use lib.ListN.{length, take, drop, length-take}
-use borrow.Author.Tests.{not-true, not-false}
-use borrow.Author.Rules.{rules}
+use lib.ListN.{length-take}
 use Rattle.slots.specs.laws.Keys.{distinct_none, distinct-on}
-use Rattle.slots.specs.Keys.{distinct_keys}
 use Rattle.slots.proofs.all_distinct.Goals as goal
-
-sixteen : (s : goal.Start) → length s.args.t2 ≡ 16
-sixteen s = s.well-formed.1.0.1.0.1
 
 pub loop-i-init : goal.loop-i-init
 loop-i-init c = refl
@@ -21,8 +14,8 @@ returns-then-not-is_unlike c =
     let a = c.args in
     sym (c.loop-i.invariant
     ∙ rw (
-      distinct-on a.t2 a.count c.loop-i.i (omega arith)
-          (omega (arith, sixteen c)),
+      distinct-on a.keys a.count c.loop-i.i (omega arith)
+          (omega arith),
       sym c.is_unlike.ensures ∙ c.if-not-is_unlike.true,
     )
     refl)
@@ -32,8 +25,8 @@ loop-i-preserved c =
     let a = c.args in
     c.loop-i.invariant
     ∙ rw (
-      distinct-on a.t2 a.count c.loop-i.i (omega arith)
-          (omega (arith, sixteen c)),
+      distinct-on a.keys a.count c.loop-i.i (omega arith)
+          (omega arith),
       sym c.is_unlike.ensures ∙ c.if-not-is_unlike.false,
     )
     refl
@@ -41,4 +34,4 @@ loop-i-preserved c =
 pub returns : goal.returns
 returns c =
     let a = c.args in
-    sym (c.loop-i.invariant ∙ distinct_none a.t2 a.count c.loop-i.i (rw length-take (omega arith)))
+    sym (c.loop-i.invariant ∙ distinct_none a.keys a.count c.loop-i.i (rw length-take (omega arith)))

@@ -3,7 +3,6 @@
 use mathlib.Core.Path.{refl}
 use Rattle.slots.specs.Take.{drop_at}
 use Rattle.slots.specs.laws.Shares.{marks-cleared}
-use borrow.Author.Rules.{rules}
 use Rattle.slots.proofs.drop_at.Goals as goal
 
 pub returns : goal.returns

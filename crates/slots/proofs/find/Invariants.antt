@@ -1,13 +1,9 @@
 -- `slots::find` meets its contract: what is not looked at yet holds the first one, at each turn.
 -- Assumes nothing.
 use Prim.Native.Nat.{◌-◌}
-use mathlib.Core.Path.{◌≡◌, refl, sym, ◌∙◌}
-use native.Mathlib.Omega.{arith}
-use lib.ListN.{length, take, drop, length-take}
-use Rattle.slots.specs.Stores.{free_slot}
-use Rattle.slots.proofs.Laws.{first-none, first-here, first_on}
+use mathlib.Core.Path.{◌≡◌}
+use lib.ListN.{take, drop}
 use Rattle.slots.specs.Find.{holds, first_from, find_in}
-use borrow.Author.Rules.{rules}
 use Rattle.slots.proofs.find.Given as goal
 
 abbrev pub invariant-loop-at : goal.invariant-loop-at

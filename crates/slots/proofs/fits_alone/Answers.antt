@@ -8,7 +8,6 @@ use Rattle.slots.specs.Stores.{slot_marks}
 use Rattle.slots.specs.Alone.{is_fits}
 use Rattle.slots.specs.laws.Fresh.{fresh-decided, fresh-readable}
 use Rattle.slots.proofs.Laws.{zeros-long}
-use borrow.Author.Rules.{rules}
 use Rattle.object.specs.Parts.{Lent, shares}
 use Rattle.slots.proofs.fits_alone.Goals as goal
 

@@ -1,7 +1,6 @@
 -- `slots::free_slot` meets its contract: both records are empty.
 -- Assumes nothing.
 use Rattle.slots.specs.Stores.{free_slot}
-use borrow.Author.Rules.{rules}
 use Rattle.slots.proofs.free_slot.Goals as goal
 
 pub returns : goal.returns

@@ -1,7 +1,6 @@
 -- `slots::fresh_slot` meets its contract: both records are empty.
 -- Assumes nothing.
 use Rattle.slots.specs.Stores.{fresh_slot}
-use borrow.Author.Rules.{rules}
 use Rattle.slots.proofs.fresh_slot.Goals as goal
 
 pub returns : goal.returns

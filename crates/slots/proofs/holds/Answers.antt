@@ -2,7 +2,6 @@
 -- Assumes nothing.
 use mathlib.Core.Path.{sym, ◌∙◌}
 use Rattle.slots.specs.Find.{is_free, holds}
-use borrow.Author.Rules.{rules}
 use Rattle.slots.proofs.holds.Goals as goal
 
 pub returns-then-is_free : goal.returns-then-is_free

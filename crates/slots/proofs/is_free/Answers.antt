@@ -1,7 +1,6 @@
 -- `slots::is_free` meets its contract: stage by stage.
 -- Assumes nothing.
 use Rattle.slots.specs.Find.{is_free}
-use borrow.Author.Rules.{rules}
 use Rattle.slots.proofs.is_free.Goals as goal
 
 pub returns-in-Free : goal.returns-in-Free

@@ -1,17 +1,12 @@
 -- `slots::is_unlike` meets its contract: what is not looked at yet decides, at each turn.
 -- Assumes nothing.
-use Prim.Native.Nat.{◌-◌}
-use mathlib.Core.Path.{◌≡◌, refl, sym, ◌∙◌}
+use mathlib.Core.Path.{refl, sym, ◌∙◌}
 use native.Mathlib.Omega.{arith}
-use lib.ListN.{length, take, drop, length-take}
+use lib.ListN.{length-take}
 use borrow.Author.Tests.{eq-eqb, ne_eqb}
-use borrow.Author.Rules.{rules}
 use Rattle.slots.specs.laws.Keys.{absent_none, absent-on}
-use Rattle.slots.specs.Keys.{absent_key, unlike_key}
+use Rattle.slots.specs.Keys.{unlike_key}
 use Rattle.slots.proofs.is_unlike.Goals as goal
-
-sixteen : (s : goal.Start) → length s.args.t4 ≡ 16
-sixteen s = s.well-formed.1.1.1.0.1.0.1
 
 pub returns-then-key-eq0 : goal.returns-then-key-eq0
 unfolding unlike_key
@@ -25,7 +20,7 @@ pub returns-then-keys-i : goal.returns-then-keys-i
 returns-then-keys-i c =
     sym (c.loop-i.invariant
     ∙ rw (
-      absent-on c.args.t4 c.args.count c.loop-i.i (omega arith) (omega (arith, sixteen c))
+      absent-on c.args.keys c.args.count c.loop-i.i (omega arith) ((omega arith))
           c.args.key,
       eq-eqb _ _ c.if-keys-i.true,
     ) refl)
@@ -34,12 +29,12 @@ pub loop-i-preserved : goal.loop-i-preserved
 loop-i-preserved c =
     c.loop-i.invariant
     ∙ rw (
-      absent-on c.args.t4 c.args.count c.loop-i.i (omega arith) (omega (arith, sixteen c))
+      absent-on c.args.keys c.args.count c.loop-i.i (omega arith) ((omega arith))
           c.args.key,
       ne_eqb _ _ c.if-keys-i.false,
     ) refl
 
 pub returns : goal.returns
 returns c =
-    sym (c.loop-i.invariant ∙ absent_none c.args.t4 c.args.count c.loop-i.i c.args.key
+    sym (c.loop-i.invariant ∙ absent_none c.args.keys c.args.count c.loop-i.i c.args.key
     (rw length-take (omega arith)))

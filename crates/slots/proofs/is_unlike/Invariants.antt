@@ -1,12 +1,8 @@
 -- `slots::is_unlike` meets its contract: what is not looked at yet decides, at each turn.
 -- Assumes nothing.
 use Prim.Native.Nat.{◌-◌}
-use mathlib.Core.Path.{◌≡◌, refl, sym, ◌∙◌}
-use native.Mathlib.Omega.{arith}
-use lib.ListN.{length, take, drop, length-take}
-use borrow.Author.Tests.{eq-eqb, ne_eqb}
-use borrow.Author.Rules.{rules}
-use Rattle.slots.specs.laws.Keys.{absent_none, absent-on}
+use mathlib.Core.Path.{◌≡◌}
+use lib.ListN.{take, drop}
 use Rattle.slots.specs.Keys.{absent_key, unlike_key}
 use Rattle.slots.proofs.is_unlike.Given as goal
 

@@ -2,7 +2,6 @@
 -- Assumes nothing.
 use mathlib.Core.Path.{refl, sym, ◌∙◌}
 use Rattle.slots.specs.Keys.{key_of}
-use borrow.Author.Rules.{rules}
 use Rattle.slots.proofs.key_of.Goals as goal
 
 pub returns-then-is_free : goal.returns-then-is_free

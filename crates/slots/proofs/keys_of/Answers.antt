@@ -1,18 +1,11 @@
 -- `slots::keys_of` meets its contract: the keys that are written and those that are to come are all keys.
 -- Assumes nothing.
-use mathlib.Core.Path.{◌≡◌, refl, sym, ◌∙◌}
-use mathlib.Core.List.{◌++◌}
-use Prim.Native.Nat.{◌-◌, ◌≤◌}
+use mathlib.Core.Path.{refl, sym, ◌∙◌}
 use native.Mathlib.Omega.{arith}
-use lib.ListN.{length, take, drop, length-set}
+use lib.ListN.{length-set}
 use Rattle.slots.specs.Stores.{free_slot}
 use Rattle.slots.specs.laws.Keys.{keys-turn, keys-end}
-use Rattle.slots.specs.Keys.{keys_of}
-use borrow.Author.Rules.{rules}
 use Rattle.slots.proofs.keys_of.Goals as goal
-
-sixteen : (s : goal.Start) → length s.args.t1 ≡ 16
-sixteen s = s.well-formed.0.1.0.1
 
 pub loop-i-init : goal.loop-i-init
 loop-i-init c = (omega arith, refl, refl)
@@ -23,11 +16,11 @@ loop-i-preserved c = (
   omega arith,
   simp length-set c.loop-i.invariant.1,
   c.loop-i.invariant.2
-      ∙ rw c.key_of.ensures (keys-turn c.args.t1 c.loop-i.keys c.loop-i.i (omega (arith, sixteen c))
+      ∙ rw c.key_of.ensures (keys-turn c.args.slots c.loop-i.keys c.loop-i.i (omega arith)
       (omega (arith, c.loop-i.invariant.1))),
 )
 
 pub returns : goal.returns
 returns c =
-    sym (c.loop-i.invariant.2 ∙ keys-end c.args.t1 c.loop-i.keys c.loop-i.i (omega (arith, sixteen c))
+    sym (c.loop-i.invariant.2 ∙ keys-end c.args.slots c.loop-i.keys c.loop-i.i (omega arith)
     (omega (arith, c.loop-i.invariant.0, c.loop-i.invariant.1)))

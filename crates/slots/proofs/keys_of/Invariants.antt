@@ -1,18 +1,15 @@
 -- `slots::keys_of` meets its contract: the keys that are written and those that are to come are all keys.
 -- Assumes nothing.
-use mathlib.Core.Path.{◌≡◌, refl, sym, ◌∙◌}
+use mathlib.Core.Path.{◌≡◌}
 use mathlib.Core.List.{◌++◌}
 use Prim.Native.Nat.{◌-◌, ◌≤◌}
-use native.Mathlib.Omega.{arith}
-use lib.ListN.{length, take, drop, length-set}
-use Rattle.slots.specs.Stores.{free_slot}
-use Rattle.slots.specs.laws.Keys.{keys-turn, keys-end}
+use lib.ListN.{length, take, drop}
 use Rattle.slots.specs.Keys.{keys_of}
-use borrow.Author.Rules.{rules}
 use Rattle.slots.proofs.keys_of.Given as goal
 
 abbrev pub invariant-loop-i : goal.invariant-loop-i
-invariant-loop-i l = (l.i ≤ 16) × (length l.keys ≡ 16) × (keys_of l.slots ≡ take l.i l.keys ++ keys_of (drop l.i l.slots))
+invariant-loop-i l =
+    (l.i ≤ 16) × (length l.keys ≡ 16) × (keys_of l.slots ≡ take l.i l.keys ++ keys_of (drop l.i l.slots))
 
 abbrev pub decreases-loop-i : goal.decreases-loop-i
 decreases-loop-i l = 16 - l.i

@@ -9,7 +9,6 @@ use Rattle.object.specs.Sound.{sound_slot}
 use Rattle.object.specs.Parts.{shares}
 use Rattle.slots.specs.State.{right_slot, right_by}
 use Rattle.slots.specs.laws.Shares.{share-lent}
-use borrow.Author.Rules.{rules}
 use Rattle.slots.proofs.right_at.Goals as goal
 
 pub returns-then-is_free : goal.returns-then-is_free

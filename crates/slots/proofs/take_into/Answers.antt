@@ -7,7 +7,6 @@ use Rattle.object.specs.Asked.{Offered}
 use Rattle.object.specs.Parts.{Lent}
 use Rattle.slots.specs.Stores.{Stores, lent_at}
 use Rattle.slots.specs.laws.Shares.{shares-lent, shares-back, lent-wide}
-use borrow.Author.Rules.{rules}
 use Rattle.slots.proofs.take_into.Goals as goal
 
 pub take-requires : goal.take-requires
@@ -27,9 +26,9 @@ returns c =
     c.take.new.marks
     (take_into a.part a.limit (record { number = a.number; last = a.last; bytes = a.bytes.now }) a.slot
     (lent_at a.limit a.i stores))
-    (c.take.auto.1.1.1.1.1.1.0 ∙ ap (λ (l : Lent). length l.header) lent ∙ wide.header)
-    (c.take.auto.1.1.1.1.1.1.1.0 ∙ ap (λ (l : Lent). length l.body) lent ∙ wide.body)
-    (c.take.auto.1.1.1.1.1.1.1.1.0 ∙ ap (λ (l : Lent). length l.marks) lent ∙ wide.marks)
+    (c.take.auto.header ∙ ap (λ (l : Lent). length l.header) lent ∙ wide.header)
+    (c.take.auto.body ∙ ap (λ (l : Lent). length l.body) lent ∙ wide.body)
+    (c.take.auto.marks ∙ ap (λ (l : Lent). length l.marks) lent ∙ wide.marks)
     (c.take.ensures
     ∙ ap (take_into a.part a.limit (record { number = a.number; last = a.last; bytes = a.bytes.now })
     a.slot) lent)

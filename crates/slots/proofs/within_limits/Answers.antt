@@ -5,7 +5,6 @@ use Prim.Native.Nat.{◌≤◌}
 use native.Mathlib.Nat.{mul-le-mul_right}
 use native.Mathlib.Omega.{arith}
 use Rattle.slots.specs.laws.StateTests.{limits-tests}
-use borrow.Author.Rules.{rules}
 use Rattle.slots.proofs.within_limits.Goals as goal
 
 pub returns-then-limit-lt-LIMIT_LEAST : goal.returns-then-limit-lt-LIMIT_LEAST
