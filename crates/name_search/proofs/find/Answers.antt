@@ -1,16 +1,12 @@
 -- `name_search::find` meets its contract. At each turn over slots, what is held and what is left come to the answer; at
 -- each turn over parameters nothing is held yet of this slot, and what is left of them decides. Assumes nothing.
 use mathlib.Core.Path.{◌≡◌, refl, sym, ap, ◌∙◌}
-use Prim.Native.Nat.{ℕ, ◌+◌, ◌-◌}
 use native.Mathlib.Omega.{arith}
-use lib.ListN.{length, get_or, take, drop, length-take}
+use lib.ListN.{get_or, length-take}
 use Rattle.header.specs.laws.Parameters.{found-known, found-on}
-use Rattle.object.specs.declared.Slot.{Slot}
 use Rattle.slots.specs.Stores.{free_slot, slot_at}
-use Rattle.name_search.specs.declared.Holder.{Holder}
-use Rattle.name_search.specs.declared.Holder.TheVariants.{Number}
-use Rattle.name_search.specs.Finding.{lower, holds_name, holder_in, lowest_from, found_by_name}
-use Rattle.name_search.specs.laws.Legible.{Left, left-first, left-none, left-whole, left_here, left-on}
+use Rattle.name_search.specs.Finding.{lower, holder_in, found_by_name}
+use Rattle.name_search.specs.laws.Legible.{left-first, left-none, left-whole, left_here, left-on}
 use Rattle.name_search.specs.laws.Lower.{lower-nobody, lower-zero, holder-not, holder-is, lowest-none, lowest-on}
 use Rattle.name_search.proofs.find.Goals as goal
 use Rattle.name_search.proofs.find.Goals.{else-parameters-test, then-parameters-test+in_default}

@@ -7,7 +7,6 @@ use Rattle.header.specs.Parameters.{read_header}
 use Rattle.object.specs.declared.Stage.{Stage}
 use Rattle.object.specs.declared.Stage.TheVariants.{Free, Gathering, Finished}
 use Rattle.name_search.specs.laws.Legible.{legible, legible_at, legible_in}
-use borrow.Author.Rules.{rules}
 use Rattle.name_search.proofs.legible_in.Goals as goal
 
 -- nothing is gone over of another stage
