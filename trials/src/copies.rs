@@ -1,7 +1,7 @@
 //! Copies of a crate in which edits are made, each in a folder of its own, and checks of them. Such a check goes over
 //! what the prover already checked of the crate as it is, so that only what an edit touches is checked again.
 
-use crate::edit::{applied, Edit};
+use crate::edit::{applied, renamed, Edit};
 use crate::list::List;
 use crate::log::{verdict, Verdict};
 use crate::rounds::{Marks, Texts};
@@ -235,6 +235,20 @@ impl Copy<'_> {
             let path = self.place.join(file);
             let text = told(&path, fs::read_to_string(&path))?;
             self.put(file, &applied(&text, &here)?)?;
+        }
+        Ok(())
+    }
+
+    /// Changes names in the proofs of functions.
+    pub fn rename(&self, functions: &Marks, names: &[(String, String)]) -> Result<(), String> {
+        for function in functions {
+            let folder = format!("proofs/{function}");
+            for path in entries(&self.place.join(&folder)) {
+                if path.is_file() {
+                    let text = told(&path, fs::read_to_string(&path))?;
+                    told(&path, fs::write(&path, renamed(&text, names)))?;
+                }
+            }
         }
         Ok(())
     }

@@ -27,20 +27,30 @@ fn kit() -> Result<PathBuf, String> {
     Ok(kit.ok_or("rt lies in no kit")?.to_path_buf())
 }
 
-/// Builds the libraries that crates stand on, bottom to top, where they are not yet built.
-fn build_below(list: &List, names: &[String]) -> Result<(), String> {
-    let is_below = |name: &&String| {
-        names
+/// Has `rt` do its work in a crate's folder.
+fn rt(list: &List, name: &str, verb: &str) -> Result<(), String> {
+    let mut command = Command::new("rt");
+    command.arg(verb).current_dir(list.folder(name));
+    let output = command.output().map_err(|why| format!("rt: {why}"))?;
+    if output.status.success() {
+        return Ok(());
+    }
+    print!("{}", String::from_utf8_lossy(&output.stdout));
+    Err(format!("{name} is not proved as it is"))
+}
+
+/// Builds the libraries that crates stand on, where they are not yet built, and checks the crates of which nothing
+/// checked is kept.
+fn prepare(list: &List, names: &[String]) -> Result<(), String> {
+    for name in &list.names {
+        if names
             .iter()
             .any(|one| list.below(one).contains(&name.as_str()))
-    };
-    for name in list.names.iter().filter(is_below) {
-        let mut command = Command::new("rt");
-        command.arg("lib").current_dir(list.folder(name));
-        let output = command.output().map_err(|why| format!("rt: {why}"))?;
-        if !output.status.success() {
-            print!("{}", String::from_utf8_lossy(&output.stdout));
-            return Err(format!("{name} is not proved as it is"));
+        {
+            rt(list, name, "lib")?;
+        }
+        if names.contains(name) && !list.kept(name).is_dir() {
+            rt(list, name, "check")?;
         }
     }
     Ok(())
@@ -93,7 +103,7 @@ fn run(names: Vec<String>) -> Result<bool, String> {
     } else {
         names
     };
-    build_below(&list, &names)?;
+    prepare(&list, &names)?;
     let crates = names.iter().map(|name| Crate::read(&list, name));
     let crates = crates.collect::<Result<Vec<_>, _>>()?;
     let workshop = Workshop::new(&root, list)?;

@@ -182,6 +182,9 @@ fn round(
     for scope in scopes(&of.texts, edits) {
         let copy = workshop.copy(of, &label)?;
         copy.apply(&made)?;
+        for (edit, marks) in edits {
+            copy.rename(marks.as_ref().unwrap_or(&Marks::new()), &edit.names)?;
+        }
         verdict = copy.check(&scope)?;
         copy.clear();
         if edits
