@@ -7,7 +7,8 @@
 #![tactic(auto)]
 
 ghost use Rattle.std.specs.Prelude.{◌≡◌};
-ghost use Rattle.collector.specs.State.{stores, state, start};
+ghost use Rattle.slots.specs.Stores.{stores};
+ghost use Rattle.collector.specs.State.{state, start};
 ghost use Rattle.collector.specs.Calls.{take_group, drop_number, open_with};
 ghost use Rattle.lent_calls.specs.Lent.{answered, begun};
 
@@ -51,8 +52,8 @@ fn open_counted(
     body: &[u8],
     marks: &mut [u8],
 ) -> CountedOpening
-    ensures { begun result.begun result.counts (stores header.entry body.entry marks.exit)
-        ≡ open_with (start limit count counts (stores header.entry body.entry marks.entry)) }
+    ensures { begun result.begun result.counts (stores header.now body.now marks.new)
+        ≡ open_with (start limit count counts (stores header.now body.now marks.old)) }
 {
     let opened = Collector::opened(limit, count, counts, header, body, marks);
     let opening = opened.opening;
@@ -70,9 +71,9 @@ fn take_counted(
     body: &mut [u8],
     marks: &mut [u8],
 ) -> CountedAnswer
-    ensures { answered result.answered result.counts (stores header.exit body.exit marks.exit)
+    ensures { answered result.answered result.counts (stores header.new body.new marks.new)
         ≡ take_group group.now
-        (state collector counts (stores header.entry body.entry marks.entry)) }
+        (state collector counts (stores header.old body.old marks.old)) }
 {
     let reply = collector.taken(counts, group, header, body, marks);
     let answer = reply.answer;
@@ -90,8 +91,8 @@ fn drop_counted(
     body: &[u8],
     marks: &mut [u8],
 ) -> CountedAnswer
-    ensures { answered result.answered result.counts (stores header.entry body.entry marks.exit)
-        ≡ drop_number number (state collector counts (stores header.entry body.entry marks.entry)) }
+    ensures { answered result.answered result.counts (stores header.now body.now marks.new)
+        ≡ drop_number number (state collector counts (stores header.now body.now marks.old)) }
 {
     let reply = collector.dropped(counts, number, header, body, marks);
     let answer = reply.answer;
@@ -110,8 +111,8 @@ pub fn open(
     body: &[u8],
     marks: &mut [u8],
 ) -> Begun
-    ensures { begun result counts.new (stores header.entry body.entry marks.exit)
-        ≡ open_with (start limit count counts.old (stores header.entry body.entry marks.entry)) }
+    ensures { begun result counts.new (stores header.now body.now marks.new)
+        ≡ open_with (start limit count counts.old (stores header.now body.now marks.old)) }
 {
     let opened = open_counted(limit, count, *counts, header, body, marks);
     *counts = opened.counts;
@@ -127,9 +128,9 @@ pub fn take(
     body: &mut [u8],
     marks: &mut [u8],
 ) -> Answered
-    ensures { answered result counts.new (stores header.exit body.exit marks.exit)
+    ensures { answered result counts.new (stores header.new body.new marks.new)
         ≡ take_group group.now
-        (state collector counts.old (stores header.entry body.entry marks.entry)) }
+        (state collector counts.old (stores header.old body.old marks.old)) }
 {
     let taken = take_counted(collector, *counts, group, header, body, marks);
     *counts = taken.counts;
@@ -145,9 +146,9 @@ pub fn drop(
     body: &[u8],
     marks: &mut [u8],
 ) -> Answered
-    ensures { answered result counts.new (stores header.entry body.entry marks.exit)
+    ensures { answered result counts.new (stores header.now body.now marks.new)
         ≡ drop_number number
-        (state collector counts.old (stores header.entry body.entry marks.entry)) }
+        (state collector counts.old (stores header.now body.now marks.old)) }
 {
     let dropped = drop_counted(collector, *counts, number, header, body, marks);
     *counts = dropped.counts;
@@ -163,8 +164,8 @@ pub fn opened(
     body: &[u8],
     marks: &mut [u8],
 ) -> CountedOpening
-    ensures { begun result.begun result.counts (stores header.entry body.entry marks.exit)
-        ≡ open_with (start limit count counts (stores header.entry body.entry marks.entry)) }
+    ensures { begun result.begun result.counts (stores header.now body.now marks.new)
+        ≡ open_with (start limit count counts (stores header.now body.now marks.old)) }
 {
     let mut kept = counts;
     let begun = open(limit, count, &mut kept, header, body, marks);
@@ -183,9 +184,9 @@ pub fn taken(
     body: &mut [u8],
     marks: &mut [u8],
 ) -> CountedAnswer
-    ensures { answered result.answered result.counts (stores header.exit body.exit marks.exit)
+    ensures { answered result.answered result.counts (stores header.new body.new marks.new)
         ≡ take_group group.now
-        (state collector counts (stores header.entry body.entry marks.entry)) }
+        (state collector counts (stores header.old body.old marks.old)) }
 {
     let mut kept = counts;
     let answered = take(collector, &mut kept, group, header, body, marks);
@@ -204,8 +205,8 @@ pub fn dropped(
     body: &[u8],
     marks: &mut [u8],
 ) -> CountedAnswer
-    ensures { answered result.answered result.counts (stores header.entry body.entry marks.exit)
-        ≡ drop_number number (state collector counts (stores header.entry body.entry marks.entry)) }
+    ensures { answered result.answered result.counts (stores header.now body.now marks.new)
+        ≡ drop_number number (state collector counts (stores header.now body.now marks.old)) }
 {
     let mut kept = counts;
     let answered = drop(collector, &mut kept, number, header, body, marks);

@@ -1,12 +1,9 @@
 -- `layout::all_readable` meets its contract: the slots that are not looked at yet decide.
 -- Assumes nothing.
-use borrow.Author.Tests.{not-true, not-false}
 use mathlib.Core.Path.{◌≡◌, refl, sym, ◌∙◌}
-use Prim.Native.Nat.{◌+◌, ◌-◌, ◌*◌, ◌≤◌}
+use Prim.Native.Nat.{◌-◌}
 use native.Mathlib.Omega.{arith}
-use Rattle.layout.specs.Layout.{readable_from}
 use Rattle.layout.specs.laws.Layout.{readable-none, readable-more}
-use borrow.Author.Rules.{rules}
 use Rattle.layout.proofs.all_readable.Goals as goal
 
 pub loop-i-init : goal.loop-i-init

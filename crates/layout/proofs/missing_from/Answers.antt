@@ -1,7 +1,6 @@
 -- `layout::missing_from` meets its contract.
 -- Assumes nothing.
 use borrow.Author.Tests.{lt-ltb, le-ltb}
-use borrow.Author.Rules.{rules}
 use Rattle.layout.proofs.missing_from.Goals as goal
 
 pub returns-then-word-lt4294967296 : goal.returns-then-word-lt4294967296

@@ -1,7 +1,6 @@
 -- `layout::number_from` meets its contract.
 -- Assumes nothing.
 use borrow.Author.Tests.{lt-ltb, le-ltb}
-use borrow.Author.Rules.{rules}
 use Rattle.layout.proofs.number_from.Goals as goal
 
 pub returns-then-word-lt65536 : goal.returns-then-word-lt65536

@@ -4,7 +4,6 @@ use mathlib.Core.Path.{refl, ◌∙◌}
 use lib.ListN.{length-set}
 use Rattle.layout.specs.Layout.{words_of}
 use Rattle.layout.specs.laws.Layout.{two-put}
-use borrow.Author.Rules.{rules}
 use Rattle.layout.proofs.put_collector.Goals as goal
 
 pub shape_of-words : goal.shape_of-words

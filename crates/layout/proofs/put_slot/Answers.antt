@@ -4,7 +4,6 @@ use mathlib.Core.Path.{ap, sym, ◌∙◌}
 use lib.ListN.{length}
 use Rattle.layout.specs.Layout.{stage_tag, header_word, body_word}
 use Rattle.layout.specs.laws.Layout.{eleven-put}
-use borrow.Author.Rules.{rules}
 use Rattle.layout.proofs.put_slot.Goals as goal
 
 pub returns : goal.returns

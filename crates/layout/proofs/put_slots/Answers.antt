@@ -3,13 +3,10 @@
 use lib.Seq.{take-length}
 use Rattle.slots.specs.Stores.{free_slot}
 use mathlib.Core.Path.{◌≡◌, refl, sym, ◌∙◌}
-use mathlib.Core.List.{◌++◌}
-use Prim.Native.Nat.{◌+◌, ◌-◌, ◌*◌, ◌≤◌}
+use Prim.Native.Nat.{◌+◌}
 use native.Mathlib.Omega.{arith}
-use lib.ListN.{length, take, drop}
-use Rattle.layout.specs.Layout.{slots_words}
+use lib.ListN.{length}
 use Rattle.layout.specs.laws.Layout.{put-length, put-turn, put-end}
-use borrow.Author.Rules.{rules}
 use Rattle.layout.proofs.put_slots.Goals as goal
 
 pub loop-i-init : goal.loop-i-init
@@ -25,7 +22,7 @@ loop-i-preserved c =
       put-length c.loop-i.words c.loop-i.at (c.loop-i.at + 11) c.put_slot.new.words (omega arith)
           (omega arith) ∙ c.loop-i.invariant.2,
       c.loop-i.invariant.3 ∙ rw c.put_slot.ensures
-          (put-turn c.loop-i.words a.t2 c.loop-i.i c.loop-i.at free_slot (omega arith) (omega arith)),
+          (put-turn c.loop-i.words a.slots c.loop-i.i c.loop-i.at free_slot (omega arith) (omega arith)),
     )
 
 pub returns : goal.returns
@@ -35,4 +32,4 @@ returns c =
     let e : k.at ≡ length k.words = omega arith in
     let n : k.i ≡ 16 = omega arith in
     sym (k.invariant.3 ∙ rw (e, take-length, n)
-    (put-end k.words a.t2 c.well-formed.1.0.1.0.1))
+    (put-end k.words a.slots (omega arith)))

@@ -1,15 +1,10 @@
 -- `layout::put_slots` meets its contract: the words that are put and those of the slots to come are all words.
 -- Assumes nothing.
-use lib.Seq.{take-length}
-use Rattle.slots.specs.Stores.{free_slot}
-use mathlib.Core.Path.{◌≡◌, refl, sym, ◌∙◌}
+use mathlib.Core.Path.{◌≡◌}
 use mathlib.Core.List.{◌++◌}
 use Prim.Native.Nat.{◌+◌, ◌-◌, ◌*◌, ◌≤◌}
-use native.Mathlib.Omega.{arith}
 use lib.ListN.{length, take, drop}
 use Rattle.layout.specs.Layout.{slots_words}
-use Rattle.layout.specs.laws.Layout.{put-length, put-turn, put-end}
-use borrow.Author.Rules.{rules}
 use Rattle.layout.proofs.put_slots.Given as goal
 
 abbrev pub invariant-loop-i : goal.invariant-loop-i

@@ -3,7 +3,6 @@
 use mathlib.Core.Path.{refl}
 use borrow.Author.Tests.{eq-eqb, ne_eqb, le-leb, lt-leb}
 use Rattle.layout.specs.Layout.{readable}
-use borrow.Author.Rules.{rules}
 use Rattle.layout.proofs.readable.Goals as goal
 
 pub returns-then-words-ne-STATE : goal.returns-then-words-ne-STATE

@@ -2,7 +2,6 @@
 -- Assumes nothing.
 use mathlib.Core.Path.{refl}
 use Rattle.layout.specs.Layout.{record_at}
-use borrow.Author.Rules.{rules}
 use Rattle.layout.proofs.record_at.Goals as goal
 
 pub returns : goal.returns

@@ -2,7 +2,6 @@
 -- Assumes nothing.
 use Rattle.layout.specs.Layout.{slot_readable}
 use borrow.Author.Tests.{lt-ltb, le-ltb, eq-eqb, ne_eqb, le-leb, lt-leb}
-use borrow.Author.Rules.{rules}
 use Rattle.layout.proofs.slot_readable.Goals as goal
 
 pub returns-then-tag-eq0 : goal.returns-then-tag-eq0

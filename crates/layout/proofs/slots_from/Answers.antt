@@ -2,13 +2,12 @@
 -- Assumes nothing.
 use lib.Seq.{take-length}
 use mathlib.Core.Path.{◌≡◌, refl, sym, ◌∙◌}
-use mathlib.Core.List.{◌++◌, append-nil}
-use Prim.Native.Nat.{◌+◌, ◌-◌, ◌*◌, ◌≤◌}
+use mathlib.Core.List.{append-nil}
+use Prim.Native.Nat.{◌-◌}
 use native.Mathlib.Omega.{arith}
-use lib.ListN.{length, take, length-set}
+use lib.ListN.{length, length-set}
 use Rattle.layout.specs.Layout.{slots_from}
 use Rattle.layout.specs.laws.Layout.{from-turn}
-use borrow.Author.Rules.{rules}
 use Rattle.layout.proofs.slots_from.Goals as goal
 
 pub loop-i-init : goal.loop-i-init

@@ -1,14 +1,10 @@
 -- `layout::slots_from` meets its contract: the slots that are filled and those that are to come are all slots.
 -- Assumes nothing.
-use lib.Seq.{take-length}
-use mathlib.Core.Path.{◌≡◌, refl, sym, ◌∙◌}
-use mathlib.Core.List.{◌++◌, append-nil}
+use mathlib.Core.Path.{◌≡◌}
+use mathlib.Core.List.{◌++◌}
 use Prim.Native.Nat.{◌+◌, ◌-◌, ◌*◌, ◌≤◌}
-use native.Mathlib.Omega.{arith}
-use lib.ListN.{length, take, length-set}
+use lib.ListN.{length, take}
 use Rattle.layout.specs.Layout.{slots_from}
-use Rattle.layout.specs.laws.Layout.{from-turn}
-use borrow.Author.Rules.{rules}
 use Rattle.layout.proofs.slots_from.Given as goal
 
 abbrev pub invariant-loop-i : goal.invariant-loop-i

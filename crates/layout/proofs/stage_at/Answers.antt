@@ -1,7 +1,6 @@
 -- `layout::stage_at` meets its contract.
 -- Assumes nothing.
 use Rattle.layout.specs.Layout.{stage_at}
-use borrow.Author.Rules.{rules}
 use Rattle.layout.proofs.stage_at.Goals as goal
 
 pub returns : goal.returns
