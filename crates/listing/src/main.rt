@@ -6,7 +6,7 @@
 #![tactic(auto)]
 
 ghost use Rattle.std.specs.Prelude.{◌≡◌, ◌≤◌, length, take};
-ghost use Rattle.collector.specs.State.{stores};
+ghost use Rattle.slots.specs.Stores.{stores};
 ghost use Rattle.listing.specs.Listed.{leaving, served, next_of, Reads};
 ghost use Rattle.listing.specs.Listed.{listed_as, line_listed, input_listed, end_listed};
 

@@ -1,7 +1,7 @@
 -- `listing::list_all` meets its contract: what the reads so far brought, one behind the other, made what is carried.
 -- The turns count down. Assumes nothing.
 use Rattle.listing.specs.Listed.{listed_as, Reads}
-use Rattle.collector.specs.State.{stores}
+use Rattle.slots.specs.Stores.{stores}
 use Rattle.listing.proofs.list_all.Given as goal
 
 abbrev pub invariant-loop-turns : goal.invariant-loop-turns

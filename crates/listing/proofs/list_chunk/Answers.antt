@@ -9,7 +9,7 @@ use Rattle.listing_input.specs.declared.Gathered.{Gathered}
 use Rattle.listing_input.specs.Gather.{gathered}
 use Rattle.listing_input.specs.laws.Chunks.{further}
 use Rattle.listing.specs.Listed.{Listed, listed_as, input_listed}
-use Rattle.collector.specs.State.{stores}
+use Rattle.slots.specs.Stores.{stores}
 use Rattle.listing.specs.laws.Listed.{input_none, turn-ended, turn-kept}
 use Rattle.listing.proofs.list_chunk.Goals as goal
 

@@ -4,7 +4,7 @@ use mathlib.Core.Path.{◌≡◌}
 use Prim.Native.Nat.{◌-◌}
 use lib.ListN.{length, drop}
 use Rattle.listing.specs.Listed.{listed_as, input_listed}
-use Rattle.collector.specs.State.{stores}
+use Rattle.slots.specs.Stores.{stores}
 use Rattle.listing.proofs.list_chunk.Given as goal
 
 abbrev pub invariant-loop-from : goal.invariant-loop-from

@@ -1,7 +1,7 @@
 -- `listing::list_end` meets its contract.
 -- Assumes nothing.
 use mathlib.Core.Path.{sym, ◌∙◌}
-use Rattle.collector.specs.State.{stores}
+use Rattle.slots.specs.Stores.{stores}
 use Rattle.listing.specs.Listed.{listed_as}
 use Rattle.listing.specs.laws.Listed.{end-some, end_none}
 use Rattle.listing.proofs.list_end.Goals as goal

@@ -1,6 +1,6 @@
 -- `listing::list_kept` meets its contract.
 -- Assumes nothing.
-use Rattle.collector.specs.State.{stores}
+use Rattle.slots.specs.Stores.{stores}
 use Rattle.listing.specs.Listed.{listed_as}
 use Rattle.listing.specs.laws.Listed.{line-listed}
 use Rattle.listing.proofs.list_kept.Goals as goal

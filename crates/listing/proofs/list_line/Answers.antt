@@ -1,7 +1,7 @@
 -- `listing::list_line` meets its contract: what was asked for is what the reader told, case by case.
 -- Assumes nothing.
 use mathlib.Core.Path.{sym, ◌∙◌}
-use Rattle.collector.specs.State.{stores}
+use Rattle.slots.specs.Stores.{stores}
 use Rattle.lent_calls.specs.Lent.{answered}
 use Rattle.listing.proofs.Served.{served-group, served-drop, served-malformed}
 use Rattle.listing.proofs.list_line.Goals as goal
