@@ -1,8 +1,8 @@
-//! Links the proved functions from the archive that `rt staticlib comparison` writes.
+//! Links the proved functions from the archive that `rt lib` writes in crate `comparison`.
 
 fn main() {
-    let here = std::env::var("CARGO_MANIFEST_DIR").unwrap();
-    println!("cargo:rustc-link-search=native={here}/../target/staticlib");
+    let folder = std::env::var("CARGO_MANIFEST_DIR").unwrap() + "/../crates/comparison/out";
+    println!("cargo:rustc-link-search=native={folder}");
     println!("cargo:rustc-link-lib=static=comparison");
-    println!("cargo:rerun-if-changed=../target/staticlib/libcomparison.a");
+    println!("cargo:rerun-if-changed={folder}/libcomparison.a");
 }

@@ -45,8 +45,8 @@
  *   that is not finished, and all of slots past the number of slots) may be written anew with
  *   STORED, COMPLETE and DROPPED, and by an opening.
  *
- * Link with target/staticlib/libyovtirak.a, which `rt staticlib yovtirak` writes: code for x86-64
- * and its System V calls. Of other libraries it needs `memcpy` and `memset`, and nothing else.
+ * Link with crates/yovtirak/out/libyovtirak.a, which `rt lib` writes there: code for x86-64 and
+ * its System V calls. Of other libraries it needs `memcpy` and `memset`, and nothing else.
  */
 #ifndef YOVTIRAK_H
 #define YOVTIRAK_H

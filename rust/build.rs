@@ -1,8 +1,8 @@
-//! Links the archive that `rt staticlib yovtirak` writes.
+//! Links the archive that `rt lib` writes in crate `yovtirak`.
 
 fn main() {
-    let here = std::env::var("CARGO_MANIFEST_DIR").unwrap();
-    println!("cargo:rustc-link-search=native={here}/../target/staticlib");
+    let folder = std::env::var("CARGO_MANIFEST_DIR").unwrap() + "/../crates/yovtirak/out";
+    println!("cargo:rustc-link-search=native={folder}");
     println!("cargo:rustc-link-lib=static=yovtirak");
-    println!("cargo:rerun-if-changed=../target/staticlib/libyovtirak.a");
+    println!("cargo:rerun-if-changed={folder}/libyovtirak.a");
 }

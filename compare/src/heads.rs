@@ -70,8 +70,7 @@ impl Head {
 
     /// A head with these words.
     fn command(&self, words: &[&Path]) -> Command {
-        let mut command = Command::new(self.top.join("machine"));
-        command.arg("run").arg(self.top.join("target/head"));
+        let mut command = Command::new(self.top.join("target/head"));
         command.args(words);
         command.stdout(Stdio::piped()).stderr(Stdio::piped());
         command

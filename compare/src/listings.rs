@@ -16,14 +16,12 @@ const LINES: usize = 80;
 /// What the proved program writes for this input.
 fn proved(input: &[u8]) -> Result<Vec<u8>, String> {
     let top = PathBuf::from(env!("CARGO_MANIFEST_DIR")).join("..");
-    let machine = top.join("machine");
-    let mut child = Command::new(&machine)
-        .arg("run")
-        .arg(top.join("target/bin/listing"))
+    let program = top.join("crates/listing/out/listing");
+    let mut child = Command::new(&program)
         .stdin(Stdio::piped())
         .stdout(Stdio::piped())
         .spawn()
-        .map_err(|error| format!("{}: {error}", machine.display()))?;
+        .map_err(|error| format!("{}: {error}", program.display()))?;
     let mut stdin = child.stdin.take().expect("standard input is piped");
     let input = input.to_vec();
     let writer = thread::spawn(move || stdin.write_all(&input));

@@ -153,171 +153,175 @@ fn verdict_of(limit: usize, core: Core, header: Piece, first: Piece, second: Pie
     )
 }
 
-fn say_number(name: &[u8], number: usize) {
-    io::write_all(1, name);
-    io::print_decimal(1, number as u64);
+// Where a text can't be written the cases go on.
+fn say(output: &impl Print, text: &str) {
+    let _ = output.print(text);
 }
 
-fn say_piece(part: &[u8], piece: Piece) {
+fn say_number(output: &impl Print, name: &str, number: usize) {
+    let _ = print!(output; "{name}{number}");
+}
+
+fn say_piece(output: &impl Print, part: &str, piece: Piece) {
     if !is_there(piece) {
         return;
     }
-    say_number(part, piece.number);
+    say_number(output, part, piece.number);
     if piece.last {
-        io::write_all(1, b", last");
+        say(output, ", last");
     } else {
-        io::write_all(1, b", not last");
+        say(output, ", not last");
     }
-    say_number(b", length ", piece.length);
+    say_number(output, ", length ", piece.length);
 }
 
-fn say_core(core: Core) {
+fn say_core(output: &impl Print, core: Core) {
     if let Core::Seen { body, header } = core {
-        say_number(b", HeaderSize ", header);
-        say_number(b", BodySize ", body);
+        say_number(output, ", HeaderSize ", header);
+        say_number(output, ", BodySize ", body);
     }
 }
 
-fn say_verdict(verdict: Verdict) {
+fn say_verdict(output: &impl Print, verdict: Verdict) {
     match verdict {
-        Verdict::Conflicts => io::write_all(1, b": conflicts\n"),
-        Verdict::Completes => io::write_all(1, b": completes\n"),
-        Verdict::Fits => io::write_all(1, b": fits\n"),
+        Verdict::Conflicts => say(output, ": conflicts\n"),
+        Verdict::Completes => say(output, ": completes\n"),
+        Verdict::Fits => say(output, ": fits\n"),
     };
 }
 
 // A header segment, what it says if it is number 0, and two body segments, the second one new.
-fn case(limit: usize, core: Core, header: Piece, first: Piece, second: Piece) {
-    say_number(b"limit ", limit);
-    say_piece(b"; header ", header);
-    say_core(core);
-    say_piece(b"; body ", first);
-    say_piece(b"; body ", second);
-    say_verdict(verdict_of(limit, core, header, first, second));
+fn case(output: &impl Print, limit: usize, core: Core, header: Piece, first: Piece, second: Piece) {
+    say_number(output, "limit ", limit);
+    say_piece(output, "; header ", header);
+    say_core(output, core);
+    say_piece(output, "; body ", first);
+    say_piece(output, "; body ", second);
+    say_verdict(output, verdict_of(limit, core, header, first, second));
 }
 
-fn header_alone(header: Piece) {
-    case(LIMIT, Core::Unseen, header, none(), none());
+fn header_alone(output: &impl Print, header: Piece) {
+    case(output, LIMIT, Core::Unseen, header, none(), none());
 }
 
-fn header_first(header: Piece, size: usize) {
-    case(LIMIT, says(size, 0), header, none(), none());
+fn header_first(output: &impl Print, header: Piece, size: usize) {
+    case(output, LIMIT, says(size, 0), header, none(), none());
 }
 
-fn body_alone(limit: usize, body: Piece) {
-    case(limit, Core::Unseen, none(), body, none());
+fn body_alone(output: &impl Print, limit: usize, body: Piece) {
+    case(output, limit, Core::Unseen, none(), body, none());
 }
 
 // A whole header of 7 bytes that says BodySize, and body segments.
-fn sized(limit: usize, size: usize, first: Piece, second: Piece) {
-    case(limit, says(7, size), last(0, 7), first, second);
+fn sized(output: &impl Print, limit: usize, size: usize, first: Piece, second: Piece) {
+    case(output, limit, says(7, size), last(0, 7), first, second);
 }
 
-fn pair(first: Piece, second: Piece) {
-    case(LIMIT, Core::Unseen, none(), first, second);
+fn pair(output: &impl Print, first: Piece, second: Piece) {
+    case(output, LIMIT, Core::Unseen, none(), first, second);
 }
 
-fn cases_of_document_01() {
-    sized(LIMIT, 20, none(), none());
-    sized(LIMIT, 0, none(), none());
-    sized(LIMIT, 100, last(3, 10), none());
-    sized(LIMIT, 99, last(3, 10), none());
-    sized(LIMIT, 40, last(3, 10), none());
-    sized(LIMIT, 58, last(3, 10), none());
-    sized(LIMIT, 68, last(3, 20), none());
-    sized(LIMIT, 32, full(0, 16), full(1, 16));
-    sized(LIMIT, 32, full(0, 16), last(1, 16));
-    header_first(full(0, 16), 16);
-    header_first(full(0, 16), 17);
-    header_alone(last(63, 16));
-    header_alone(last(63, 17));
-    header_alone(last(0, 6));
+fn cases_of_document_01(output: &impl Print) {
+    sized(output, LIMIT, 20, none(), none());
+    sized(output, LIMIT, 0, none(), none());
+    sized(output, LIMIT, 100, last(3, 10), none());
+    sized(output, LIMIT, 99, last(3, 10), none());
+    sized(output, LIMIT, 40, last(3, 10), none());
+    sized(output, LIMIT, 58, last(3, 10), none());
+    sized(output, LIMIT, 68, last(3, 20), none());
+    sized(output, LIMIT, 32, full(0, 16), full(1, 16));
+    sized(output, LIMIT, 32, full(0, 16), last(1, 16));
+    header_first(output, full(0, 16), 16);
+    header_first(output, full(0, 16), 17);
+    header_alone(output, last(63, 16));
+    header_alone(output, last(63, 17));
+    header_alone(output, last(0, 6));
 }
 
 // A header's numbers and lengths, and the body size that it says.
-fn cases_of_headers() {
-    header_alone(last(64, 7));
-    header_alone(full(62, 16));
-    header_alone(full(63, 16));
-    header_first(last(0, 1024), 1024);
-    header_first(last(0, 1025), 1025);
-    sized(1024, 1024, none(), none());
-    sized(1024, 1025, none(), none());
-    sized(LIMIT, LIMIT, none(), none());
-    sized(LIMIT, LIMIT + 1, none(), none());
-    sized(MOST, MOST, none(), none());
-    sized(MOST, MOST + 1, none(), none());
+fn cases_of_headers(output: &impl Print) {
+    header_alone(output, last(64, 7));
+    header_alone(output, full(62, 16));
+    header_alone(output, full(63, 16));
+    header_first(output, last(0, 1024), 1024);
+    header_first(output, last(0, 1025), 1025);
+    sized(output, 1024, 1024, none(), none());
+    sized(output, 1024, 1025, none(), none());
+    sized(output, LIMIT, LIMIT, none(), none());
+    sized(output, LIMIT, LIMIT + 1, none(), none());
+    sized(output, MOST, MOST, none(), none());
+    sized(output, MOST, MOST + 1, none(), none());
 }
 
 // A body's numbers and sizes, and how far they reach.
-fn cases_of_bodies() {
-    sized(MOST, 16384, full(0, 16), none());
-    sized(MOST, 16385, full(0, 16), none());
-    body_alone(16384, last(1023, 16));
-    body_alone(16384, full(1022, 16));
-    body_alone(16384, full(1023, 16));
-    body_alone(16400, last(1024, 1));
-    body_alone(MOST, last(1023, 16));
-    body_alone(MOST, full(1023, 16));
-    body_alone(MOST, last(1024, 16));
-    body_alone(MOST, full(1024, 16));
-    sized(MOST, MOST, full(0, 8189), none());
-    sized(MOST, MOST, full(0, 8190), none());
-    sized(MOST, 8385536, full(0, 8189), none());
+fn cases_of_bodies(output: &impl Print) {
+    sized(output, MOST, 16384, full(0, 16), none());
+    sized(output, MOST, 16385, full(0, 16), none());
+    body_alone(output, 16384, last(1023, 16));
+    body_alone(output, 16384, full(1022, 16));
+    body_alone(output, 16384, full(1023, 16));
+    body_alone(output, 16400, last(1024, 1));
+    body_alone(output, MOST, last(1023, 16));
+    body_alone(output, MOST, full(1023, 16));
+    body_alone(output, MOST, last(1024, 16));
+    body_alone(output, MOST, full(1024, 16));
+    sized(output, MOST, MOST, full(0, 8189), none());
+    sized(output, MOST, MOST, full(0, 8190), none());
+    sized(output, MOST, 8385536, full(0, 8189), none());
 }
 
 // The last one alone, number n of length k: n times the greater of 16 and k, and k, at the limit and one or as little
 // as can be over.
-fn cases_of_the_last_alone() {
-    body_alone(1024, last(63, 16));
-    body_alone(1024, last(63, 17));
-    body_alone(LIMIT, last(767, 16));
-    body_alone(LIMIT, last(767, 17));
-    body_alone(LIMIT, last(768, 1));
-    body_alone(LIMIT, last(511, 24));
-    body_alone(LIMIT - 1, last(511, 24));
-    body_alone(LIMIT, last(2, 4096));
-    body_alone(LIMIT, last(2, 4097));
-    body_alone(MOST, last(1023, 1024));
-    body_alone(MOST, last(1023, 1025));
-    body_alone(MOST, last(127, 8189));
-    body_alone(MOST, last(128, 8128));
-    body_alone(MOST, last(128, 8129));
+fn cases_of_the_last_alone(output: &impl Print) {
+    body_alone(output, 1024, last(63, 16));
+    body_alone(output, 1024, last(63, 17));
+    body_alone(output, LIMIT, last(767, 16));
+    body_alone(output, LIMIT, last(767, 17));
+    body_alone(output, LIMIT, last(768, 1));
+    body_alone(output, LIMIT, last(511, 24));
+    body_alone(output, LIMIT - 1, last(511, 24));
+    body_alone(output, LIMIT, last(2, 4096));
+    body_alone(output, LIMIT, last(2, 4097));
+    body_alone(output, MOST, last(1023, 1024));
+    body_alone(output, MOST, last(1023, 1025));
+    body_alone(output, MOST, last(127, 8189));
+    body_alone(output, MOST, last(128, 8128));
+    body_alone(output, MOST, last(128, 8129));
 }
 
 // Two segments of a part: there is one last one, full ones have one length, and the last one is no longer and comes
 // after.
-fn cases_of_two_segments() {
-    pair(full(0, 16), full(1, 17));
-    pair(full(0, 17), full(1, 17));
-    pair(last(1, 16), last(2, 16));
-    pair(full(0, 16), last(1, 17));
-    pair(full(0, 17), last(1, 17));
-    pair(full(1, 16), last(1023, 16));
-    pair(full(2, 16), last(1, 16));
+fn cases_of_two_segments(output: &impl Print) {
+    pair(output, full(0, 16), full(1, 17));
+    pair(output, full(0, 17), full(1, 17));
+    pair(output, last(1, 16), last(2, 16));
+    pair(output, full(0, 16), last(1, 17));
+    pair(output, full(0, 17), last(1, 17));
+    pair(output, full(1, 16), last(1023, 16));
+    pair(output, full(2, 16), last(1, 16));
 }
 
 // The empty last segment: with BodySize 0 or before it is said, and with nothing else of the body.
-fn cases_of_the_empty_segment() {
-    body_alone(LIMIT, last(0, 0));
-    body_alone(LIMIT, last(1, 0));
-    body_alone(LIMIT, full(0, 0));
-    header_alone(last(0, 0));
-    sized(LIMIT, 0, last(0, 0), none());
-    sized(LIMIT, 1, last(0, 0), none());
-    sized(LIMIT, LIMIT, last(0, 0), none());
-    sized(MOST, MOST, last(0, 0), none());
-    pair(last(0, 0), last(1, 5));
-    pair(last(1, 5), last(0, 0));
-    pair(last(0, 0), full(1, 16));
-    pair(full(1, 16), last(0, 0));
+fn cases_of_the_empty_segment(output: &impl Print) {
+    body_alone(output, LIMIT, last(0, 0));
+    body_alone(output, LIMIT, last(1, 0));
+    body_alone(output, LIMIT, full(0, 0));
+    header_alone(output, last(0, 0));
+    sized(output, LIMIT, 0, last(0, 0), none());
+    sized(output, LIMIT, 1, last(0, 0), none());
+    sized(output, LIMIT, LIMIT, last(0, 0), none());
+    sized(output, MOST, MOST, last(0, 0), none());
+    pair(output, last(0, 0), last(1, 5));
+    pair(output, last(1, 5), last(0, 0));
+    pair(output, last(0, 0), full(1, 16));
+    pair(output, full(1, 16), last(0, 0));
 }
 
-fn main() {
-    cases_of_document_01();
-    cases_of_headers();
-    cases_of_bodies();
-    cases_of_the_last_alone();
-    cases_of_two_segments();
-    cases_of_the_empty_segment();
+fn main(rt: HostRuntime) {
+    cases_of_document_01(&rt);
+    cases_of_headers(&rt);
+    cases_of_bodies(&rt);
+    cases_of_the_last_alone(&rt);
+    cases_of_two_segments(&rt);
+    cases_of_the_empty_segment(&rt);
 }

@@ -9,10 +9,10 @@ ghost use Rattle.object.specs.Asked.{Offered};
 ghost use Rattle.slots.specs.Find.{find_in};
 ghost use Rattle.slots.specs.Show.{shown_of};
 ghost use Rattle.slots.specs.State.{sound_slots};
-ghost use Rattle.slots.specs.Stores.{Stores, slots_most, slot_at, lent_at};
+ghost use Rattle.slots.specs.Stores.{Stores, stores, slots_most, slot_at, lent_at};
 ghost use Rattle.slots.specs.Take.{Inside};
 ghost use Rattle.collector.specs.Bounds.{bounds};
-ghost use Rattle.collector.specs.State.{stores, state, reply, start, opened};
+ghost use Rattle.collector.specs.State.{state, reply, start, opened};
 ghost use Rattle.collector.specs.Calls.{answer_as, into_held, take_segment, refusal_of, take_group, drop_number, open_with, located_as, locate, show, sound, answering};
 ghost use Rattle.collector.specs.Changes.{place_of, left_by, offered_at};
 ghost use Rattle.collector.specs.Arrival.{heard_in, no_repetition, arrival};
@@ -135,11 +135,11 @@ fn take_at(
     body: &mut [u8],
     marks: &mut [u8],
 ) -> Change
-    requires inside { Inside limit i (stores header body marks) }
-    requires offered { Offered limit slot (lent_at limit i (stores header body marks)) }
-    ensures { record { change = result; stores = stores header.exit body.exit marks.exit }
+    requires inside { Inside limit i (stores header.old body.old marks.old) }
+    requires offered { Offered limit slot (lent_at limit i (stores header.old body.old marks.old)) }
+    ensures { record { change = result; stores = stores header.new body.new marks.new }
         ≡ offered_at limit i (arrival heard repetition last bytes.now) slot
-        (stores header.entry body.entry marks.entry) }
+        (stores header.old body.old marks.old) }
 {
     let part = heard.part;
     let number = heard.segment as usize;
@@ -224,8 +224,8 @@ impl Collector {
         body: &[u8],
         marks: &mut [u8],
     ) -> Opened
-        ensures { opened result (stores header.entry body.entry marks.exit)
-            ≡ open_with (start limit count counts (stores header.entry body.entry marks.entry)) }
+        ensures { opened result (stores header.now body.now marks.new)
+            ≡ open_with (start limit count counts (stores header.now body.now marks.old)) }
     {
         let free = slots::free_slot();
         if !slots::within_limits(limit, count, header.len(), body.len(), marks.len()) {
@@ -255,7 +255,7 @@ impl Collector {
 
     // Whether the state is not damaged.
     pub fn is_sound(self, counts: Counts, header: &[u8], body: &[u8], marks: &[u8]) -> bool
-        ensures { result ≡ sound (state self counts (stores header.entry body.entry marks.entry)) }
+        ensures { result ≡ sound (state self counts (stores header.now body.now marks.now)) }
     {
         let slots = self.slots;
         if !slots::sound(self.limit, self.count, slots, header, body, marks) {
@@ -273,7 +273,7 @@ impl Collector {
         body: &[u8],
         marks: &[u8],
     ) -> Located
-        ensures { result ≡ locate number (state self counts (stores header.entry body.entry marks.entry)) }
+        ensures { result ≡ locate number (state self counts (stores header.now body.now marks.now)) }
     {
         if !self.is_sound(counts, header, body, marks) {
             return Located::Denied(Reason::State);
@@ -314,7 +314,7 @@ impl Collector {
         marks: &[u8],
     ) -> &'a [u8]
         ensures { result.now ≡ show number part
-            (state self counts (stores header.entry body.entry marks.entry)) }
+            (state self counts (stores header.now body.now marks.now)) }
     {
         let Located::At(i) = self.locate(counts, number, header, body, marks) else {
             return &header[..0];
@@ -358,11 +358,11 @@ impl Collector {
         body: &mut [u8],
         marks: &mut [u8],
     ) -> Change
-        requires { sound_slots self.limit self.count self.slots (stores header body marks) ≡ true }
+        requires { sound_slots self.limit self.count self.slots (stores header.old body.old marks.old) ≡ true }
         ensures { (place_of result < slots_most) × ((counts : Counts)
-            → left_by result (state self counts (stores header.exit body.exit marks.exit))
+            → left_by result (state self counts (stores header.new body.new marks.new))
             ≡ into_held Found.Nothing (arrival heard repetition last bytes.now)
-            (state self counts (stores header.entry body.entry marks.entry))) }
+            (state self counts (stores header.old body.old marks.old))) }
     {
         let part = heard.part;
         let number = heard.segment as usize;
@@ -390,12 +390,12 @@ impl Collector {
         body: &mut [u8],
         marks: &mut [u8],
     ) -> Change
-        requires { sound_slots self.limit self.count self.slots (stores header body marks) ≡ true }
+        requires { sound_slots self.limit self.count self.slots (stores header.old body.old marks.old) ≡ true }
         ensures { (place_of result < slots_most) × ((counts : Counts)
-            → left_by result (state self counts (stores header.exit body.exit marks.exit))
+            → left_by result (state self counts (stores header.new body.new marks.new))
             ≡ into_held (find_in heard.number self.count self.slots)
             (arrival heard repetition last bytes.now)
-            (state self counts (stores header.entry body.entry marks.entry))) }
+            (state self counts (stores header.old body.old marks.old))) }
     {
         let slots = self.slots;
         let Found::At(i) = slots::find(heard.number, self.count, slots) else {
@@ -419,9 +419,9 @@ impl Collector {
         body: &mut [u8],
         marks: &mut [u8],
     ) -> Reply
-        ensures { reply result (stores header.exit body.exit marks.exit)
+        ensures { reply result (stores header.new body.new marks.new)
             ≡ take_segment (arrival heard no_repetition last bytes.now)
-            (state self counts (stores header.entry body.entry marks.entry)) }
+            (state self counts (stores header.old body.old marks.old)) }
     {
         if !self.is_sound(counts, header, body, marks) {
             return self.answered(counts, Answer::Denied(Reason::State));
@@ -445,9 +445,9 @@ impl Collector {
         marks: &mut [u8],
     ) -> Change
         ensures { (place_of result < slots_most)
-            × (left_by result (state self counts (stores header.exit body.exit marks.exit))
+            × (left_by result (state self counts (stores header.new body.new marks.new))
             ≡ take_group group.now
-            (state self counts (stores header.entry body.entry marks.entry))) }
+            (state self counts (stores header.old body.old marks.old))) }
     {
         if !self.is_sound(counts, header, body, marks) {
             return Change::Nothing(Answer::Denied(Reason::State));
@@ -479,9 +479,9 @@ impl Collector {
         body: &mut [u8],
         marks: &mut [u8],
     ) -> Reply
-        ensures { reply result (stores header.exit body.exit marks.exit)
+        ensures { reply result (stores header.new body.new marks.new)
             ≡ take_group group.now
-            (state self counts (stores header.entry body.entry marks.entry)) }
+            (state self counts (stores header.old body.old marks.old)) }
     {
         let change = self.take_group(counts, group, header, body, marks);
         self.changed(counts, change)
@@ -496,8 +496,8 @@ impl Collector {
         body: &[u8],
         marks: &mut [u8],
     ) -> Reply
-        ensures { reply result (stores header.entry body.entry marks.exit)
-            ≡ drop_number number (state self counts (stores header.entry body.entry marks.entry)) }
+        ensures { reply result (stores header.now body.now marks.new)
+            ≡ drop_number number (state self counts (stores header.now body.now marks.old)) }
     {
         if !self.is_sound(counts, header, body, marks) {
             return self.answered(counts, Answer::Denied(Reason::State));

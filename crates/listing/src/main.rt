@@ -13,8 +13,8 @@ use answer::Answer;
 use collector::Collector;
 use counts::Counts;
 use lent_calls::CountedAnswer;
-use libc::{STDIN_FILENO, STDOUT_FILENO};
 use listing_input::Line;
+use std::io::Read;
 
 // What the collector is opened with.
 const SLOTS: usize = 2;
@@ -70,24 +70,24 @@ fn front(memory: &[u8], count: usize) -> &[u8]
     &memory[..count]
 }
 
-// The first bytes of a line that was laid out.
-fn write(out: &[u8; 128], count: usize) {
-    io::write_all(STDOUT_FILENO, front(out, count));
+// The first bytes of a line that was laid out. Where they can't be written the listing goes on.
+fn write(output: &impl Print, out: &[u8; 128], count: usize) {
+    let _ = output.write_all(front(out, count));
 }
 
-fn say(line: u64, answer: Answer) {
+fn say(output: &impl Print, line: u64, answer: Answer) {
     let mut out = [0u8; 128];
     let count = listing_output::write_answer(line, answer, &mut out);
-    write(&out, count);
+    write(output, &out, count);
 }
 
-fn say_malformed(line: u64) {
+fn say_malformed(output: &impl Print, line: u64) {
     let mut out = [0u8; 128];
     let count = listing_output::write_malformed(line, &mut out);
-    write(&out, count);
+    write(output, &out, count);
 }
 
-fn say_counts(held: Held) {
+fn say_counts(output: &impl Print, held: Held) {
     let mut out = [0u8; 128];
     let counts = held.counts;
     let count = listing_output::write_counts(
@@ -98,23 +98,24 @@ fn say_counts(held: Held) {
         counts.dropped,
         &mut out,
     );
-    write(&out, count);
+    write(output, &out, count);
 }
 
 // The answer is written, and what is held from then on handed back.
-fn say_done(line: u64, done: CountedAnswer) -> Held
+fn say_done(output: &impl Print, line: u64, done: CountedAnswer) -> Held
     ensures { result ≡ record { collector = done.answered.collector; counts = done.counts } }
 {
     let counts = done.counts;
     let answered = done.answered;
     let answer = answered.answer;
-    say(line, answer);
+    say(output, line, answer);
     let collector = answered.collector;
     Held { collector, counts }
 }
 
 // One line: what it asks for is done, and the answer written.
 fn list_line(
+    output: &impl Print,
     line: &[u8],
     group: &mut [u8; listing_input::GROUP_MOST],
     header: &mut [u8; HEADER_STORE],
@@ -138,14 +139,14 @@ fn list_line(
                 body,
                 marks,
             );
-            say_done(number, done)
+            say_done(output, number, done)
         }
         Line::Drop(transport) => {
             let done = lent_calls::dropped(collector, counts, transport, header, body, marks);
-            say_done(number, done)
+            say_done(output, number, done)
         }
         Line::Malformed => {
-            say_malformed(number);
+            say_malformed(output, number);
             held
         }
     }
@@ -153,6 +154,7 @@ fn list_line(
 
 // The line that is kept, which a newline or the input's end has ended.
 fn list_kept(
+    output: &impl Print,
     line: &[u8; listing_input::LINE_ROOM],
     group: &mut [u8; listing_input::GROUP_MOST],
     header: &mut [u8; HEADER_STORE],
@@ -169,6 +171,7 @@ fn list_kept(
     let kept = listing.kept;
     let before = listing.held;
     let held = list_line(
+        output,
         front(line, kept),
         group,
         header,
@@ -186,6 +189,7 @@ fn list_kept(
 
 // The lines that a chunk of the input ends, and the start of the next one.
 fn list_chunk(
+    output: &impl Print,
     chunk: &[u8],
     line: &mut [u8; listing_input::LINE_ROOM],
     group: &mut [u8; listing_input::GROUP_MOST],
@@ -207,14 +211,16 @@ fn list_chunk(
         from = gathered.next;
         now.kept = gathered.kept;
         if gathered.whole {
-            now = list_kept(line, group, header, body, marks, now);
+            now = list_kept(output, line, group, header, body, marks, now);
         }
     }
     now
 }
 
-// Reads once, and lists what came.
+// Reads once, and lists what came: nothing at the input's end, or where the read fails.
 fn list_some(
+    input: &mut impl Read,
+    output: &impl Print,
     chunk: &mut [u8; 65536],
     line: &mut [u8; listing_input::LINE_ROOM],
     group: &mut [u8; listing_input::GROUP_MOST],
@@ -230,10 +236,10 @@ fn list_some(
         (listed_as listing line.old group.old
         (stores header.entry body.entry marks.entry)) }
 {
-    let got = libc::read(STDIN_FILENO, chunk);
-    let count = io::count(got, chunk);
+    let count = input.read(chunk).unwrap_or(0);
     Went {
         listing: list_chunk(
+            output,
             front(chunk, count),
             line,
             group,
@@ -249,6 +255,8 @@ fn list_some(
 // Lists to the input's end. A proved loop has to end, and nothing says that the input does: the
 // turns count down from a number that no run uses up.
 fn list_all(
+    input: &mut impl Read,
+    output: &impl Print,
     line: &mut [u8; listing_input::LINE_ROOM],
     group: &mut [u8; listing_input::GROUP_MOST],
     header: &mut [u8; HEADER_STORE],
@@ -260,11 +268,11 @@ fn list_all(
         (stores header.entry body.entry marks.entry))
         (listed_as result line.new group.new (stores header.exit body.exit marks.exit)) }
 {
-    let mut chunk = io::large_buffer();
+    let mut chunk = [0u8; 65536];
     let mut now = listing;
     let mut turns = u64::MAX;
     while 0 < turns {
-        let went = list_some(&mut chunk, line, group, header, body, marks, now);
+        let went = list_some(input, output, &mut chunk, line, group, header, body, marks, now);
         now = went.listing;
         if went.count == 0 {
             return now;
@@ -276,6 +284,7 @@ fn list_all(
 
 // The input's end ends a line of which there are characters.
 fn list_end(
+    output: &impl Print,
     line: &[u8; listing_input::LINE_ROOM],
     group: &mut [u8; listing_input::GROUP_MOST],
     header: &mut [u8; HEADER_STORE],
@@ -289,12 +298,12 @@ fn list_end(
         (stores header.entry body.entry marks.entry)) }
 {
     if 0 < listing.kept {
-        return list_kept(line, group, header, body, marks, listing);
+        return list_kept(output, line, group, header, body, marks, listing);
     }
     listing
 }
 
-fn main() {
+fn main(rt: HostRuntime) {
     let mut line = [0u8; listing_input::LINE_ROOM];
     let mut group = [0u8; listing_input::GROUP_MOST];
     let mut header = [0u8; HEADER_STORE];
@@ -310,6 +319,8 @@ fn main() {
         held: Held { collector, counts },
     };
     let listed = list_all(
+        &mut rt.stdin(),
+        &rt,
         &mut line,
         &mut group,
         &mut header,
@@ -318,6 +329,7 @@ fn main() {
         start,
     );
     let ended = list_end(
+        &rt,
         &line,
         &mut group,
         &mut header,
@@ -326,5 +338,5 @@ fn main() {
         listed,
     );
     let held = ended.held;
-    say_counts(held);
+    say_counts(&rt, held);
 }

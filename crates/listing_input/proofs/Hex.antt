@@ -45,5 +45,5 @@ byte_at (high ∷ low ∷ text) (suc i) h =
     let two : suc i * 2 ≡ suc (suc (i * 2)) = omega arith in
     let three : suc i * 2 + 1 ≡ suc (suc (i * 2 + 1)) = omega arith in
     byte_at text i (omega arith)
-    ∙ ap₂ (λ (a b : ℕ). digit_of (get_or (high ∷ low ∷ text) a 0) * 16 + digit_of (get_or (high ∷ low ∷ text) b 0)) (sym two)
-    (sym three)
+    ∙ ap₂ (λ (a b : ℕ). digit_of (get_or (high ∷ low ∷ text) a 0) * 16 + digit_of (get_or (high ∷ low ∷ text) b 0))
+    (sym two) (sym three)

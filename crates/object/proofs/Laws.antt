@@ -61,6 +61,8 @@ some-largest marks h = go (ℕ_discrete (largest_of marks) 1)
   where
     go : Dec (largest_of marks ≡ 1) → eqb (largest_of marks) 1 ≡ leb 1 (sum_of marks)
     go (yes d) = rw (eq-eqb (largest_of marks) 1 d, le-leb 1 (sum_of marks) (omega (arith, largest-sum marks, d))) refl
-    go (no d) = rw
-        (ne_eqb (largest_of marks) 1 d, lt-leb 1 (sum_of marks) (omega (arith, largest-none marks (omega (arith, h, d)))))
+    go (no d) = rw (
+      ne_eqb (largest_of marks) 1 d,
+      lt-leb 1 (sum_of marks) (omega (arith, largest-none marks (omega (arith, h, d)))),
+    )
         refl

@@ -20,7 +20,8 @@ module _ (group : List ℕ) (part : Part) where
   unfolding session_of
   no-segment e = rw (eq-eqb (segment_flag group) 0 e)
 
-  pub no_access : segment_flag group ≢ 0 → user_access_flag group ≡ 0 → Refused Refusal.NoSegment ≡ session_of group part
+  pub no_access : segment_flag group ≢ 0 → user_access_flag group ≡ 0
+      → Refused Refusal.NoSegment ≡ session_of group part
   unfolding session_of
   no_access s e = rw (ne_eqb (segment_flag group) 0 s, eq-eqb (user_access_flag group) 0 e)
 

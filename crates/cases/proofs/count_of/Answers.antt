@@ -1,7 +1,6 @@
 -- `cases::count_of` meets its contract. Assumes nothing.
-use mathlib.Core.Path.{◌≡◌, refl, sym, ◌∙◌}
+use mathlib.Core.Path.{refl, sym, ◌∙◌}
 use native.Mathlib.Omega.{arith}
-use borrow.Author.Rules.{rules}
 use Rattle.cases.proofs.count_of.Goals as goal
 
 pub returns-then-is_there : goal.returns-then-is_there

@@ -1,6 +1,5 @@
 -- `cases::goes_with` meets its contract. Assumes nothing.
-use mathlib.Core.Path.{◌≡◌, refl, sym, ◌∙◌}
-use borrow.Author.Rules.{rules}
+use mathlib.Core.Path.{refl, sym, ◌∙◌}
 use Rattle.cases.proofs.goes_with.Goals as goal
 
 pub returns-then-is_there : goal.returns-then-is_there

@@ -1,6 +1,5 @@
 -- `cases::kept_with` meets its contract. Assumes nothing.
-use mathlib.Core.Path.{◌≡◌, refl, sym, ◌∙◌}
-use borrow.Author.Rules.{rules}
+use mathlib.Core.Path.{refl, sym, ◌∙◌}
 use Rattle.cases.proofs.Laws.{there-number}
 use Rattle.cases.proofs.kept_with.Goals as goal
 

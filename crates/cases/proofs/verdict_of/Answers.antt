@@ -1,9 +1,7 @@
 -- `cases::verdict_of` meets its contract: what is kept of each part, then the decision.
 -- Assumes nothing.
 use mathlib.Core.Path.{refl, sym, ap, ◌∙◌}
-use borrow.Author.Tests.{not-true, not-false}
 use Rattle.cases.specs.Pieces.{kept_with, verdict_of}
-use borrow.Author.Rules.{rules}
 use Rattle.cases.proofs.verdict_of.Goals as goal
 
 pub returns-then-not-goes_with : goal.returns-then-not-goes_with
@@ -11,7 +9,7 @@ unfolding verdict_of
 returns-then-not-goes_with c =
     let e = c.kept_with-held.ensures ∙ ap (kept_with c.args.first)
     c.nothing-2.ensures in
-    rw (← e, ← c.top_with-top.ensures, sym c.Goes-with.ensures ∙ c.if-not-goes_with.true)
+    rw (← e, ← c.top_with-top.ensures, sym c.goes_with.ensures ∙ c.if-not-goes_with.true)
     refl
 
 pub returns : goal.returns
@@ -25,8 +23,7 @@ returns c =
       ← held,
       ← headers,
       ← c.top_with-top.ensures,
-      sym c.Goes-with.ensures
-          ∙ c.if-not-goes_with.false,
+      sym c.goes_with.ensures ∙ c.if-not-goes_with.false,
       ← c.kept_with-bodies.ensures,
       ← c.count_of.ensures.0,
       ← c.count_of-2.ensures.0,

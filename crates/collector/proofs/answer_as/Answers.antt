@@ -1,6 +1,5 @@
 -- `collector::answer_as` meets its contract, outcome by outcome.
 -- Assumes nothing.
-use borrow.Author.Rules.{rules}
 use Rattle.collector.proofs.answer_as.Goals as goal
 
 pub returns-in-Stored : goal.returns-in-Stored

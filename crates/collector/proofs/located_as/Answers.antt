@@ -1,6 +1,5 @@
 -- `collector::located_as` meets its contract, stage by stage.
 -- Assumes nothing.
-use borrow.Author.Rules.{rules}
 use Rattle.collector.proofs.located_as.Goals as goal
 
 pub returns-in-Free : goal.returns-in-Free

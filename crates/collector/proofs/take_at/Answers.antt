@@ -3,7 +3,6 @@
 use mathlib.Core.Path.{ap}
 use Rattle.collector.specs.Arrival.{arrival}
 use Rattle.collector.specs.Changes.{came_to}
-use borrow.Author.Rules.{rules}
 use Rattle.collector.proofs.take_at.Goals as goal
 
 pub returns : goal.returns

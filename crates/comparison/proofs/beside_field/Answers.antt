@@ -1,8 +1,8 @@
 -- `comparison::beside_field` meets its contract, arm by arm.
 -- Assumes nothing.
+use native.Mathlib.Omega.{arith}
 use borrow.Author.Tests.{ne_eqb}
 use Rattle.comparison.specs.Fields.{beside_field}
-use borrow.Author.Rules.{rules}
 use Rattle.comparison.proofs.beside_field.Goals as goal
 
 pub returns-in-7 : goal.returns-in-7
@@ -28,9 +28,9 @@ returns-in-11 c = rw c.in-11.is
 pub returns-in_default : goal.returns-in_default
 unfolding beside_field
 returns-in_default c = simp (
-  ne_eqb _ 7 c.in-7.rest.0.0.0.0.1,
-  ne_eqb _ 8 c.in-7.rest.0.0.0.1,
-  ne_eqb _ 9 c.in-7.rest.0.0.1,
-  ne_eqb _ 10 c.in-7.rest.0.1,
-  ne_eqb _ 11 c.in-7.rest.1,
+  ne_eqb c.args.field 7 (omega arith),
+  ne_eqb c.args.field 8 (omega arith),
+  ne_eqb c.args.field 9 (omega arith),
+  ne_eqb c.args.field 10 (omega arith),
+  ne_eqb c.args.field 11 (omega arith),
 )

@@ -4,7 +4,6 @@ use mathlib.Core.Path.{sym, ap, ◌∙◌}
 use Prim.Native.Nat.{ℕ}
 use Rattle.wire.specs.declared.Reading.{Reading}
 use Rattle.comparison.specs.Fields.{refusal_field, field_of}
-use borrow.Author.Rules.{rules}
 use Rattle.comparison.proofs.compared_reading.Goals as goal
 
 pub returns-in-Read : goal.returns-in-Read

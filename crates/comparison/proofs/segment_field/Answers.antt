@@ -1,8 +1,8 @@
 -- `comparison::segment_field` meets its contract, arm by arm.
 -- Assumes nothing.
+use native.Mathlib.Omega.{arith}
 use borrow.Author.Tests.{ne_eqb}
 use Rattle.comparison.specs.Fields.{segment_field}
-use borrow.Author.Rules.{rules}
 use Rattle.comparison.proofs.segment_field.Goals as goal
 
 pub returns-in-1 : goal.returns-in-1
@@ -32,12 +32,11 @@ returns-in-6 c = rw c.in-6.is
 pub returns-in_default : goal.returns-in_default
 unfolding segment_field
 returns-in_default c =
-    let rest = c.in-1.rest in
     rw (
-      ne_eqb _ 1 rest.0.0.0.0.0.1,
-      ne_eqb _ 2 rest.0.0.0.0.1,
-      ne_eqb _ 3 rest.0.0.0.1,
-      ne_eqb _ 4 rest.0.0.1,
-      ne_eqb _ 5 rest.0.1,
-      ne_eqb _ 6 rest.1,
+      ne_eqb c.args.field 1 (omega arith),
+      ne_eqb c.args.field 2 (omega arith),
+      ne_eqb c.args.field 3 (omega arith),
+      ne_eqb c.args.field 4 (omega arith),
+      ne_eqb c.args.field 5 (omega arith),
+      ne_eqb c.args.field 6 (omega arith),
     ) c.beside_field.ensures

@@ -6,7 +6,6 @@ use lib.ListN.{length}
 use Rattle.octets.specs.Octets.{equal}
 use Rattle.header.specs.Names.{unslashed, name_matches}
 use Rattle.header.proofs.Parts.{rest-is}
-use borrow.Author.Rules.{rules}
 use native.Mathlib.Omega.{arith}
 use Rattle.header.proofs.name_matches.Goals as goal
 

@@ -6,7 +6,6 @@ use Prim.Native.Nat.{ℕ, ◌+◌, ◌≤◌}
 use native.Mathlib.Nat.{add-zero}
 use native.Mathlib.Omega.{arith}
 use lib.ListN.{length, set, length-set, length-take}
-use borrow.Author.Rules.{rules}
 use Rattle.octets.specs.Octets.{over}
 use Rattle.octets.specs.laws.Over.{over_none, over-more}
 use Rattle.listing_input.specs.Line.{check_of}
@@ -29,4 +28,7 @@ both_stored l n a b h =
 
 pub returns : goal.returns
 unfolding check_of
-returns c = (refl, rw (← c.check_word-check.ensures) (both_stored _ _ _ _ c.requires))
+returns c = record {
+  value = refl;
+  group_after = rw (← c.check_word-check.ensures) (both_stored _ _ _ _ c.requires);
+}

@@ -6,7 +6,6 @@ use Prim.Native.Nat.{ℕ, ◌+◌, ◌≤◌}
 use native.Mathlib.Nat.{zero-add}
 use native.Mathlib.Omega.{arith}
 use lib.ListN.{length, take, length-append}
-use borrow.Author.Rules.{rules}
 use Rattle.octets.specs.Octets.{over}
 use Rattle.octets.specs.laws.Over.{over-inside}
 use Rattle.listing_input.specs.declared.Line.TheVariants.{Group, Drop}
@@ -20,17 +19,16 @@ use Rattle.listing_input.proofs.asked.Goals as goal
 pub returns-then-letter-eq71 : goal.returns-then-letter-eq71
 returns-then-letter-eq71 c =
     rw (asks-whole c.args.letter c.args.digits.now c.if-letter-eq71.true)
-    (ap Group c.decode.ensures.value, c.decode.ensures.group_after)
+    (record { value = ap Group c.decode.ensures.value; group_after = c.decode.ensures.group_after })
 
 pub add_check-requires : goal.add_check-requires
 add_check-requires c =
     let digits = c.args.digits.now in
-    let long = c.decode-count.auto in
     omega (
       arith,
       bytes-length digits,
       c.decode-count.ensures.value,
-      c.decode-count.auto.1.0,
+      c.decode-count.auto.group,
     )
 
 -- the check word, laid behind the bytes that it is of
@@ -47,24 +45,24 @@ returns-then-letter-eq66 c =
     let digits = c.args.digits.now in
     let group = c.args.group.now in
     let counted = c.decode-count.ensures.value in
-    rw (asks-unchecked c.args.letter c.args.digits.now c.if-letter-eq66.true) (
-      ap Group (c.add_check.ensures.value ∙ rw counted
-          (sym (length-append (bytes_of digits) (check_of (bytes_of digits))))),
-      unchecked group (bytes_of digits) _ _ _ counted c.decode-count.ensures.group_after
-          c.add_check.ensures.group_after (omega (arith, bytes-length digits)),
-    )
+    rw (asks-unchecked c.args.letter c.args.digits.now c.if-letter-eq66.true) (record {
+      value = ap Group (c.add_check.ensures.value ∙ rw counted
+          (sym (length-append (bytes_of digits) (check_of (bytes_of digits)))));
+      group_after = unchecked group (bytes_of digits) _ _ _ counted c.decode-count.ensures.group_after
+          c.add_check.ensures.group_after (omega (arith, bytes-length digits));
+    })
 
 pub returns-then-letter-ne68 : goal.returns-then-letter-ne68
 returns-then-letter-ne68 c =
     rw (asks-other-letter c.args.letter c.args.digits.now c.if-letter-eq71.false
-    c.if-letter-eq66.false c.if-letter-ne68.true) (refl, over_nothing _ 0)
+    c.if-letter-eq66.false c.if-letter-ne68.true) (record { value = refl; group_after = over_nothing _ 0 })
 
 pub returns-then-digits-ne4 : goal.returns-then-digits-ne4
 returns-then-digits-ne4 c =
     rw (asks-other-count c.args.letter c.args.digits.now c.if-letter-ne68.false c.if-digits-ne4.true)
-    (refl, over_nothing _ 0)
+    (record { value = refl; group_after = over_nothing _ 0 })
 
 pub returns : goal.returns
 returns c =
     rw (asks-drop c.args.letter c.args.digits.now c.if-letter-ne68.false
-    c.if-digits-ne4.false) (ap Drop c.number.ensures, over_nothing _ 0)
+    c.if-digits-ne4.false) (record { value = ap Drop c.number.ensures; group_after = over_nothing _ 0 })

@@ -2,10 +2,10 @@
 -- Assumes nothing.
 use mathlib.Core.Path.{◌≡◌, refl, sym, ap₂, ◌∙◌}
 use mathlib.Core.List.{List}
-use Prim.Native.Nat.{ℕ, ◌+◌, ◌*◌, ◌-◌, ◌≤◌}
+use Prim.Native.Nat.{ℕ, ◌+◌, ◌*◌}
 use native.Mathlib.Nat.{zero-add}
 use native.Mathlib.Omega.{arith}
-use lib.ListN.{length, take, get_or, set, length-set}
+use lib.ListN.{take, get_or, set, length-set}
 use lib.Seq.{take_all}
 use borrow.Author.Rules.{rules}
 use Rattle.octets.specs.Octets.{over}
@@ -66,4 +66,4 @@ returns c =
     let digits = c.args.digits.now in
     let all : take c.loop-i.i (bytes_of digits) ≡ bytes_of digits =
     take_all c.loop-i.i (bytes_of digits) (omega (arith, bytes-length digits)) in
-    (sym (bytes-length digits), c.loop-i.invariant.2 ∙ rw all)
+    record { value = sym (bytes-length digits); group_after = c.loop-i.invariant.2 ∙ rw all }

@@ -44,17 +44,21 @@ returns-then-chunk-from c =
     let chunk = c.args.chunk.now in
     let from = c.args.from in
     let kept = c.args.kept in
-    let none = none_left chunk from c.if-chunk-from.true in (
-      sym (gathered-part chunk from kept from kept (sym (end-here chunk from none))
-          (rw (none, nothing kept) (omega arith)) c.if-chunk-from.true),
-      unchanged chunk from c.args.line.now kept none,
-    )
+    let none = none_left chunk from c.if-chunk-from.true in record {
+      value = sym (gathered-part chunk from kept from kept (sym (end-here chunk from none))
+          (rw (none, nothing kept) (omega arith)) c.if-chunk-from.true);
+      line_after = unchanged chunk from c.args.line.now kept none;
+    }
 
 pub slice_bounds-keep-count : goal.slice_bounds-keep-count
 slice_bounds-keep-count c =
-    rw c.line_end-end.ensures
-    (starts-before c.args.chunk.now
-    c.args.from)
+    rw c.line_end-end.ensures (starts-before c.args.chunk.now c.args.from)
+
+pub slice_bounds-keep-start : goal.slice_bounds-keep-start
+slice_bounds-keep-start c = rw c.line_end-end.ensures (starts-before c.args.chunk.now c.args.from)
+
+pub slice_bounds-keep-end-2 : goal.slice_bounds-keep-end-2
+slice_bounds-keep-end-2 c = rw c.line_end-end.ensures (ends-within c.args.chunk.now c.args.from (omega arith))
 
 pub returns-then-end-chunk : goal.returns-then-end-chunk
 unfolding line_after
@@ -65,11 +69,11 @@ returns-then-end-chunk c =
     let kept = c.args.kept in
     let ends = c.line_end-end.ensures in
     let long : length line ≡ most = search rules in
-    let same = kept-as chunk from kept (length line) _ ends long in (
-      sym (gathered-whole chunk from kept _ _ ends
-          (c.keep-kept.ensures.value ∙ ap (λ (piece : List ℕ). kept + length piece) same) c.if-end-chunk.true),
-      c.keep-kept.ensures.line_after ∙ ap (over line kept) same,
-    )
+    let same = kept-as chunk from kept (length line) _ ends long in record {
+      value = sym (gathered-whole chunk from kept _ _ ends
+          (c.keep-kept.ensures.value ∙ ap (λ (piece : List ℕ). kept + length piece) same) c.if-end-chunk.true);
+      line_after = c.keep-kept.ensures.line_after ∙ ap (over line kept) same;
+    }
 
 pub returns : goal.returns
 unfolding line_after
@@ -80,8 +84,8 @@ returns c =
     let kept = c.args.kept in
     let ends = c.line_end-end.ensures in
     let long : length line ≡ most = search rules in
-    let same = kept-as chunk from kept (length line) _ ends long in (
-      sym (gathered-part chunk from kept _ _ ends
-          (c.keep-kept.ensures.value ∙ ap (λ (piece : List ℕ). kept + length piece) same) c.if-end-chunk.false),
-      c.keep-kept.ensures.line_after ∙ ap (over line kept) same,
-    )
+    let same = kept-as chunk from kept (length line) _ ends long in record {
+      value = sym (gathered-part chunk from kept _ _ ends
+          (c.keep-kept.ensures.value ∙ ap (λ (piece : List ℕ). kept + length piece) same) c.if-end-chunk.false);
+      line_after = c.keep-kept.ensures.line_after ∙ ap (over line kept) same;
+    }

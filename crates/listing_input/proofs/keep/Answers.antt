@@ -6,7 +6,6 @@ use native.Mathlib.Omega.{arith}
 use lib.ListN.{length, take, length-take, length-drop}
 use lib.Seq.{length-take-le}
 use borrow.Rule.Slice.PartMut.{put_mid}
-use borrow.Author.Rules.{rules}
 use Rattle.octets.specs.laws.Over.{over-start}
 use Rattle.listing_input.specs.Gather.{room_for}
 use Rattle.listing_input.specs.laws.Run.{over_nothing}
@@ -18,7 +17,8 @@ returns-then-line-kept c =
     let line = c.args.line.now in
     let kept = c.args.kept in
     let piece = c.args.piece.now in
-    rw (no_room (length line) kept piece c.if-line-kept.true) (omega arith, over_nothing line kept)
+    rw (no_room (length line) kept piece c.if-line-kept.true)
+    (record { value = omega arith; line_after = over_nothing line kept })
 
 pub returns-then-piece-room : goal.returns-then-piece-room
 returns-then-piece-room c =
@@ -26,11 +26,11 @@ returns-then-piece-room c =
     let kept = c.args.kept in
     let piece = c.args.piece.now in
     let room = length line - kept in
-    rw (room-for-all (length line) kept piece (omega arith)) (
-      refl,
-      ap (put_mid kept room line) c.copy_in.ensures ∙ over-start line kept room piece
-          (omega arith) (omega arith),
-    )
+    rw (room-for-all (length line) kept piece (omega arith)) (record {
+      value = refl;
+      line_after = ap (put_mid kept room line) c.copy_in.ensures ∙ over-start line kept room piece
+          (omega arith) (omega arith);
+    })
 
 pub slice_bounds-copy_in-end-3 : goal.slice_bounds-copy_in-end-3
 slice_bounds-copy_in-end-3 c =
@@ -46,8 +46,8 @@ returns c =
     let kept = c.args.kept in
     let piece = c.args.piece.now in
     let room = length line - kept in
-    let taken : length (take room piece) ≡ room = length-take-le room piece (omega arith) in (
-      rw taken,
-      ap (put_mid kept room line) c.copy_in-2.ensures ∙ over-start line kept room
-          (take room piece) (rw taken (omega arith)) (omega arith),
-    )
+    let taken : length (take room piece) ≡ room = length-take-le room piece (omega arith) in record {
+      value = rw taken;
+      line_after = ap (put_mid kept room line) c.copy_in-2.ensures ∙ over-start line kept room
+          (take room piece) (rw taken (omega arith)) (omega arith);
+    }

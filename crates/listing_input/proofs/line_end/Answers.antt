@@ -1,10 +1,6 @@
 -- `listing_input::line_end` meets its contract: no newline was passed, so the line ends where it ends from here on.
 -- Assumes nothing.
-use mathlib.Core.Path.{◌≡◌, refl, sym, ◌∙◌}
-use Prim.Native.Nat.{◌-◌}
-use native.Mathlib.Omega.{arith}
-use lib.ListN.{length}
-use Rattle.listing_input.specs.Gather.{line_end}
+use mathlib.Core.Path.{refl, sym, ◌∙◌}
 use Rattle.listing_input.proofs.Pieces.{none_left, ends-here, end-here, end_on}
 use Rattle.listing_input.proofs.line_end.Goals as goal
 

@@ -1,11 +1,9 @@
 -- `listing_input::line_end` meets its contract: no newline was passed, so the line ends where it ends from here on.
 -- Assumes nothing.
-use mathlib.Core.Path.{◌≡◌, refl, sym, ◌∙◌}
+use mathlib.Core.Path.{◌≡◌}
 use Prim.Native.Nat.{◌-◌}
-use native.Mathlib.Omega.{arith}
 use lib.ListN.{length}
 use Rattle.listing_input.specs.Gather.{line_end}
-use Rattle.listing_input.proofs.Pieces.{none_left, ends-here, end-here, end_on}
 use Rattle.listing_input.proofs.line_end.Given as goal
 
 abbrev pub invariant-loop-i : goal.invariant-loop-i

@@ -1,7 +1,6 @@
 -- `listing_input::number` meets its contract: four digits, each below 16.
 -- Assumes nothing.
 use native.Mathlib.Omega.{arith}
-use borrow.Author.Rules.{rules}
 use Rattle.listing_input.proofs.Hex.{hex-digit, byte_at}
 use Rattle.listing_input.proofs.number.Goals as goal
 

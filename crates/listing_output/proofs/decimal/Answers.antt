@@ -2,9 +2,9 @@
 -- are the number's. Assumes nothing.
 use mathlib.Core.Path.{◌≡◌, refl, sym, ap, ◌∙◌}
 use mathlib.Core.List.{◌++◌}
-use Prim.Native.Nat.{ℕ, ◌^◌, ◌≤◌, ◌<◌}
+use Prim.Native.Nat.{ℕ}
 use native.Mathlib.Omega.{arith}
-use lib.ListN.{length, drop, length-set}
+use lib.ListN.{drop, length-set}
 use borrow.Author.Rules.{rules}
 use Rattle.listing_output.specs.Number.{digits_of, decimal}
 use Rattle.listing_output.proofs.Digits.{some-place, next_small, digit-written, none_left}
@@ -45,4 +45,8 @@ returns c =
     let all = c.loop-rest.invariant.3
     ∙ ap (λ (left : ℕ). digits_of c.loop-rest.start left ++ drop c.loop-rest.start
     c.loop-rest.digits) none in
-    (sym (rw none_left at all), (c.loop-rest.invariant.1, c.loop-rest.invariant.0))
+    record {
+      digits_value = sym (rw none_left at all);
+      digits_len = c.loop-rest.invariant.1;
+      start_bound = c.loop-rest.invariant.0;
+    }

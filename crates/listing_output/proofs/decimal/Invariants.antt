@@ -1,13 +1,10 @@
 -- `listing_output::decimal` meets its contract: the digits of what is left, and behind them those that are written,
 -- are the number's. Assumes nothing.
-use mathlib.Core.Path.{◌≡◌, refl, sym, ap, ◌∙◌}
+use mathlib.Core.Path.{◌≡◌}
 use mathlib.Core.List.{◌++◌}
-use Prim.Native.Nat.{ℕ, ◌^◌, ◌≤◌, ◌<◌}
-use native.Mathlib.Omega.{arith}
-use lib.ListN.{length, drop, length-set}
-use borrow.Author.Rules.{rules}
+use Prim.Native.Nat.{◌^◌, ◌≤◌, ◌<◌}
+use lib.ListN.{length, drop}
 use Rattle.listing_output.specs.Number.{digits_of, decimal}
-use Rattle.listing_output.proofs.Digits.{some-place, next_small, digit-written, none_left}
 use Rattle.listing_output.proofs.decimal.Given as goal
 
 abbrev pub invariant-loop-rest : goal.invariant-loop-rest

@@ -1,6 +1,5 @@
 -- `listing_output::digit` meets its contract on both sides of 10.
 -- Assumes nothing.
-use borrow.Author.Rules.{rules}
 use borrow.Author.Tests.{lt-ltb, le-ltb}
 use Rattle.listing_output.specs.Number.{digit as digit_for}
 use Rattle.listing_output.proofs.digit.Goals as goal

@@ -1,6 +1,5 @@
 -- `listing_output::put_decimal` meets its contract: the digits from `start` on are the number's.
 -- Assumes nothing.
-use borrow.Author.Rules.{rules}
 use mathlib.Core.Path.{ap, ◌∙◌}
 use mathlib.Core.List.{List, [], ◌∷◌, ◌++◌}
 use Prim.Native.Nat.{ℕ}
@@ -12,7 +11,7 @@ pub returns : goal.returns
 returns c =
     let written = c.decimal-numeral in
     let digits = to_the_end written.result.digits written.result.start 20
-    written.ensures.1.0 ∙ written.ensures.0 in
+    written.ensures.digits_len ∙ written.ensures.digits_value in
     let written_out = put_same c.put.ensures
     (ap (λ (field : List ℕ). field ++ (c.args.end ∷ [])) digits) in
-    (written_out, decimal-ends c.args.number c.args.end written_out)
+    record { put = written_out; upper_bound = decimal-ends c.args.number c.args.end written_out }

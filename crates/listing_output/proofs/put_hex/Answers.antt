@@ -1,6 +1,5 @@
 -- `listing_output::put_hex` meets its contract: four digits, each of its own four bits.
 -- Assumes nothing.
-use borrow.Author.Rules.{rules}
 use native.Mathlib.Omega.{arith}
 use Rattle.listing_output.specs.Number.{four_digits}
 use Rattle.listing_output.specs.laws.Put.{put_same}
@@ -12,7 +11,7 @@ returns c =
     let first = c.digit.ensures in
     let second = c.digit-2.ensures in
     let third = c.digit-3.ensures in
-    let fourth = c.digit-4.ensures in (
-      put_same c.put.ensures (rw (first, second, third, fourth)),
-      omega (arith, c.put.ensures.ends),
-    )
+    let fourth = c.digit-4.ensures in record {
+      put = put_same c.put.ensures (rw (first, second, third, fourth));
+      upper_bound = omega (arith, c.put.ensures.ends);
+    }

@@ -1,6 +1,5 @@
 -- `listing_output::put_name` meets its contract: the letters that are counted are the name's.
 -- Assumes nothing.
-use borrow.Author.Rules.{rules}
 use mathlib.Core.Path.{ap}
 use mathlib.Core.List.{List, [], ◌∷◌, ◌++◌}
 use Prim.Native.Nat.{ℕ}
@@ -26,4 +25,4 @@ pub returns : goal.returns
 returns c =
     let spelt = put_same c.put.ensures
     (ap (λ (name : List ℕ). name ++ (space ∷ [])) (spelt-front c.name_of-name.ensures)) in
-    (spelt, name-ends c.args.answer space spelt)
+    record { put = spelt; upper_bound = name-ends c.args.answer space spelt }

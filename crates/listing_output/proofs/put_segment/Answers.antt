@@ -1,6 +1,5 @@
 -- `listing_output::put_segment` meets its contract: three fields, one behind the other.
 -- Assumes nothing.
-use borrow.Author.Rules.{rules}
 use native.Mathlib.Omega.{arith}
 use Rattle.listing_output.specs.laws.Put.{put_then}
 use Rattle.listing_output.proofs.put_segment.Goals as goal
@@ -8,8 +7,8 @@ use Rattle.listing_output.proofs.put_segment.Goals as goal
 pub returns : goal.returns
 returns c =
     let hex = c.put_hex-part in
-    let part = c.put_part-segment in (
-      put_then hex.ensures.0
-          (put_then part.ensures.0 c.put_decimal.ensures.put (omega arith)) (omega arith),
-      omega arith,
-    )
+    let part = c.put_part-segment in record {
+      put = put_then hex.ensures.put
+          (put_then part.ensures.put c.put_decimal.ensures.put (omega arith)) (omega arith);
+      upper_bound = omega arith;
+    }

@@ -1,6 +1,5 @@
 -- `listing_output::write_answer` meets its contract: number, name and values, one behind the other.
 -- Assumes nothing.
-use borrow.Author.Rules.{rules}
 use mathlib.Core.Path.{◌≡◌, refl, ap}
 use mathlib.Core.List.{List, [], ◌∷◌, ◌++◌}
 use Prim.Native.Nat.{ℕ}
@@ -30,6 +29,8 @@ returns c =
     let name = c.put_name-values in
     let values = put_same c.put_returned.ensures.put
     (ap (λ (returned : Returned). text_of (values_of returned)) c.returned_with.ensures) in
-    put_whole (put_same (put_then number.ensures.0 (put_then name.ensures.0 values (omega arith)) (omega arith))
+    let whole = put_whole
+    (put_same (put_then number.ensures.put (put_then name.ensures.put values (omega arith)) (omega arith))
     (with_values (decimal c.args.line) (letters (name_of c.args.answer))
-    (returned_with c.args.answer))) (omega arith)
+    (returned_with c.args.answer))) (omega arith) in
+    record { value = whole.0; out_after = whole.1.0; upper_bound = whole.1.1 }

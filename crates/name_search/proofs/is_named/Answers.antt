@@ -3,7 +3,7 @@
 use mathlib.Core.Path.{◌≡◌}
 use Prim.Native.Nat.{◌+◌, ◌-◌}
 use native.Mathlib.Omega.{arith}
-use borrow.Author.Tests.{eq-eqb, ne_eqb}
+use borrow.Author.Tests.{eq-eqb}
 use Rattle.header.specs.laws.Search.{is_named}
 use borrow.Author.Rules.{rules}
 use Rattle.name_search.proofs.is_named.Goals as goal
@@ -17,4 +17,4 @@ returns-in-12 c =
 
 pub returns-in_default : goal.returns-in_default
 unfolding is_named
-returns-in_default c = rw (ne_eqb _ _ c.in-12.rest.1)
+returns-in_default c = search rules

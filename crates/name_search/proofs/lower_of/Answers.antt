@@ -3,7 +3,6 @@
 use mathlib.Core.Path.{ap}
 use native.Mathlib.Omega.{arith}
 use Rattle.name_search.specs.declared.Holder.TheVariants.{Number}
-use borrow.Author.Rules.{rules}
 use Rattle.name_search.proofs.lower_of.Goals as goal
 
 pub returns-in_default : goal.returns-in_default

@@ -4,7 +4,6 @@ use mathlib.Core.Path.{refl}
 use native.Mathlib.Omega.{arith}
 use borrow.Author.Tests.{le-leb}
 use lib.ListN.{get_or}
-use borrow.Author.Rules.{rules}
 use Rattle.object.proofs.core_from.Goals as goal
 
 pub returns-then-marks-eq0 : goal.returns-then-marks-eq0

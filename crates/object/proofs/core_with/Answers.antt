@@ -1,7 +1,6 @@
 -- `object::core_with` meets its contract, by the part and the number.
 -- Assumes nothing.
 use borrow.Author.Tests.{ne_eqb}
-use borrow.Author.Rules.{rules}
 use Rattle.object.proofs.core_with.Goals as goal
 
 pub returns-then-number-eq0 : goal.returns-then-number-eq0

@@ -2,13 +2,12 @@
 -- Assumes nothing.
 use mathlib.Core.Path.{◌≡◌, sym, ap, ◌∙◌}
 use mathlib.Core.Bool.{true, false}
-use borrow.Author.Tests.{not-true, not-false, leb-true}
+use borrow.Author.Tests.{leb-true}
 use Rattle.cut.specs.Requirement.{Segment, segment}
 use Rattle.cut.specs.Parts.{other_part}
 use Rattle.cut.specs.Kept.{core_with}
 use Rattle.object.specs.declared.Tally.{Tally}
 use Rattle.object.specs.laws.Decided.{said, tallied-total, decided-held, decided-new}
-use borrow.Author.Rules.{rules}
 use Rattle.object.specs.Parts.{Lent, shares, parts_of}
 use Rattle.object.specs.Stage.{core_in}
 use Rattle.object.proofs.decide.Goals as goal
@@ -61,7 +60,8 @@ takes-requires c = (
         c.args.header.now
         c.args.marks.now
         c.requires.tallied;
-    theirs = (rw c.other_part.ensures at c.total_in-others.ensures) ∙ tallied-total (other_part c.args.part) c.args.tally c.args.header.now c.args.marks.now c.requires.tallied;
+    theirs = (rw c.other_part.ensures at c.total_in-others.ensures)
+        ∙ tallied-total (other_part c.args.part) c.args.tally c.args.header.now c.args.marks.now c.requires.tallied;
   },
   c.requires.bits,
 )
@@ -73,8 +73,10 @@ returns-then-not-takes c =
     let s : Segment = segment c.args.number c.args.last c.args.bytes.now in
     let marked = rw c.marks_of.ensures at
     c.holds.ensures in
-    let core : c.core_with-core.result ≡ said c.args.part c.args.limit s c.args.slot lent = c.core_with-core.ensures ∙ ap (λ (t : Tally). core_with c.args.part s t.core) c.requires.tallied in
-    decided-new c.args.part c.args.limit s c.args.slot lent false (sym marked ∙ c.if-holds.false) (sym (c.if-not-takes.true) ∙ (rw core at c.takes.ensures))
+    let core : c.core_with-core.result ≡ said c.args.part c.args.limit s c.args.slot lent = c.core_with-core.ensures
+    ∙ ap (λ (t : Tally). core_with c.args.part s t.core) c.requires.tallied in
+    decided-new c.args.part c.args.limit s c.args.slot lent false (sym marked ∙ c.if-holds.false)
+    (sym (c.if-not-takes.true) ∙ (rw core at c.takes.ensures))
 
 pub returns : goal.returns
 unfolding parts_of core_in
@@ -83,5 +85,7 @@ returns c =
     let s : Segment = segment c.args.number c.args.last c.args.bytes.now in
     let marked = rw c.marks_of.ensures at
     c.holds.ensures in
-    let core : c.core_with-core.result ≡ said c.args.part c.args.limit s c.args.slot lent = c.core_with-core.ensures ∙ ap (λ (t : Tally). core_with c.args.part s t.core) c.requires.tallied in
-    rw core (decided-new c.args.part c.args.limit s c.args.slot lent true (sym marked ∙ c.if-holds.false) (sym (c.if-not-takes.false) ∙ (rw core at c.takes.ensures)))
+    let core : c.core_with-core.result ≡ said c.args.part c.args.limit s c.args.slot lent = c.core_with-core.ensures
+    ∙ ap (λ (t : Tally). core_with c.args.part s t.core) c.requires.tallied in
+    rw core (decided-new c.args.part c.args.limit s c.args.slot lent true (sym marked ∙ c.if-holds.false)
+    (sym (c.if-not-takes.false) ∙ (rw core at c.takes.ensures)))

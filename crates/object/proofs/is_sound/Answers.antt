@@ -3,7 +3,6 @@
 use mathlib.Core.Path.{sym, ap, ◌∙◌}
 use mathlib.Core.List.{[]}
 use Rattle.object.specs.laws.Decided.{is_sound, is-sound}
-use borrow.Author.Rules.{rules}
 use Rattle.object.specs.Parts.{shares}
 use Rattle.object.proofs.is_sound.Goals as goal
 

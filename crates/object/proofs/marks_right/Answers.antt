@@ -2,7 +2,6 @@
 -- Assumes nothing.
 use borrow.Author.Tests.{le-leb, lt-leb}
 use Rattle.object.proofs.Laws.{some-largest}
-use borrow.Author.Rules.{rules}
 use Rattle.object.proofs.marks_right.Goals as goal
 
 pub returns-then-top-gt1 : goal.returns-then-top-gt1

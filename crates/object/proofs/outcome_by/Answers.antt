@@ -6,7 +6,6 @@ use Prim.Native.Nat.{ℕ, zero, suc}
 use Rattle.object.specs.declared.Stage.TheVariants.{Finished}
 use Rattle.object.specs.declared.Outcome.TheVariants.{Complete}
 use Rattle.object.specs.Take.{outcome_by}
-use borrow.Author.Rules.{rules}
 use Rattle.object.proofs.outcome_by.Goals as goal
 
 completes : (count header body : ℕ) → count ≢ 0 → Complete ≡ outcome_by count (Finished header body)
@@ -15,5 +14,4 @@ completes (suc count) header body d = refl
 
 pub returns-else-count-eq0 : goal.returns-else-count-eq0
 returns-else-count-eq0 c =
-    let told = c.enum_told-in-Finished-1.given in
-    rw told.1 (completes c.args.count told.0.0 told.0.1.0 c.if-count-eq0.false)
+    rw c.in-Finished.is (completes c.args.count _ _ c.if-count-eq0.false)

@@ -1,6 +1,5 @@
 -- `object::same_as_held` meets its contract, part by part.
 -- Assumes nothing.
-use borrow.Author.Rules.{rules}
 use Rattle.object.proofs.same_as_held.Goals as goal
 
 pub same-requires : goal.same-requires

@@ -1,7 +1,6 @@
 -- `object::same_stage` meets its contract, stage by stage.
 -- Assumes nothing.
 use borrow.Author.Tests.{eq-eqb, ne_eqb}
-use borrow.Author.Rules.{rules}
 use Rattle.object.proofs.same_stage.Goals as goal
 
 pub returns-then-header-other_header : goal.returns-then-header-other_header

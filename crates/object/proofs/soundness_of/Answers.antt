@@ -1,12 +1,11 @@
 -- `object::soundness_of` meets its contract, test by test.
 -- Assumes nothing.
 use mathlib.Core.Path.{sym, ◌∙◌}
-use borrow.Author.Tests.{not-true, not-false, eq-eqb, ne_eqb}
+use borrow.Author.Tests.{eq-eqb, ne_eqb}
 use Rattle.answer.specs.declared.Part.TheVariants.{Header, Body}
 use Rattle.object.specs.Sound.{sound_parts, sound_slot}
 use Rattle.object.specs.Asked.{soundness}
 use Rattle.object.proofs.Laws.{counted, right-bits}
-use borrow.Author.Rules.{rules}
 use Rattle.object.specs.Parts.{marks_of, parts_of}
 use Rattle.object.specs.Stage.{core_in, stage_of, missing_in}
 use Rattle.object.specs.laws.Inside.{marks-bits, right-small}
@@ -60,8 +59,7 @@ returns-then-not-sound c =
     rw (
       sym c.marks_right.ensures
           ∙ c.if-not-marks_right.false,
-      sym within
-          ∙ c.if-not-core_fits.false,
+      sym within ∙ c.if-not-core_fits.false,
       sym header ∙ c.if-not-sound.true,
     )
 
@@ -91,7 +89,12 @@ returns-then-not-sound-2 c =
       c.tally_of-held.ensures.0,
       c.marks_of-2.ensures,
     ) at c.sound-2.ensures in
-    rw (sym c.marks_right.ensures ∙ c.if-not-marks_right.false, sym within ∙ c.if-not-core_fits.false, sym header ∙ c.if-not-sound.false, sym body ∙ c.if-not-sound-2.true)
+    rw (
+      sym c.marks_right.ensures ∙ c.if-not-marks_right.false,
+      sym within ∙ c.if-not-core_fits.false,
+      sym header ∙ c.if-not-sound.false,
+      sym body ∙ c.if-not-sound-2.true,
+    )
 
 pub returns-then-not-same_stage : goal.returns-then-not-same_stage
 unfolding soundness sound_slot sound_parts parts_of core_in stage_of
@@ -114,7 +117,13 @@ returns-then-not-same_stage c =
       c.stage_from.ensures,
       c.tally_of-held.ensures.0,
     ) at c.same_stage.ensures in
-    rw (sym c.marks_right.ensures ∙ c.if-not-marks_right.false, sym within ∙ c.if-not-core_fits.false, sym header ∙ c.if-not-sound.false, sym body ∙ c.if-not-sound-2.false, sym stage ∙ c.if-not-same_stage.true)
+    rw (
+      sym c.marks_right.ensures ∙ c.if-not-marks_right.false,
+      sym within ∙ c.if-not-core_fits.false,
+      sym header ∙ c.if-not-sound.false,
+      sym body ∙ c.if-not-sound-2.false,
+      sym stage ∙ c.if-not-same_stage.true,
+    )
 
 pub missing-requires : goal.missing-requires
 missing-requires c =

@@ -1,8 +1,6 @@
 -- `object::stage_from` meets its contract, arm by arm.
 -- Assumes nothing.
 use mathlib.Core.Path.{sym, ◌∙◌}
-use borrow.Author.Tests.{not-true, not-false}
-use borrow.Author.Rules.{rules}
 use Rattle.object.proofs.stage_from.Goals as goal
 
 pub returns-then-not-finished : goal.returns-then-not-finished

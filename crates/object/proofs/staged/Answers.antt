@@ -6,7 +6,6 @@ use Rattle.answer.specs.declared.Part.TheVariants.{Header}
 use Rattle.object.specs.Take.{slot_with}
 use Rattle.object.specs.laws.Inside.{marks-length}
 use Rattle.object.specs.Stage.{core_in, stage_of, missing_in}
-use borrow.Author.Rules.{rules}
 use Rattle.object.proofs.core_from.Reads as core-from-reads
 use Rattle.object.proofs.decision.missing.Reads as missing-reads
 use Rattle.object.proofs.marks_of.Reads as marks-of-reads

@@ -14,7 +14,6 @@ use Rattle.object.specs.Asked.{Fitting}
 use Rattle.object.specs.laws.Stored.{record_is, number_small, can-move, can-put, own-small, still-is, still-move, summed-header, summed-body, stored-header, stored-body}
 use Rattle.object.specs.laws.Inside.{lent-bits, after_small, still-small, header-small}
 use Rattle.object.proofs.Laws.{back_whole}
-use borrow.Author.Rules.{rules}
 use Rattle.object.specs.Parts.{Lent, shares, parts_of}
 use Rattle.object.proofs.store.Goals as goal
 
@@ -47,8 +46,12 @@ put-requires c =
     let s : Segment = segment c.args.number c.args.last c.args.bytes.now in
     let told = c.in-Header.is in
     let f : Fitting c.args.tally Header c.args.limit c.args.core s c.args.slot lent = rw told at c.requires in
-    let new = (rw (c.bounds_of-bounds.ensures, c.kept_of.ensures, c.total_in-own.ensures, told) at c.with-new.ensures) ∙ record_is c.args.tally c.args.limit c.args.core s c.args.slot lent Header f in
-    rw new (can-move c.args.tally c.args.limit c.args.core s c.args.slot lent Header f, can-put c.args.tally c.args.limit c.args.core s c.args.slot lent Header f)
+    let new = (rw (c.bounds_of-bounds.ensures, c.kept_of.ensures, c.total_in-own.ensures, told) at c.with-new.ensures)
+    ∙ record_is c.args.tally c.args.limit c.args.core s c.args.slot lent Header f in
+    rw new record {
+      can_move = can-move c.args.tally c.args.limit c.args.core s c.args.slot lent Header f;
+      can_put = can-put c.args.tally c.args.limit c.args.core s c.args.slot lent Header f;
+    }
 
 pub settle-requires : goal.settle-requires
 unfolding parts_of
@@ -57,14 +60,19 @@ settle-requires c =
     let s : Segment = segment c.args.number c.args.last c.args.bytes.now in
     let told = c.in-Header.is in
     let f : Fitting c.args.tally Header c.args.limit c.args.core s c.args.slot lent = rw told at c.requires in
-    let still = (rw c.bounds_of-within.ensures at c.within-still.ensures) ∙ still-is c.args.tally c.args.limit c.args.core s c.args.slot lent f in
+    let still = (rw c.bounds_of-within.ensures at c.within-still.ensures)
+    ∙ still-is c.args.tally c.args.limit c.args.core s c.args.slot lent f in
     rw still (still-move c.args.tally c.args.limit c.args.core s c.args.slot lent f)
 
 pub overflow_add-own : goal.overflow_add-own
 overflow_add-own c =
     let lent : Lent = shares c.args.header.now c.args.body.now c.args.marks.now in
     let s : Segment = segment c.args.number c.args.last c.args.bytes.now in
-    omega (arith, c.total_in-own.ensures, own-small c.args.tally c.args.limit c.args.core s c.args.slot lent c.args.part c.requires)
+    omega (
+      arith,
+      c.total_in-own.ensures,
+      own-small c.args.tally c.args.limit c.args.core s c.args.slot lent c.args.part c.requires,
+    )
 
 pub staged-requires : goal.staged-requires
 unfolding put settled parts_of
@@ -103,15 +111,24 @@ put-requires-in-Body c =
     let s : Segment = segment c.args.number c.args.last c.args.bytes.now in
     let told = c.in-Body.is in
     let f : Fitting c.args.tally Body c.args.limit c.args.core s c.args.slot lent = rw told at c.requires in
-    let new = (rw (c.bounds_of-bounds.ensures, c.kept_of.ensures, c.total_in-own.ensures, told) at c.with-new.ensures) ∙ record_is c.args.tally c.args.limit c.args.core s c.args.slot lent Body f in
-    let rest = take_all (length c.args.marks.now - header_numbers) (drop header_numbers c.args.marks.now) (rw length-drop (omega arith)) in
-    rw (new, rest) (can-move c.args.tally c.args.limit c.args.core s c.args.slot lent Body f, can-put c.args.tally c.args.limit c.args.core s c.args.slot lent Body f)
+    let new = (rw (c.bounds_of-bounds.ensures, c.kept_of.ensures, c.total_in-own.ensures, told) at c.with-new.ensures)
+    ∙ record_is c.args.tally c.args.limit c.args.core s c.args.slot lent Body f in
+    let rest = take_all (length c.args.marks.now - header_numbers) (drop header_numbers c.args.marks.now)
+    (rw length-drop (omega arith)) in
+    rw (new, rest) record {
+      can_move = can-move c.args.tally c.args.limit c.args.core s c.args.slot lent Body f;
+      can_put = can-put c.args.tally c.args.limit c.args.core s c.args.slot lent Body f;
+    }
 
 pub overflow_add-own-in-Body : goal.overflow_add-own-in-Body
 overflow_add-own-in-Body c =
     let lent : Lent = shares c.args.header.now c.args.body.now c.args.marks.now in
     let s : Segment = segment c.args.number c.args.last c.args.bytes.now in
-    omega (arith, c.total_in-own.ensures, own-small c.args.tally c.args.limit c.args.core s c.args.slot lent c.args.part c.requires)
+    omega (
+      arith,
+      c.total_in-own.ensures,
+      own-small c.args.tally c.args.limit c.args.core s c.args.slot lent c.args.part c.requires,
+    )
 
 pub staged-requires-in-Body : goal.staged-requires-in-Body
 unfolding put settled parts_of
@@ -121,7 +138,8 @@ staged-requires-in-Body c =
     let told = c.in-Body.is in
     let f : Fitting c.args.tally Body c.args.limit c.args.core s c.args.slot lent = rw told at c.requires in
     let own = rw told at c.total_in-own.ensures in
-    let rest = take_all (length c.args.marks.now - header_numbers) (drop header_numbers c.args.marks.now) (rw length-drop (omega arith)) in
+    let rest = take_all (length c.args.marks.now - header_numbers) (drop header_numbers c.args.marks.now)
+    (rw length-drop (omega arith)) in
     let whole = back_whole c.args.marks.now c.put-in-Body.new.marks (omega (arith, c.requires.marks)) in
     let new = (rw (
       c.bounds_of-bounds.ensures,
@@ -155,8 +173,10 @@ returns-in-Header c =
     let s : Segment = segment c.args.number c.args.last c.args.bytes.now in
     let told = c.in-Header.is in
     let f : Fitting c.args.tally Header c.args.limit c.args.core s c.args.slot lent = rw told at c.requires in
-    let new = (rw (c.bounds_of-bounds.ensures, c.kept_of.ensures, c.total_in-own.ensures, told) at c.with-new.ensures) ∙ record_is c.args.tally c.args.limit c.args.core s c.args.slot lent Header f in
-    let still = (rw c.bounds_of-within.ensures at c.within-still.ensures) ∙ still-is c.args.tally c.args.limit c.args.core s c.args.slot lent f in
+    let new = (rw (c.bounds_of-bounds.ensures, c.kept_of.ensures, c.total_in-own.ensures, told) at c.with-new.ensures)
+    ∙ record_is c.args.tally c.args.limit c.args.core s c.args.slot lent Header f in
+    let still = (rw c.bounds_of-within.ensures at c.within-still.ensures)
+    ∙ still-is c.args.tally c.args.limit c.args.core s c.args.slot lent f in
     rw told (stored-header c.args.limit s
     c.args.slot lent f.marks c.staged.result
     c.with-new.result
@@ -172,8 +192,10 @@ returns-in-Body c =
     let told = c.in-Body.is
     in
     let f : Fitting c.args.tally Body c.args.limit c.args.core s c.args.slot lent = rw told at c.requires in
-    let new = (rw (c.bounds_of-bounds.ensures, c.kept_of.ensures, c.total_in-own.ensures, told) at c.with-new.ensures) ∙ record_is c.args.tally c.args.limit c.args.core s c.args.slot lent Body f in
-    let rest = take_all (length c.args.marks.now - header_numbers) (drop header_numbers c.args.marks.now) (rw length-drop (omega arith)) in
+    let new = (rw (c.bounds_of-bounds.ensures, c.kept_of.ensures, c.total_in-own.ensures, told) at c.with-new.ensures)
+    ∙ record_is c.args.tally c.args.limit c.args.core s c.args.slot lent Body f in
+    let rest = take_all (length c.args.marks.now - header_numbers) (drop header_numbers c.args.marks.now)
+    (rw length-drop (omega arith)) in
     let whole = back_whole c.args.marks.now c.put-in-Body.new.marks (omega (arith, c.requires.marks)) in
     rw told (stored-body c.args.limit s
     c.args.slot lent f.marks c.staged-in-Body.result

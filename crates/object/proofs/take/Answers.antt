@@ -4,7 +4,6 @@ use mathlib.Core.Path.{sym, ◌∙◌}
 use Rattle.cut.specs.Requirement.{Segment, segment}
 use Rattle.object.specs.Take.{take_into}
 use Rattle.object.specs.laws.Decided.{offered-readable, decided-fits}
-use borrow.Author.Rules.{rules}
 use Rattle.object.specs.Parts.{Lent, shares}
 use Rattle.object.proofs.take.Goals as goal
 

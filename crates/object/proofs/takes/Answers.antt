@@ -1,11 +1,9 @@
 -- `object::takes` meets its contract, test by test.
 -- Assumes nothing.
 use mathlib.Core.Path.{sym, ◌∙◌}
-use borrow.Author.Tests.{not-true, not-false}
 use Rattle.cut.specs.Parts.{other_part}
 use Rattle.object.proofs.Laws.{counted}
 use native.Mathlib.Omega.{arith}
-use borrow.Author.Rules.{rules}
 use Rattle.object.proofs.takes.Goals as goal
 
 pub returns-then-not-core_fits : goal.returns-then-not-core_fits
@@ -30,7 +28,7 @@ returns-then-not-fits c =
       c.bounds_of-bounds.ensures,
       c.kept_of-kept.ensures,
       c.marks_of.ensures,
-    ) at c.fits2.ensures in
+    ) at c.fits.ensures in
     rw (
       sym c.core_fits.ensures
           ∙ c.if-not-core_fits.false,
@@ -45,7 +43,9 @@ marks_of-requires-2 c =
     )
 
 pub possible-requires : goal.possible-requires
-possible-requires c = rw (c.requires.0.theirs, c.marks_of-2.ensures, c.bounds_of-within.ensures, c.other_part-other.ensures) (counted (other_part c.args.part) c.args.limit c.args.core c.args.marks.now c.requires.0.long c.requires.1)
+possible-requires c =
+    rw (c.requires.0.theirs, c.marks_of-2.ensures, c.bounds_of-within.ensures, c.other_part-other.ensures)
+    (counted (other_part c.args.part) c.args.limit c.args.core c.args.marks.now c.requires.0.long c.requires.1)
 
 pub returns-then-not-possible : goal.returns-then-not-possible
 returns-then-not-possible c =
@@ -54,7 +54,7 @@ returns-then-not-possible c =
       c.kept_of-kept.ensures,
       c.marks_of.ensures,
     ) at
-    c.fits2.ensures in
+    c.fits.ensures in
     let possible =
     rw (
       c.bounds_of-within.ensures,
@@ -63,7 +63,11 @@ returns-then-not-possible c =
       c.other_part-other.ensures,
     ) at
     c.possible.ensures in
-    rw (sym c.core_fits.ensures ∙ c.if-not-core_fits.false, sym own ∙ c.if-not-fits.false, sym possible ∙ c.if-not-possible.true)
+    rw (
+      sym c.core_fits.ensures ∙ c.if-not-core_fits.false,
+      sym own ∙ c.if-not-fits.false,
+      sym possible ∙ c.if-not-possible.true,
+    )
 
 pub returns : goal.returns
 returns c =
@@ -72,7 +76,7 @@ returns c =
       c.kept_of-kept.ensures,
       c.marks_of.ensures,
     ) at
-    c.fits2.ensures in
+    c.fits.ensures in
     let possible =
     rw (
       c.bounds_of-within.ensures,
@@ -81,4 +85,8 @@ returns c =
       c.other_part-other.ensures,
     ) at
     c.possible.ensures in
-    rw (sym c.core_fits.ensures ∙ c.if-not-core_fits.false, sym own ∙ c.if-not-fits.false, sym possible ∙ c.if-not-possible.false)
+    rw (
+      sym c.core_fits.ensures ∙ c.if-not-core_fits.false,
+      sym own ∙ c.if-not-fits.false,
+      sym possible ∙ c.if-not-possible.false,
+    )

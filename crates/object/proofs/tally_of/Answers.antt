@@ -4,7 +4,6 @@ use mathlib.Core.Path.{refl}
 use native.Mathlib.Omega.{arith}
 use Rattle.answer.specs.declared.Part.TheVariants.{Header, Body}
 use Rattle.object.specs.laws.Inside.{marks-length, marks-bits}
-use borrow.Author.Rules.{rules}
 use Rattle.object.proofs.tally_of.Goals as goal
 
 pub core_from-core-requires : goal.core_from-core-requires

@@ -7,7 +7,6 @@ use lib.Dec.{eqb}
 use borrow.Author.Tests.{eq-eqb, ne_eqb, le-leb, lt-leb}
 use Rattle.cut.specs.Decision.{room}
 use Rattle.cut.specs.laws.Sums.{room_within}
-use borrow.Author.Rules.{rules}
 use Rattle.part.proofs.accepts.Goals as goal
 
 pub returns-then-total-eq0 : goal.returns-then-total-eq0

@@ -2,7 +2,6 @@
 -- Assumes nothing.
 use mathlib.Core.Path.{◌∙◌}
 use Rattle.part.proofs.Laws.{end_marked}
-use borrow.Author.Rules.{rules}
 use Rattle.part.proofs.end_right.Goals as goal
 
 pub returns-then-end-eq0 : goal.returns-then-end-eq0

@@ -2,11 +2,9 @@
 -- Assumes nothing.
 use mathlib.Core.Path.{◌≡◌, sym, ap, ◌∙◌}
 use mathlib.Core.Bool.{Bool}
-use borrow.Author.Tests.{not-true, not-false}
 use Rattle.cut.specs.Decision.{joins}
 use Rattle.cut.specs.Sums.{full_in, fits_in}
 use Rattle.part.specs.laws.Inside.{fits-beyond}
-use borrow.Author.Rules.{rules}
 use Rattle.part.proofs.fits.Goals as goal
 
 pub returns-then-bounds-number : goal.returns-then-bounds-number

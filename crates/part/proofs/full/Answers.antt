@@ -1,6 +1,5 @@
 -- `part::full` meets its contract: more is marked than the last one alone.
 -- Assumes nothing.
-use borrow.Author.Rules.{rules}
 use Rattle.part.proofs.full.Goals as goal
 
 pub returns : goal.returns

@@ -2,7 +2,6 @@
 -- Assumes nothing.
 use lib.ListN.{get_or-eq_default}
 use Prim.Native.Nat.{ℕ}
-use borrow.Author.Rules.{rules}
 use Rattle.part.proofs.holds.Goals as goal
 
 pub returns-then-marks-number : goal.returns-then-marks-number

@@ -5,7 +5,6 @@ use Rattle.part.proofs.Laws.{end-number}
 use borrow.Author.Tests.{ne_eqb}
 use native.Mathlib.Omega.{arith}
 use Prim.Native.Nat.{suc}
-use borrow.Author.Rules.{rules}
 use Rattle.part.proofs.is_last.Goals as goal
 
 pub returns-then-kept-eq0 : goal.returns-then-kept-eq0

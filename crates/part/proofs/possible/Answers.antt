@@ -6,7 +6,6 @@ use lib.Dec.{eqb}
 use borrow.Author.Tests.{eq-eqb, ne_eqb}
 use Rattle.cut.specs.Sums.{possible_in}
 use Rattle.cut.specs.laws.Sums.{room_within}
-use borrow.Author.Rules.{rules}
 use Rattle.part.proofs.possible.Goals as goal
 
 pub returns-then-total-ends : goal.returns-then-total-ends

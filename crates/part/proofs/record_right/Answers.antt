@@ -1,13 +1,11 @@
 -- `part::record_right` meets its contract, test by test.
 -- Assumes nothing.
 use mathlib.Core.Path.{◌≡◌, sym, ap, ◌∙◌}
-use borrow.Author.Tests.{not-true, not-false}
 use lib.Dec.{eqb}
 use Rattle.cut.specs.declared.Record.{Record}
 use Rattle.cut.specs.Kept.{settle}
 use Rattle.cut.specs.Sums.{full_in}
 use Rattle.part.specs.Asked.{record_right}
-use borrow.Author.Rules.{rules}
 use Rattle.part.proofs.record_right.Goals as goal
 
 pub returns-then-not-end_right : goal.returns-then-not-end_right

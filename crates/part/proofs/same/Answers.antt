@@ -1,13 +1,11 @@
 -- `part::same` meets its contract: the flags, then the bytes that are held.
 -- Assumes nothing.
 use mathlib.Core.Path.{◌≡◌, sym, ap, ◌∙◌}
-use borrow.Author.Tests.{not-true, not-false}
 use Prim.Native.Nat.{suc}
 use lib.Dec.{eqb}
 use Rattle.octets.specs.Octets.{equal}
 use Rattle.part.specs.Memory.{segment_at}
 use Rattle.part.specs.Asked.{same_flag, same_segment}
-use borrow.Author.Rules.{rules}
 use Rattle.part.proofs.same.Goals as goal
 
 pub returns-then-not-same_flag : goal.returns-then-not-same_flag

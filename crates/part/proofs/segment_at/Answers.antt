@@ -7,7 +7,6 @@ use lib.Dec.{eqb}
 use lib.ListN.{length, take, drop}
 use Rattle.part.specs.Memory.{place_of, length_of, segment_at}
 use Rattle.part.specs.laws.Inside.{place-lies}
-use borrow.Author.Rules.{rules}
 use Rattle.part.proofs.segment_at.Goals as goal
 
 pub place_of-at-requires : goal.place_of-at-requires

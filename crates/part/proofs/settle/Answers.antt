@@ -3,7 +3,6 @@
 use mathlib.Core.Path.{sym, ◌∙◌}
 use native.Mathlib.Omega.{arith}
 use Rattle.part.proofs.Laws.{pos, moved-known, moved-first, moved_down}
-use borrow.Author.Rules.{rules}
 use Rattle.part.proofs.settle.Goals as goal
 
 pub returns-then-old-ne0 : goal.returns-then-old-ne0
@@ -35,4 +34,6 @@ move_down-requires c = let h =
     c.if-old-lt2.false in omega arith
 
 pub returns : goal.returns
-returns c = let a = c.args in rw c.if-old-ne0.false (c.move_down.ensures ∙ sym (moved_down a.new.size a.old.end a.old.tail a.share.now c.if-new-eq0.false c.if-old-lt2.false))
+returns c = let a = c.args in
+    rw c.if-old-ne0.false (c.move_down.ensures
+    ∙ sym (moved_down a.new.size a.old.end a.old.tail a.share.now c.if-new-eq0.false c.if-old-lt2.false))

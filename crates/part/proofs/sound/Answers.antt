@@ -1,9 +1,7 @@
 -- `part::sound` meets its contract: the record is right, and what is in can be.
 -- Assumes nothing.
 use mathlib.Core.Path.{sym, ◌∙◌}
-use borrow.Author.Tests.{not-true, not-false}
 use Rattle.part.specs.Asked.{sound_part}
-use borrow.Author.Rules.{rules}
 use Rattle.part.proofs.sound.Goals as goal
 
 pub returns-then-not-record_right : goal.returns-then-not-record_right

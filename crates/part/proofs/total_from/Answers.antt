@@ -5,9 +5,8 @@ use Prim.Native.Nat.{◌-◌}
 use native.Mathlib.Omega.{arith}
 use lib.ListN.{length, take, drop, length-take, length-drop}
 use lib.Seq.{take_all}
-use Rattle.octets.specs.Octets.{largest_of, sum_of}
+use Rattle.octets.specs.Octets.{sum_of}
 use Rattle.octets.specs.laws.Marks.{sum-split, largest-part}
-use borrow.Author.Rules.{rules}
 use Rattle.part.proofs.total_from.Goals as goal
 
 pub slice_bounds-sum-end : goal.slice_bounds-sum-end

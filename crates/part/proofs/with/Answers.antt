@@ -1,6 +1,5 @@
 -- `part::with` meets its contract: the new record, settled within the bounds.
 -- Assumes nothing.
-use borrow.Author.Rules.{rules}
 use Rattle.part.proofs.with.Goals as goal
 
 pub returns-then-last : goal.returns-then-last

@@ -6,7 +6,6 @@ use Prim.Native.Nat.{ℕ, zero, suc, ◌-◌}
 use native.Mathlib.Omega.{arith}
 use Rattle.cut.specs.declared.Amount.TheVariants.{Known}
 use Rattle.cut.specs.Missing.{amount_of}
-use borrow.Author.Rules.{rules}
 use Rattle.queries.proofs.amount_of.Goals as goal
 
 -- what is not 0 is 1 more

@@ -2,7 +2,6 @@
 -- Assumes nothing.
 use mathlib.Core.Path.{ap}
 use Rattle.queries.specs.declared.Asked.TheVariants.{Denied}
-use borrow.Author.Rules.{rules}
 use Rattle.queries.proofs.asked_as.Goals as goal
 
 pub returns-in-Read : goal.returns-in-Read

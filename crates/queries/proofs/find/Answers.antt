@@ -1,11 +1,9 @@
 -- `queries::find` meets its contract: STATE, then the search.
 -- Assumes nothing.
 use mathlib.Core.Path.{sym, ap, ◌∙◌}
-use borrow.Author.Tests.{not-true, not-false}
 use Rattle.collector.specs.State.{stores, state}
 use Rattle.queries.specs.Questions.{sought_as, find}
 use Rattle.queries.specs.laws.Theorems.{cores-searched}
-use borrow.Author.Rules.{rules}
 use Rattle.queries.proofs.find.Goals as goal
 
 pub returns-then-not-is_sound : goal.returns-then-not-is_sound

@@ -2,14 +2,12 @@
 -- Assumes nothing.
 use mathlib.Core.Path.{refl, sym, ap, ◌∙◌}
 use native.Mathlib.Omega.{arith}
-use borrow.Author.Tests.{not-true, not-false}
 use Rattle.slots.specs.laws.Ready.{found_inside}
 use Rattle.slots.specs.Stores.{free_slot, slot_at}
 use Rattle.collector.specs.State.{stores, state}
 use Rattle.collector.specs.laws.State.{slots-sound}
 use Rattle.queries.specs.declared.Awaited.TheVariants.{Bytes}
 use Rattle.queries.specs.Missing.{missing}
-use borrow.Author.Rules.{rules}
 use Rattle.queries.proofs.missing.Goals as goal
 
 pub returns-then-not-is_sound : goal.returns-then-not-is_sound
@@ -28,8 +26,8 @@ returns-then-i-ge-SLOTS_MOST c =
     let lent = stores a.header a.body a.marks in
     let good = sym c.is_sound.ensures ∙ c.if-not-is_sound.false in
     let found = sym c.find.ensures ∙ c.in-At.is in
-    let slots = slots-sound (state a.t1 a.counts lent) good in
-    let within = found_inside a.t1.limit a.t1.count a.t1.slots lent slots a.number _ found in
+    let slots = slots-sound (state a.collector a.counts lent) good in
+    let within = found_inside a.collector.limit a.collector.count a.collector.slots lent slots a.number _ found in
     absurd (omega (arith, within.slot))
 
 pub returns : goal.returns

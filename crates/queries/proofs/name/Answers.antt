@@ -6,7 +6,6 @@ use Rattle.collector.specs.State.{stores, state}
 use Rattle.collector.specs.Calls.{show}
 use Rattle.queries.specs.Questions.{name}
 use Rattle.queries.specs.laws.Theorems.{core-shown}
-use borrow.Author.Rules.{rules}
 use Rattle.queries.proofs.name.Goals as goal
 
 pub returns-in_default : goal.returns-in_default

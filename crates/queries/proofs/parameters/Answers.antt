@@ -6,7 +6,6 @@ use Rattle.collector.specs.State.{stores, state}
 use Rattle.collector.specs.Calls.{show}
 use Rattle.queries.specs.Questions.{parameters}
 use Rattle.queries.specs.laws.Theorems.{core-shown}
-use borrow.Author.Rules.{rules}
 use Rattle.queries.specs.Said.{asked_as}
 use Rattle.queries.proofs.parameters.Goals as goal
 

@@ -1,6 +1,5 @@
 -- `queries::sought_as` meets its contract: nobody is NOTFOUND.
 -- Assumes nothing.
-use borrow.Author.Rules.{rules}
 use Rattle.queries.proofs.sought_as.Goals as goal
 
 pub returns-in-Number : goal.returns-in-Number

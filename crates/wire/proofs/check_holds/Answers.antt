@@ -4,7 +4,6 @@ use mathlib.Core.Path.{ap₂}
 use native.Mathlib.Omega.{arith}
 use lib.Dec.{eqb}
 use lib.ListN.{length-take}
-use borrow.Author.Rules.{rules}
 use Rattle.wire.specs.Reading.{check_holds}
 use Rattle.wire.proofs.check_holds.Goals as goal
 

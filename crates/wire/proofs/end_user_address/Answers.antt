@@ -4,14 +4,8 @@ use mathlib.Core.Path.{◌≡◌, refl, sym, ◌∙◌}
 use Prim.Native.Nat.{◌+◌, ◌-◌}
 use native.Mathlib.Omega.{arith}
 use Rattle.wire.specs.Reading.{address_of}
-use Rattle.wire.specs.laws.Theorems.{Inside, inside}
-use borrow.Author.Rules.{rules}
+use Rattle.wire.specs.laws.Theorems.{inside}
 use Rattle.wire.proofs.end_user_address.Goals as goal
-
-within : (k : goal.In-Read-2)
-    → Inside k.args.group.now k.in-Read.carried
-within k = inside k.args.group.now k.in-Read.carried
-    (sym k.read.ensures ∙ k.in-Read.is)
 
 pub returns-in_default : goal.returns-in_default
 unfolding address_of
@@ -19,7 +13,12 @@ returns-in_default c = rw (sym c.read.ensures ∙ c.in_default.is) refl
 
 pub overflow_add-end : goal.overflow_add-end
 overflow_add-end c =
-    let i = within c in
+    let i = inside c.args.group.now c.in-Read.carried (sym c.read.ensures ∙ c.in-Read.is) in
+    omega (arith, i.whole, i.address, i.ends)
+
+pub slice_bounds-result-end-2 : goal.slice_bounds-result-end-2
+slice_bounds-result-end-2 c =
+    let i = inside c.args.group.now c.in-Read.carried (sym c.read.ensures ∙ c.in-Read.is) in
     omega (arith, i.whole, i.address, i.ends)
 
 pub returns : goal.returns

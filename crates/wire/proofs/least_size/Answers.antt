@@ -4,11 +4,9 @@ use mathlib.Core.Path.{◌≡◌, refl}
 use mathlib.Core.Logic.{◌≢◌}
 use mathlib.Core.Bool.{true}
 use Prim.Native.Nat.{ℕ, zero, suc}
-use borrow.Author.Tests.{not-true, not-false}
 use Rattle.answer.specs.declared.Part.TheVariants.{Body}
 use Rattle.wire.specs.Wire.{segment_least}
 use Rattle.wire.specs.Reading.{least_size}
-use borrow.Author.Rules.{rules}
 use Rattle.wire.proofs.least_size.Goals as goal
 
 -- a later number of a body
@@ -17,19 +15,14 @@ later zero d = absurd (d refl)
 later (suc number) d = refl
 
 pub returns-then-not-last : goal.returns-then-not-last
-returns-then-not-last c = let a = c.args in rw (not-true a.last c.if-not-last.true) refl
+returns-then-not-last c = rw c.if-not-last.true refl
 
 pub returns-then-number-eq0 : goal.returns-then-number-eq0
-returns-then-number-eq0 c =
-    let a = c.args in
-    rw (c.in-Body.is, c.if-number-eq0.true, not-false a.last c.if-not-last.false) refl
+returns-then-number-eq0 c = rw (c.in-Body.is, c.if-number-eq0.true, c.if-not-last.false) refl
 
 pub returns-in-Header : goal.returns-in-Header
-returns-in-Header c = let a = c.args in
-    rw (c.in-Header.is, not-false a.last c.if-not-last.false) refl
+returns-in-Header c = rw (c.in-Header.is, c.if-not-last.false) refl
 
 pub returns-else-number-eq0 : goal.returns-else-number-eq0
 returns-else-number-eq0 c =
-    let a = c.args in
-    rw (c.in-Body.is, not-false a.last c.if-not-last.false)
-    (later a.number c.if-number-eq0.false)
+    rw (c.in-Body.is, c.if-not-last.false) (later c.args.number c.if-number-eq0.false)

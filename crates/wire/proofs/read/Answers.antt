@@ -1,8 +1,7 @@
 -- `wire::read` meets its contract: each way out has passed the tests before it and failed its own.
 -- Assumes nothing.
 use mathlib.Core.Path.{sym, ◌∙◌}
-use borrow.Author.Rules.{rules}
-use borrow.Author.Tests.{eq-eqb, ne_eqb, lt-ltb, le-ltb, not-true, not-false}
+use borrow.Author.Tests.{eq-eqb, ne_eqb, lt-ltb, le-ltb}
 use Rattle.wire.specs.Reading.{reading_of}
 use Rattle.wire.specs.laws.Session.{in-two-halves}
 use Rattle.wire.proofs.read.Goals as goal
@@ -13,7 +12,8 @@ returns-then-group-lt-GROUP_LEAST c = simp (lt-ltb _ _ c.if-group-lt-GROUP_LEAST
 
 pub returns-then-group-gt-GROUP_MOST : goal.returns-then-group-gt-GROUP_MOST
 unfolding reading_of
-returns-then-group-gt-GROUP_MOST c = simp (le-ltb _ _ c.if-group-lt-GROUP_LEAST.false, lt-ltb _ _ c.if-group-gt-GROUP_MOST.true)
+returns-then-group-gt-GROUP_MOST c =
+    simp (le-ltb _ _ c.if-group-lt-GROUP_LEAST.false, lt-ltb _ _ c.if-group-gt-GROUP_MOST.true)
 
 pub returns-then-flags-eq0 : goal.returns-then-flags-eq0
 unfolding reading_of

@@ -1,9 +1,7 @@
 -- `wire::segmentation` meets its contract: each way out has passed the tests before it and failed its own.
 -- Assumes nothing.
 use mathlib.Core.Path.{sym, ◌∙◌}
-use native.Mathlib.Omega.{arith}
 use Rattle.wire.proofs.Laws.{segment-past, size-refused, segment-read}
-use borrow.Author.Rules.{rules}
 use Rattle.wire.proofs.segmentation.Goals as goal
 
 pub returns-then-end-start : goal.returns-then-end-start

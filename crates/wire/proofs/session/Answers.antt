@@ -3,11 +3,7 @@
 use mathlib.Core.Path.{refl, ◌∙◌}
 use native.Mathlib.Omega.{arith}
 use Rattle.wire.proofs.Laws.{no-segment, no_access, access-past, no-transport, address-short, session-read}
-use borrow.Author.Rules.{rules}
 use Rattle.wire.proofs.session.Goals as goal
-
-abbrev start : goal.Else-flags-eq0-2 → goal.Start
-start c = c
 
 pub returns-then-flags-eq0 : goal.returns-then-flags-eq0
 returns-then-flags-eq0 c = no-segment c.args.group.now c.args.part c.if-flags-eq0.true
@@ -31,20 +27,17 @@ pub overflow_add-access-2 : goal.overflow_add-access-2
 overflow_add-access-2 c = omega (arith, c.type_inv.group 0)
 
 pub returns-then-end-access : goal.returns-then-end-access
-returns-then-end-access c = let s = start c in
-    access-past s.args.group.now s.args.part c.if-flags-eq0.false c.if-flags-eq0-2.false
+returns-then-end-access c = access-past c.args.group.now c.args.part c.if-flags-eq0.false c.if-flags-eq0-2.false
     c.if-end-access.true
 
 pub returns-then-group-access-eq0 : goal.returns-then-group-access-eq0
 returns-then-group-access-eq0 c =
-    let s = start c in
-    no-transport s.args.group.now s.args.part c.if-flags-eq0.false c.if-flags-eq0-2.false
+    no-transport c.args.group.now c.args.part c.if-flags-eq0.false c.if-flags-eq0-2.false
     c.if-end-access.false c.if-group-access-eq0.true
 
 pub returns-then-indicator-lt2 : goal.returns-then-indicator-lt2
 returns-then-indicator-lt2 c =
-    let s = start c in
-    address-short s.args.group.now s.args.part c.if-flags-eq0.false c.if-flags-eq0-2.false
+    address-short c.args.group.now c.args.part c.if-flags-eq0.false c.if-flags-eq0-2.false
     c.if-end-access.false c.if-group-access-eq0.false c.if-indicator-lt2.true
 
 pub segmentation-requires : goal.segmentation-requires
@@ -59,7 +52,6 @@ segmentation-requires c =
 
 pub returns : goal.returns
 returns c =
-    let s = start c in
     c.segmentation.ensures
-    ∙ session-read s.args.group.now s.args.part c.if-flags-eq0.false c.if-flags-eq0-2.false
+    ∙ session-read c.args.group.now c.args.part c.if-flags-eq0.false c.if-flags-eq0-2.false
     c.if-end-access.false c.if-group-access-eq0.false c.if-indicator-lt2.false

@@ -1,6 +1,5 @@
 -- `collector::Collector::answered` meets its contract: the answer is counted, and nothing else changes.
 -- Assumes nothing.
-use borrow.Author.Rules.{rules}
 use Rattle.collector.proofs.Collector.answered.Goals as goal
 
 pub returns : goal.returns

@@ -1,28 +1,24 @@
 -- `collector::Collector::dropped` meets its contract: STATE, NOTHELD, or the slot freed.
 -- Assumes nothing.
-use mathlib.Core.Path.{sym, ap, ◌∙◌}
-use mathlib.Core.List.{List}
-use Rattle.object.specs.declared.Slot.{Slot}
-use Rattle.slots.specs.Take.{DroppedAt}
+use mathlib.Core.Path.{sym, ◌∙◌}
+use Rattle.slots.specs.Stores.{stores}
 use Rattle.slots.specs.laws.Ready.{found_inside}
-use Rattle.collector.specs.State.{stores, state}
-use Rattle.collector.specs.Calls.{drop_number, with_slots}
+use Rattle.collector.specs.State.{state}
+use Rattle.collector.specs.Calls.{drop_number}
 use Rattle.collector.specs.laws.State.{slots-sound}
-use borrow.Author.Tests.{not-true, not-false}
-use borrow.Author.Rules.{rules}
 use Rattle.collector.proofs.Collector.dropped.Goals as goal
 
 pub returns-then-not-is_sound : goal.returns-then-not-is_sound
 unfolding drop_number
 returns-then-not-is_sound c =
     let a = c.args in rw (sym c.is_sound.ensures ∙ c.if-not-is_sound.true)
-    (c.answered.ensures (stores a.header a.body a.marks))
+    (c.answered.ensures (stores a.header.now a.body.now a.marks.now))
 
 pub returns-in_default : goal.returns-in_default
 unfolding drop_number
 returns-in_default c =
     let a = c.args in
-    let lent = stores a.header a.body a.marks in
+    let lent = stores a.header.now a.body.now a.marks.now in
     let good = sym c.is_sound.ensures ∙ c.if-not-is_sound.false in
     rw (good, sym c.find.ensures ∙ c.in_default.is)
     (c.answered-in_default.ensures lent)
@@ -30,7 +26,7 @@ returns-in_default c =
 pub drop_at-all-requires : goal.drop_at-all-requires
 drop_at-all-requires c =
     let a = c.args in
-    let lent = stores a.header a.body a.marks in
+    let lent = stores a.header.now a.body.now a.marks.now in
     let good = sym c.is_sound.ensures ∙ c.if-not-is_sound.false in
     let found = sym c.find.ensures ∙ c.in-At.is in
     let slots = slots-sound (state a.self a.counts lent) good in
@@ -40,8 +36,6 @@ drop_at-all-requires c =
 pub returns : goal.returns
 unfolding drop_number
 returns c =
-    let a = c.args in
-    let lent = stores a.header a.body a.marks in
     let good = sym c.is_sound.ensures ∙ c.if-not-is_sound.false in
     rw (good, sym c.find.ensures ∙ c.in-At.is, ← c.drop_at-all.ensures)
     (c.answered-2.ensures _)

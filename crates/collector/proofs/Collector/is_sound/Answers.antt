@@ -1,8 +1,6 @@
 -- `collector::Collector::is_sound` meets its contract: the slots, then the counts.
 -- Assumes nothing.
-use borrow.Author.Tests.{not-true, not-false}
 use mathlib.Core.Path.{sym, ◌∙◌}
-use borrow.Author.Rules.{rules}
 use Rattle.collector.specs.Calls.{sound}
 use Rattle.collector.proofs.Collector.is_sound.Goals as goal
 

@@ -2,13 +2,11 @@
 -- Assumes nothing.
 use Rattle.collector.specs.Calls.{locate}
 use Rattle.slots.specs.laws.Ready.{found_inside}
-use Rattle.slots.specs.Stores.{free_slot, slot_at}
-use Rattle.collector.specs.State.{stores, state}
+use Rattle.slots.specs.Stores.{stores, free_slot, slot_at}
+use Rattle.collector.specs.State.{state}
 use Rattle.collector.specs.laws.State.{slots-sound}
-use borrow.Author.Tests.{not-true, not-false}
 use native.Mathlib.Omega.{arith}
 use mathlib.Core.Path.{sym, ◌∙◌}
-use borrow.Author.Rules.{rules}
 use Rattle.collector.proofs.Collector.locate.Goals as goal
 
 pub returns-then-not-is_sound : goal.returns-then-not-is_sound
@@ -24,11 +22,11 @@ returns-in_default c =
 pub returns-then-i-ge-SLOTS_MOST : goal.returns-then-i-ge-SLOTS_MOST
 returns-then-i-ge-SLOTS_MOST c =
     let a = c.args in
-    let lent = stores a.header a.body a.marks in
+    let lent = stores a.header.now a.body.now a.marks.now in
     let good = sym c.is_sound.ensures ∙ c.if-not-is_sound.false in
     let found = sym c.find.ensures ∙ c.in-At.is in
-    let slots = slots-sound (state a.t1 a.counts lent) good in
-    let within = found_inside a.t1.limit a.t1.count a.t1.slots lent slots a.number _ found in
+    let slots = slots-sound (state a.self a.counts lent) good in
+    let within = found_inside a.self.limit a.self.count a.self.slots lent slots a.number _ found in
     absurd (omega (arith, within.slot))
 
 pub returns : goal.returns

@@ -1,9 +1,7 @@
 -- `collector::Collector::opened` meets its contract: LIMITS, or opened with marks and counts of 0.
 -- Assumes nothing.
 use Rattle.collector.specs.Calls.{open_with}
-use borrow.Author.Tests.{not-true, not-false}
 use mathlib.Core.Path.{sym, ◌∙◌}
-use borrow.Author.Rules.{rules}
 use Rattle.collector.proofs.Collector.opened.Goals as goal
 
 pub returns-then-not-within_limits : goal.returns-then-not-within_limits

@@ -2,7 +2,6 @@
 -- Assumes nothing.
 use mathlib.Core.Path.{sym, ◌∙◌}
 use Rattle.collector.specs.Calls.{show}
-use borrow.Author.Rules.{rules}
 use Rattle.collector.proofs.Collector.show.Goals as goal
 
 pub returns-in_default : goal.returns-in_default

@@ -2,19 +2,19 @@
 -- Assumes nothing.
 use mathlib.Core.Path.{refl, sym, ◌∙◌}
 use native.Mathlib.Omega.{arith}
-use Rattle.slots.specs.Stores.{fresh_slot}
+use Rattle.slots.specs.Stores.{stores, fresh_slot}
 use Rattle.slots.specs.Take.{take_new}
 use Rattle.slots.specs.laws.Ready.{sound-open}
 use Rattle.slots.specs.laws.Fresh.{fresh-offered}
-use Rattle.collector.specs.State.{stores}
 use Rattle.collector.proofs.Laws.{put_as}
-use borrow.Author.Tests.{not-true, not-false}
-use borrow.Author.Rules.{rules}
 use Rattle.collector.specs.Arrival.{arrival}
 use Rattle.collector.proofs.Collector.take_first.Goals as goal
 
 pub returns-then-not-fits_alone : goal.returns-then-not-fits_alone
-returns-then-not-fits_alone c = (omega arith, λ counts. rw (sym c.fits_alone.ensures ∙ c.if-not-fits_alone.true) refl)
+returns-then-not-fits_alone c = (
+  omega arith,
+  λ counts. rw (sym c.fits_alone.ensures ∙ c.if-not-fits_alone.true) refl,
+)
 
 pub returns-in_default : goal.returns-in_default
 returns-in_default c =
@@ -24,19 +24,19 @@ returns-in_default c =
 pub take_at-requires : goal.take_at-requires
 take_at-requires c =
     let a = c.args in
-    let lent = stores a.header a.body a.marks in
+    let lent = stores a.header.now a.body.now a.marks.now in
     let o = sound-open a.self.limit a.self.count a.self.slots lent c.requires _
-    (sym c.free.ensures ∙ c.in-At.is) in (
-      o.inside,
-      rw c.fresh_slot-fresh.ensures
-          (fresh-offered a.self.limit _ a.heard.number lent o),
-    )
+    (sym c.free.ensures ∙ c.in-At.is) in
+    record {
+      inside = o.inside;
+      offered = rw c.fresh_slot-fresh.ensures (fresh-offered a.self.limit _ a.heard.number lent o);
+    }
 
 pub returns : goal.returns
 unfolding take_new
 returns c =
     let a = c.args in
-    let lent = stores a.header a.body a.marks in
+    let lent = stores a.header.now a.body.now a.marks.now in
     let o = sound-open a.self.limit a.self.count a.self.slots lent c.requires _
     (sym c.free.ensures ∙ c.in-At.is) in
     let alone = sym c.fits_alone.ensures ∙ c.if-not-fits_alone.false in

@@ -3,12 +3,11 @@
 use Prim.Native.Nat.{◌+◌, ◌-◌}
 use mathlib.Core.Path.{◌≡◌, refl, sym, ap, ◌∙◌}
 use native.Mathlib.Omega.{arith}
+use Rattle.slots.specs.Stores.{stores}
 use Rattle.wire.specs.laws.Theorems.{inside}
-use Rattle.collector.specs.State.{stores, state}
+use Rattle.collector.specs.State.{state}
 use Rattle.collector.specs.Calls.{refusal_of, take_segment, take_group}
 use Rattle.collector.specs.laws.State.{slots-sound}
-use borrow.Author.Tests.{not-true, not-false}
-use borrow.Author.Rules.{rules}
 use Rattle.collector.proofs.Collector.take_group.Goals as goal
 
 pub returns-then-not-is_sound : goal.returns-then-not-is_sound
@@ -25,15 +24,18 @@ returns-in_default c =
 
 pub overflow_add-end : goal.overflow_add-end
 overflow_add-end c =
-    let a = c.args in
-    let carried = c.in-Read.carried in
     let read = sym c.read-reading.ensures ∙ c.in-Read.is in
-    let within = inside a.group.now _ read in omega (arith, within.ends)
+    let within = inside c.args.group.now _ read in omega arith
+
+pub slice_bounds-take_segment-end : goal.slice_bounds-take_segment-end
+slice_bounds-take_segment-end c =
+    let read = sym c.read-reading.ensures ∙ c.in-Read.is in
+    let within = inside c.args.group.now _ read in omega arith
 
 pub take_segment-requires : goal.take_segment-requires
 take_segment-requires c =
     let a = c.args in
-    let lent = stores a.header a.body a.marks in
+    let lent = stores a.header.now a.body.now a.marks.now in
     let good = sym c.is_sound.ensures ∙ c.if-not-is_sound.false in
     slots-sound (state a.self a.counts lent) good
 

@@ -2,12 +2,10 @@
 -- Assumes nothing.
 use mathlib.Core.Path.{refl, sym, ◌∙◌}
 use native.Mathlib.Omega.{arith}
-use Rattle.slots.specs.Stores.{free_slot, slot_at}
+use Rattle.slots.specs.Stores.{stores, free_slot, slot_at}
 use Rattle.slots.specs.Take.{take_at}
 use Rattle.slots.specs.laws.Ready.{sound-offered}
-use Rattle.collector.specs.State.{stores}
 use Rattle.collector.proofs.Laws.{put_as}
-use borrow.Author.Rules.{rules}
 use Rattle.collector.specs.Arrival.{arrival}
 use Rattle.collector.proofs.Collector.take_segment.Goals as goal
 
@@ -19,35 +17,35 @@ returns-in_default c =
 pub offset_bounds-self-i : goal.offset_bounds-self-i
 offset_bounds-self-i c =
     let a = c.args in
-    let lent = stores a.header a.body a.marks in
+    let lent = stores a.header.now a.body.now a.marks.now in
     let found = sym c.find.ensures ∙ c.in-At.is in
-    let o = sound-offered a.t1.limit a.t1.count a.t1.slots lent c.requires a.heard.number _ found in
+    let o = sound-offered a.self.limit a.self.count a.self.slots lent c.requires a.heard.number _ found in
     omega (arith, o.inside.slot)
 
 pub bounds-self-i : goal.bounds-self-i
 bounds-self-i c =
     let a = c.args in
-    let lent = stores a.header a.body a.marks in
+    let lent = stores a.header.now a.body.now a.marks.now in
     let found = sym c.find.ensures ∙ c.in-At.is in
-    let o = sound-offered a.t1.limit a.t1.count a.t1.slots lent c.requires a.heard.number _ found in
+    let o = sound-offered a.self.limit a.self.count a.self.slots lent c.requires a.heard.number _ found in
     o.inside.slot
 
 pub take_at-requires : goal.take_at-requires
 unfolding slot_at free_slot
 take_at-requires c =
     let a = c.args in
-    let lent = stores a.header a.body a.marks in
+    let lent = stores a.header.now a.body.now a.marks.now in
     let found = sym c.find.ensures ∙ c.in-At.is in
-    let o = sound-offered a.t1.limit a.t1.count a.t1.slots lent c.requires a.heard.number _ found in
-    (o.inside, o.offered)
+    let o = sound-offered a.self.limit a.self.count a.self.slots lent c.requires a.heard.number _ found in
+    record { inside = o.inside; offered = o.offered }
 
 pub returns : goal.returns
 unfolding take_at slot_at free_slot
 returns c =
     let a = c.args in
-    let lent = stores a.header a.body a.marks in
+    let lent = stores a.header.now a.body.now a.marks.now in
     let found = sym c.find.ensures ∙ c.in-At.is in
-    let o = sound-offered a.t1.limit a.t1.count a.t1.slots lent c.requires a.heard.number _ found in
+    let o = sound-offered a.self.limit a.self.count a.self.slots lent c.requires a.heard.number _ found in
     let i = c.in-At.i in
-    rw found (put_as a.t1 i (arrival a.heard a.repetition a.last a.bytes.now) lent
-    (slot_at i a.t1.slots) (slot_at i a.t1.slots) c.take_at.ensures refl o.inside.slot)
+    rw found (put_as a.self i (arrival a.heard a.repetition a.last a.bytes.now) lent
+    (slot_at i a.self.slots) (slot_at i a.self.slots) c.take_at.ensures refl o.inside.slot)

@@ -1,7 +1,6 @@
 -- `collector::Collector::taken` meets its contract: the change that the group comes to is made.
 -- Assumes nothing.
 use mathlib.Core.Path.{◌∙◌}
-use borrow.Author.Rules.{rules}
 use Rattle.collector.proofs.Collector.taken.Goals as goal
 
 pub changed-requires : goal.changed-requires

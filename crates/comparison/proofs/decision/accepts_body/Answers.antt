@@ -1,7 +1,5 @@
 -- `comparison::decision::accepts_body` meets its contract. Assumes nothing.
 use mathlib.Core.Path.{refl, sym, ◌∙◌}
-use borrow.Author.Rules.{rules}
-use borrow.Author.Tests.{not-true, not-false}
 use Rattle.comparison.proofs.decision.accepts_body.Goals as goal
 
 pub returns-then-not-joins : goal.returns-then-not-joins

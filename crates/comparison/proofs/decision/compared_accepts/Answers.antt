@@ -1,7 +1,6 @@
 -- `comparison::decision::compared_accepts` meets its contract. Assumes nothing.
 use mathlib.Core.Path.{refl, sym, ◌∙◌}
 use native.Mathlib.Omega.{arith}
-use borrow.Author.Rules.{rules}
 use borrow.Author.Tests.{lt-ltb, le-ltb}
 use Rattle.comparison.proofs.decision.compared_accepts.Goals as goal
 

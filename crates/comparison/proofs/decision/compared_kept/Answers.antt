@@ -1,6 +1,5 @@
 -- `comparison::decision::compared_kept` meets its contract. Assumes nothing.
 use native.Mathlib.Omega.{arith}
-use borrow.Author.Rules.{rules}
 use borrow.Author.Tests.{lt-ltb, le-ltb}
 use Rattle.comparison.proofs.decision.compared_kept.Goals as goal
 

@@ -1,6 +1,5 @@
 -- `comparison::decision::core_said` meets its contract. Assumes nothing.
 use mathlib.Core.Path.{refl}
-use borrow.Author.Rules.{rules}
 use Rattle.comparison.proofs.decision.core_said.Goals as goal
 
 pub returns-then-seen : goal.returns-then-seen

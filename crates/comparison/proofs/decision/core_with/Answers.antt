@@ -1,6 +1,5 @@
 -- `comparison::decision::core_with` meets its contract. Assumes nothing.
 use mathlib.Core.Path.{refl}
-use borrow.Author.Rules.{rules}
 use borrow.Author.Tests.{ne_eqb}
 use Rattle.comparison.proofs.decision.core_with.Goals as goal
 

@@ -1,4 +1,5 @@
 -- `comparison::decision::kept_field` meets its contract. Assumes nothing.
+use native.Mathlib.Omega.{arith}
 use borrow.Author.Tests.{ne_eqb}
 use Rattle.comparison.specs.Kept.{kept_field}
 use Rattle.comparison.proofs.decision.kept_field.Goals as goal
@@ -22,8 +23,8 @@ returns-in-3 c = rw c.in-3.is
 pub returns-in_default : goal.returns-in_default
 unfolding kept_field
 returns-in_default c = simp (
-  ne_eqb _ 0 c.in-0.rest.0.0.0.1,
-  ne_eqb _ 1 c.in-0.rest.0.0.1,
-  ne_eqb _ 2 c.in-0.rest.0.1,
-  ne_eqb _ 3 c.in-0.rest.1,
+  ne_eqb c.args.field 0 (omega arith),
+  ne_eqb c.args.field 1 (omega arith),
+  ne_eqb c.args.field 2 (omega arith),
+  ne_eqb c.args.field 3 (omega arith),
 )

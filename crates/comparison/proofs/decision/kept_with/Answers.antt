@@ -1,6 +1,5 @@
 -- `comparison::decision::kept_with` meets its contract. Assumes nothing.
 use mathlib.Core.Path.{refl}
-use borrow.Author.Rules.{rules}
 use Rattle.comparison.proofs.decision.kept_with.Goals as goal
 
 pub returns : goal.returns

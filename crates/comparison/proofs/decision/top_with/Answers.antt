@@ -1,6 +1,5 @@
 -- `comparison::decision::top_with` meets its contract. Assumes nothing.
 use native.Mathlib.Omega.{arith}
-use borrow.Author.Rules.{rules}
 use Rattle.comparison.proofs.decision.top_with.Goals as goal
 
 pub returns-then-number-top : goal.returns-then-number-top

@@ -6,7 +6,6 @@ use Prim.Native.Nat.{ℕ}
 use Rattle.header.specs.declared.Reading.{Reading}
 use Rattle.comparison.specs.Fields.{refusal_field}
 use Rattle.comparison.specs.Headers.{read_field, header_field}
-use borrow.Author.Rules.{rules}
 use borrow.Author.Tests.{lt-ltb, le-ltb}
 use Rattle.comparison.proofs.headers.compared_header.Goals as goal
 
@@ -19,7 +18,8 @@ unfolding header_field
 returns-in-Read c =
     let read = sym c.read.ensures ∙ c.in-Read.is in
     let field = c.args.field in
-    rw (le-ltb _ _ c.if-header-lt-CORE.false) (c.said_field.ensures ∙ sym (ap (λ (r : Reading). read_field r field) read))
+    rw (le-ltb _ _ c.if-header-lt-CORE.false)
+    (c.said_field.ensures ∙ sym (ap (λ (r : Reading). read_field r field) read))
 
 pub returns-in-Refused : goal.returns-in-Refused
 unfolding header_field

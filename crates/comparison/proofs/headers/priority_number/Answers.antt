@@ -1,6 +1,5 @@
 -- `comparison::headers::priority_number` meets its contract: a byte that is there is never 0.
 -- Assumes nothing.
-use borrow.Author.Rules.{rules}
 use Rattle.comparison.proofs.headers.priority_number.Goals as goal
 
 pub returns-in-Byte : goal.returns-in-Byte

@@ -1,8 +1,8 @@
 -- `comparison::headers::said_field` meets its contract, arm by arm.
 -- Assumes nothing.
+use native.Mathlib.Omega.{arith}
 use borrow.Author.Tests.{ne_eqb}
 use Rattle.comparison.specs.Headers.{said_field}
-use borrow.Author.Rules.{rules}
 use Rattle.comparison.proofs.headers.said_field.Goals as goal
 
 pub returns-in-1 : goal.returns-in-1
@@ -36,11 +36,11 @@ returns-in-7 c = rw c.in-7.is c.name_size.ensures
 pub returns-in_default : goal.returns-in_default
 unfolding said_field
 returns-in_default c = simp (
-  ne_eqb _ 1 c.in-1.rest.0.0.0.0.0.0.1,
-  ne_eqb _ 2 c.in-1.rest.0.0.0.0.0.1,
-  ne_eqb _ 3 c.in-1.rest.0.0.0.0.1,
-  ne_eqb _ 4 c.in-1.rest.0.0.0.1,
-  ne_eqb _ 5 c.in-1.rest.0.0.1,
-  ne_eqb _ 6 c.in-1.rest.0.1,
-  ne_eqb _ 7 c.in-1.rest.1,
+  ne_eqb c.args.field 1 (omega arith),
+  ne_eqb c.args.field 2 (omega arith),
+  ne_eqb c.args.field 3 (omega arith),
+  ne_eqb c.args.field 4 (omega arith),
+  ne_eqb c.args.field 5 (omega arith),
+  ne_eqb c.args.field 6 (omega arith),
+  ne_eqb c.args.field 7 (omega arith),
 )

@@ -1,7 +1,6 @@
 -- `object::decision::bounds_of` meets its contract. Assumes nothing.
 use mathlib.Core.Path.{refl}
 use Rattle.cut.specs.Kept.{bounds_of}
-use borrow.Author.Rules.{rules}
 use Rattle.object.proofs.decision.bounds_of.Goals as goal
 
 pub returns-in-Unseen : goal.returns-in-Unseen

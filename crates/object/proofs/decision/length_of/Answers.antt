@@ -3,7 +3,6 @@
 use mathlib.Core.Path.{refl, ◌∙◌}
 use native.Mathlib.Omega.{arith}
 use Rattle.object.proofs.decision.Laws.{unseen-length}
-use borrow.Author.Rules.{rules}
 use Rattle.part.proofs.record.length.Reads as length-reads
 use Rattle.object.proofs.decision.length_of.Goals as goal
 

@@ -8,7 +8,6 @@ use Rattle.answer.specs.declared.Part.TheVariants.{Header, Body}
 use Rattle.cut.specs.MissingKept.{missing_by}
 use Rattle.cut.specs.laws.Missing.{length-low}
 use Rattle.object.proofs.decision.Laws.{known-missing}
-use borrow.Author.Rules.{rules}
 use Rattle.object.proofs.decision.length_of.Reads as length-of-reads
 use Rattle.part.proofs.record.arrived.Reads as arrived-reads
 use Rattle.object.proofs.decision.missing.Goals as goal

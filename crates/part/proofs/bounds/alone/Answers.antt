@@ -5,7 +5,6 @@ use native.Mathlib.Omega.{arith}
 use Rattle.cut.specs.Decision.{alone, alone_tests}
 use Rattle.cut.specs.Lists.{all}
 use Rattle.part.proofs.bounds.Laws.{alone-in}
-use borrow.Author.Rules.{rules}
 use Rattle.part.proofs.bounds.alone.Goals as goal
 
 pub returns-then-p-eq0 : goal.returns-then-p-eq0

@@ -7,7 +7,6 @@ use borrow.Author.Tests.{leb-true, le-leb}
 use Rattle.cut.specs.Decision.{later_tests, largest}
 use Rattle.cut.specs.laws.Decision.{largest-high}
 use Rattle.part.proofs.bounds.Laws.{refused, granted}
-use borrow.Author.Rules.{rules}
 use Rattle.part.proofs.bounds.alone_later.Goals as goal
 
 pub returns-then-tail-lt1 : goal.returns-then-tail-lt1

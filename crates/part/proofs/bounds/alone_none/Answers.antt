@@ -5,7 +5,6 @@ use borrow.Author.Tests.{leb-true, le-leb}
 use Rattle.cut.specs.Decision.{nothing_tests}
 use Rattle.part.proofs.bounds.Laws.{refused, granted}
 use Rattle.cut.specs.laws.Decision.{false-true}
-use borrow.Author.Rules.{rules}
 use Rattle.part.proofs.bounds.alone_none.Goals as goal
 
 pub returns-then-b-lt1 : goal.returns-then-b-lt1

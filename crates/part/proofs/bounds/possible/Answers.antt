@@ -4,7 +4,6 @@ use Prim.Native.Nat.{ℕ}
 use lib.Dec.{leb}
 use Rattle.cut.specs.Decision.{possible}
 use Rattle.part.proofs.bounds.Laws.{possible-in}
-use borrow.Author.Rules.{rules}
 use Rattle.part.proofs.bounds.possible.Goals as goal
 
 pub returns-then-top-eq0 : goal.returns-then-top-eq0

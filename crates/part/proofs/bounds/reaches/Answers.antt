@@ -3,7 +3,6 @@ use mathlib.Core.Path.{sym}
 use native.Mathlib.Omega.{arith}
 use borrow.Author.Tests.{le-leb}
 use Rattle.part.proofs.bounds.Laws.{reach}
-use borrow.Author.Rules.{rules}
 use Rattle.part.proofs.bounds.reaches.Goals as goal
 
 pub returns-then-least-eq0 : goal.returns-then-least-eq0

@@ -3,7 +3,6 @@ use mathlib.Core.Path.{◌∙◌}
 use native.Mathlib.Omega.{arith}
 use Rattle.part.proofs.bounds.Laws.{room-none, room-not-in, room_in}
 use Rattle.cut.specs.Decision.{room}
-use borrow.Author.Rules.{rules}
 use Rattle.part.proofs.bounds.room.Goals as goal
 
 pub returns-then-p-lt-SIZE_LEAST : goal.returns-then-p-lt-SIZE_LEAST

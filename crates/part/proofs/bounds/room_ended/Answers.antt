@@ -5,7 +5,6 @@ use borrow.Author.Tests.{leb-true, le-leb}
 use Rattle.cut.specs.Decision.{ended_tests}
 use Rattle.cut.specs.laws.Decision.{pick-fails, pick-passes}
 use Rattle.part.proofs.bounds.Laws.{ends-past, ends-within}
-use borrow.Author.Rules.{rules}
 use Rattle.part.proofs.bounds.room_ended.Goals as goal
 
 pub returns-then-tail-lt1 : goal.returns-then-tail-lt1

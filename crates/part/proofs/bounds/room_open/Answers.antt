@@ -5,7 +5,6 @@ use native.Mathlib.Omega.{arith}
 use borrow.Author.Tests.{leb-true, le-leb}
 use Rattle.cut.specs.Decision.{open_tests}
 use Rattle.cut.specs.laws.Decision.{pick-fails, pick-passes, false-true}
-use borrow.Author.Rules.{rules}
 use Rattle.part.proofs.bounds.room_open.Goals as goal
 
 pub returns-then-b : goal.returns-then-b

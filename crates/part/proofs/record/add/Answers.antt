@@ -1,7 +1,6 @@
 -- `part::record::add` meets its contract. Assumes nothing.
 use mathlib.Core.Path.{refl}
 use native.Mathlib.Numerals.{add-one}
-use borrow.Author.Rules.{rules}
 use Rattle.part.proofs.record.add.Goals as goal
 
 pub returns-then-last : goal.returns-then-last

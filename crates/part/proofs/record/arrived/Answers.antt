@@ -2,7 +2,6 @@
 use Prim.Native.Nat.{◌-◌}
 use native.Mathlib.Omega.{arith}
 use Rattle.part.proofs.record.Laws.{before-low, arrived-open, arrived-none, arrived-ended}
-use borrow.Author.Rules.{rules}
 use Rattle.part.proofs.record.arrived.Goals as goal
 
 pub overflow_mul-result : goal.overflow_mul-result

@@ -2,7 +2,6 @@
 use mathlib.Core.Path.{◌∙◌}
 use native.Mathlib.Omega.{arith}
 use Rattle.part.proofs.record.Laws.{derived-none, derived-in, divided-known, divided-nothing, divided-unknown}
-use borrow.Author.Rules.{rules}
 use Rattle.part.proofs.record.derived.Goals as goal
 
 pub returns-then-end-lt2 : goal.returns-then-end-lt2

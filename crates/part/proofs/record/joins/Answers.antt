@@ -1,6 +1,5 @@
 -- `part::record::joins` meets its contract. Assumes nothing.
 use mathlib.Core.Path.{refl}
-use borrow.Author.Rules.{rules}
 use Rattle.part.proofs.record.joins.Goals as goal
 
 pub returns-then-last : goal.returns-then-last

@@ -2,7 +2,6 @@
 use native.Mathlib.Omega.{arith}
 use Rattle.cut.specs.laws.Missing.{whole-low}
 use Rattle.part.proofs.record.Laws.{length-first, length-unknown, length-later}
-use borrow.Author.Rules.{rules}
 use Rattle.part.proofs.record.length.Goals as goal
 
 pub overflow_cast-result : goal.overflow_cast-result

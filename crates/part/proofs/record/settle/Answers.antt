@@ -1,7 +1,6 @@
 -- `part::record::settle` meets its contract. Assumes nothing.
 use mathlib.Core.Path.{refl}
 use Rattle.cut.specs.Kept.{settle}
-use borrow.Author.Rules.{rules}
 use Rattle.part.proofs.record.settle.Goals as goal
 
 pub returns-then-full : goal.returns-then-full
