@@ -16,10 +16,6 @@ use Rattle.listing_input.specs.laws.Run.{over_nothing}
 use Rattle.listing.specs.declared.Held.{Held}
 use Rattle.listing.specs.Listed.{Served, served_by, state_of, served_as, served}
 
--- what is lent, by what it holds
-abbrev pub stores_of : List ℕ → List ℕ → List ℕ → Stores
-stores_of header body marks = record { header = header; body = body; marks = marks }
-
 told-group : (asked : Asked) (count : ℕ) → told asked ≡ Group count → (asked ≡ taking (left asked))
     × (count ≡ length (left asked))
 told-group (taking bytes) count e = (refl, cc)

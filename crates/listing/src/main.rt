@@ -6,15 +6,16 @@
 #![tactic(auto)]
 
 ghost use Rattle.std.specs.Prelude.{◌≡◌, ◌≤◌, length, take};
-ghost use Rattle.collector.specs.State.{stores};
-ghost use Rattle.listing.specs.Listed.{leaving, served, next_of, listed_as, line_listed, input_listed, end_listed, Reads};
+ghost use Rattle.slots.specs.Stores.{stores};
+ghost use Rattle.listing.specs.Listed.{leaving, served, next_of, Reads};
+ghost use Rattle.listing.specs.Listed.{listed_as, line_listed, input_listed, end_listed};
 
 use answer::Answer;
 use collector::Collector;
 use counts::Counts;
 use lent_calls::CountedAnswer;
 use listing_input::Line;
-use std::io::Read;
+use std::io::{Read, Stdin, Stdout};
 
 // What the collector is opened with.
 const SLOTS: usize = 2;
@@ -71,23 +72,23 @@ fn front(memory: &[u8], count: usize) -> &[u8]
 }
 
 // The first bytes of a line that was laid out. Where they can't be written the listing goes on.
-fn write(output: &impl Print, out: &[u8; 128], count: usize) {
+fn write(output: Stdout, out: &[u8; 128], count: usize) {
     let _ = output.write_all(front(out, count));
 }
 
-fn say(output: &impl Print, line: u64, answer: Answer) {
+fn say(output: Stdout, line: u64, answer: Answer) {
     let mut out = [0u8; 128];
     let count = listing_output::write_answer(line, answer, &mut out);
     write(output, &out, count);
 }
 
-fn say_malformed(output: &impl Print, line: u64) {
+fn say_malformed(output: Stdout, line: u64) {
     let mut out = [0u8; 128];
     let count = listing_output::write_malformed(line, &mut out);
     write(output, &out, count);
 }
 
-fn say_counts(output: &impl Print, held: Held) {
+fn say_counts(output: Stdout, held: Held) {
     let mut out = [0u8; 128];
     let counts = held.counts;
     let count = listing_output::write_counts(
@@ -102,7 +103,7 @@ fn say_counts(output: &impl Print, held: Held) {
 }
 
 // The answer is written, and what is held from then on handed back.
-fn say_done(output: &impl Print, line: u64, done: CountedAnswer) -> Held
+fn say_done(output: Stdout, line: u64, done: CountedAnswer) -> Held
     ensures { result ≡ record { collector = done.answered.collector; counts = done.counts } }
 {
     let counts = done.counts;
@@ -115,7 +116,7 @@ fn say_done(output: &impl Print, line: u64, done: CountedAnswer) -> Held
 
 // One line: what it asks for is done, and the answer written.
 fn list_line(
-    output: &impl Print,
+    output: Stdout,
     line: &[u8],
     group: &mut [u8; listing_input::GROUP_MOST],
     header: &mut [u8; HEADER_STORE],
@@ -124,8 +125,8 @@ fn list_line(
     number: u64,
     held: Held,
 ) -> Held
-    ensures { leaving result group.new (stores header.exit body.exit marks.exit)
-        ≡ served line.now held group.old (stores header.entry body.entry marks.entry) }
+    ensures { leaving result group.new (stores header.new body.new marks.new)
+        ≡ served line.now held group.old (stores header.old body.old marks.old) }
 {
     let collector = held.collector;
     let counts = held.counts;
@@ -154,7 +155,7 @@ fn list_line(
 
 // The line that is kept, which a newline or the input's end has ended.
 fn list_kept(
-    output: &impl Print,
+    output: Stdout,
     line: &[u8; listing_input::LINE_ROOM],
     group: &mut [u8; listing_input::GROUP_MOST],
     header: &mut [u8; HEADER_STORE],
@@ -163,9 +164,9 @@ fn list_kept(
     listing: Listing,
 ) -> Listing
     ensures { listed_as result line.now group.new
-        (stores header.exit body.exit marks.exit)
+        (stores header.new body.new marks.new)
         ≡ line_listed (listed_as listing line.now group.old
-        (stores header.entry body.entry marks.entry)) }
+        (stores header.old body.old marks.old)) }
 {
     let number = next(listing.lines);
     let kept = listing.kept;
@@ -189,7 +190,7 @@ fn list_kept(
 
 // The lines that a chunk of the input ends, and the start of the next one.
 fn list_chunk(
-    output: &impl Print,
+    output: Stdout,
     chunk: &[u8],
     line: &mut [u8; listing_input::LINE_ROOM],
     group: &mut [u8; listing_input::GROUP_MOST],
@@ -199,10 +200,10 @@ fn list_chunk(
     listing: Listing,
 ) -> Listing
     ensures { listed_as result line.new group.new
-        (stores header.exit body.exit marks.exit)
+        (stores header.new body.new marks.new)
         ≡ input_listed chunk.now
         (listed_as listing line.old group.old
-        (stores header.entry body.entry marks.entry)) }
+        (stores header.old body.old marks.old)) }
 {
     let mut now = listing;
     let mut from = 0;
@@ -219,8 +220,8 @@ fn list_chunk(
 
 // Reads once, and lists what came: nothing at the input's end, or where the read fails.
 fn list_some(
-    input: &mut impl Read,
-    output: &impl Print,
+    mut input: Stdin,
+    output: Stdout,
     chunk: &mut [u8; 65536],
     line: &mut [u8; listing_input::LINE_ROOM],
     group: &mut [u8; listing_input::GROUP_MOST],
@@ -231,10 +232,10 @@ fn list_some(
 ) -> Went
     ensures count_in_bounds { result.count ≤ length chunk.new }
     ensures marks_after { listed_as result.listing line.new group.new
-        (stores header.exit body.exit marks.exit)
+        (stores header.new body.new marks.new)
         ≡ input_listed (take result.count chunk.new)
         (listed_as listing line.old group.old
-        (stores header.entry body.entry marks.entry)) }
+        (stores header.old body.old marks.old)) }
 {
     let count = input.read(chunk).unwrap_or(0);
     Went {
@@ -255,8 +256,8 @@ fn list_some(
 // Lists to the input's end. A proved loop has to end, and nothing says that the input does: the
 // turns count down from a number that no run uses up.
 fn list_all(
-    input: &mut impl Read,
-    output: &impl Print,
+    input: Stdin,
+    output: Stdout,
     line: &mut [u8; listing_input::LINE_ROOM],
     group: &mut [u8; listing_input::GROUP_MOST],
     header: &mut [u8; HEADER_STORE],
@@ -265,14 +266,16 @@ fn list_all(
     listing: Listing,
 ) -> Listing
     ensures { Reads (listed_as listing line.old group.old
-        (stores header.entry body.entry marks.entry))
-        (listed_as result line.new group.new (stores header.exit body.exit marks.exit)) }
+        (stores header.old body.old marks.old))
+        (listed_as result line.new group.new (stores header.new body.new marks.new)) }
 {
     let mut chunk = [0u8; 65536];
     let mut now = listing;
     let mut turns = u64::MAX;
     while 0 < turns {
-        let went = list_some(input, output, &mut chunk, line, group, header, body, marks, now);
+        let went = list_some(
+            input, output, &mut chunk, line, group, header, body, marks, now,
+        );
         now = went.listing;
         if went.count == 0 {
             return now;
@@ -284,7 +287,7 @@ fn list_all(
 
 // The input's end ends a line of which there are characters.
 fn list_end(
-    output: &impl Print,
+    output: Stdout,
     line: &[u8; listing_input::LINE_ROOM],
     group: &mut [u8; listing_input::GROUP_MOST],
     header: &mut [u8; HEADER_STORE],
@@ -293,9 +296,9 @@ fn list_end(
     listing: Listing,
 ) -> Listing
     ensures { listed_as result line.now group.new
-        (stores header.exit body.exit marks.exit)
+        (stores header.new body.new marks.new)
         ≡ end_listed (listed_as listing line.now group.old
-        (stores header.entry body.entry marks.entry)) }
+        (stores header.old body.old marks.old)) }
 {
     if 0 < listing.kept {
         return list_kept(output, line, group, header, body, marks, listing);
@@ -304,6 +307,7 @@ fn list_end(
 }
 
 fn main(rt: HostRuntime) {
+    let output = rt.stdout();
     let mut line = [0u8; listing_input::LINE_ROOM];
     let mut group = [0u8; listing_input::GROUP_MOST];
     let mut header = [0u8; HEADER_STORE];
@@ -319,8 +323,8 @@ fn main(rt: HostRuntime) {
         held: Held { collector, counts },
     };
     let listed = list_all(
-        &mut rt.stdin(),
-        &rt,
+        rt.stdin(),
+        output,
         &mut line,
         &mut group,
         &mut header,
@@ -329,7 +333,7 @@ fn main(rt: HostRuntime) {
         start,
     );
     let ended = list_end(
-        &rt,
+        output,
         &line,
         &mut group,
         &mut header,
@@ -338,5 +342,5 @@ fn main(rt: HostRuntime) {
         listed,
     );
     let held = ended.held;
-    say_counts(&rt, held);
+    say_counts(output, held);
 }

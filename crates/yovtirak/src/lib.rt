@@ -5,9 +5,8 @@
 #![tactic(auto)]
 
 ghost use Rattle.std.specs.Prelude.{◌≡◌, ◌<◌, length};
-ghost use Rattle.slots.specs.Stores.{slot_at};
+ghost use Rattle.slots.specs.Stores.{stores, slot_at};
 ghost use Rattle.layout.specs.Layout.{words_of, count_words};
-ghost use Rattle.collector.specs.State.{stores};
 ghost use Rattle.yovtirak.specs.Exports.{called, opening_word, is_open, open_call, part_word, heard_word, repetition_word, returned_word, answer_word, changes, take_call, drop_call, refused_word, place_words, finished_call, priority_word, name_start, name_length, field_words, unread_word, read_call, sought_word, find_call, awaited_word, missing_call, refusal_word, address_call};
 ghost use Rattle.cut.specs.Lists.{pick};
 ghost use Rattle.cut.specs.Missing.{amount_kept};
@@ -165,9 +164,9 @@ pub extern "C" fn yovtirak_open(
     marks: &mut [u8],
 ) -> u64
     ensures { called result state.new counts.new
-        (stores header.entry body.entry marks.exit)
+        (stores header.now body.now marks.new)
         ≡ open_call limit slots state.old counts.old
-        (stores header.entry body.entry marks.entry) }
+        (stores header.now body.now marks.old) }
 {
     if state.len() != layout::STATE {
         return LIMITS;
@@ -195,9 +194,9 @@ pub extern "C" fn yovtirak_take(
     marks: &mut [u8],
 ) -> u64
     ensures { called result state.new counts.new
-        (stores header.exit body.exit marks.exit)
+        (stores header.new body.new marks.new)
         ≡ take_call group.now state.old counts.old
-        (stores header.entry body.entry marks.entry) }
+        (stores header.old body.old marks.old) }
 {
     if counts.len() != layout::COUNTS {
         return STATE;
@@ -222,9 +221,9 @@ pub extern "C" fn yovtirak_drop(
     marks: &mut [u8],
 ) -> u64
     ensures { called result state.new counts.new
-        (stores header.entry body.entry marks.exit)
+        (stores header.now body.now marks.new)
         ≡ drop_call number state.old counts.old
-        (stores header.entry body.entry marks.entry) }
+        (stores header.now body.now marks.old) }
 {
     if counts.len() != layout::COUNTS {
         return STATE;
@@ -269,9 +268,9 @@ pub extern "C" fn yovtirak_finished(
     marks: &[u8],
     place: &mut [u64],
 ) -> u64
-    ensures* { λ r. ⌜ record { result = r; told = place.new }
+    ensures { record { result = result; told = place.new }
         ≡ finished_call number state.now counts.now
-        (stores header.entry body.entry marks.entry) place.old ⌝ }
+        (stores header.now body.now marks.now) place.old }
 {
     if place.len() != 3 {
         return STATE;
@@ -355,9 +354,9 @@ pub extern "C" fn yovtirak_read<'a>(
     marks: &[u8],
     told: &mut [u64],
 ) -> u64
-    ensures* { λ r. ⌜ record { result = r; told = told.new }
+    ensures { record { result = result; told = told.new }
         ≡ read_call number state.now counts.now
-        (stores header.entry body.entry marks.entry) told.old ⌝ }
+        (stores header.now body.now marks.now) told.old }
 {
     if told.len() != 7 {
         return STATE;
@@ -398,7 +397,7 @@ pub extern "C" fn yovtirak_find(
     marks: &[u8],
 ) -> u64
     ensures { result ≡ find_call name.now state.now counts.now
-        (stores header.entry body.entry marks.entry) }
+        (stores header.now body.now marks.now) }
 {
     if counts.len() != layout::COUNTS {
         return STATE;
@@ -441,7 +440,7 @@ pub extern "C" fn yovtirak_missing(
     marks: &[u8],
 ) -> u64
     ensures { result ≡ missing_call number state.now counts.now
-        (stores header.entry body.entry marks.entry) }
+        (stores header.now body.now marks.now) }
 {
     if counts.len() != layout::COUNTS {
         return STATE;

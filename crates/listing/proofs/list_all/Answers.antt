@@ -1,9 +1,5 @@
 -- `listing::list_all` meets its contract: what the reads so far brought, one behind the other, made what is carried.
 -- The turns count down. Assumes nothing.
-use native.Mathlib.Omega.{arith}
-use borrow.Author.Rules.{rules}
-use Rattle.listing.specs.Listed.{listed_as, Reads}
-use Rattle.listing.proofs.Served.{stores_of}
 use Rattle.listing.specs.laws.Listed.{reads_none, reads_on}
 use Rattle.listing.proofs.list_all.Goals as goal
 

@@ -1,62 +1,55 @@
 -- `listing::list_chunk` meets its contract: what is left of the chunk makes the same of what is carried as the chunk
 -- made of what was carried at first. Each call of `gather` gets further in the chunk. Assumes nothing.
 use mathlib.Core.Path.{◌≡◌, refl, sym, subst, ◌∙◌}
-use mathlib.Core.List.{List, []}
-use Prim.Native.Nat.{ℕ, ◌-◌, ◌<◌}
+use mathlib.Core.List.{List}
+use Prim.Native.Nat.{ℕ, ◌<◌, ◌≤◌}
 use native.Mathlib.Omega.{arith}
 use lib.ListN.{length, drop, drop_of_length-le}
-use borrow.Author.Rules.{rules}
 use Rattle.listing_input.specs.declared.Gathered.{Gathered}
+use Rattle.listing_input.specs.Gather.{gathered}
 use Rattle.listing_input.specs.laws.Chunks.{further}
 use Rattle.listing.specs.Listed.{Listed, listed_as, input_listed}
-use Rattle.listing.proofs.Served.{stores_of}
+use Rattle.slots.specs.Stores.{stores}
 use Rattle.listing.specs.laws.Listed.{input_none, turn-ended, turn-kept}
 use Rattle.listing.proofs.list_chunk.Goals as goal
 
 pub loop-from-init : goal.loop-from-init
 loop-from-init c = refl
 
-abbrev chunk_of : goal.After-gather-gathered → List ℕ
-chunk_of c = c.args.chunk.now
-
-abbrev from-of : goal.After-gather-gathered → ℕ
-from-of c = c.loop-from.from
-
--- what the turn began with
-abbrev carried : goal.After-gather-gathered → Listed
-carried c = let loop = c.loop-from in
-    listed_as loop.now loop.line loop.group (stores_of loop.header loop.body loop.marks)
-
-further-on : (c : goal.After-gather-gathered) → from-of c < c.gather-gathered.result.next
-further-on c =
-    subst (λ (gathered : Gathered). from-of c < gathered.next) (sym c.gather-gathered.ensures.value)
-    (further (chunk_of c) (from-of c) (carried c).listing.auto c.loop-from-test.true)
+further-on : (chunk : List ℕ) (from kept : ℕ) (got : Gathered) → got ≡ gathered chunk from kept
+    → from < length chunk → from < got.next
+further-on chunk from kept got e some =
+    subst (λ (g : Gathered). from < g.next) (sym e) (further chunk from kept some)
 
 pub loop-from-smaller-then-gathered : goal.loop-from-smaller-then-gathered
-loop-from-smaller-then-gathered c = omega (
-  arith,
-  further-on c,
-  c.loop-from-test.true,
-)
+loop-from-smaller-then-gathered c =
+    let some = c.loop-from-test.true in
+    omega (arith, further-on _ _ _ _ c.gather-gathered.ensures.value some, some)
 
 pub loop-from-preserved-then-gathered : goal.loop-from-preserved-then-gathered
 loop-from-preserved-then-gathered c =
-    turn-ended (chunk_of c) (from-of c) (carried c) _ _ c.gather-gathered.ensures.value
-    c.gather-gathered.ensures.line_after _ c.if-gathered.true
-    c.list_kept-now.ensures
-    ∙ c.loop-from.invariant
+    let loop = c.loop-from in
+    let got = c.gather-gathered.ensures in
+    turn-ended c.args.chunk.now loop.from
+    (listed_as loop.now loop.line loop.group (stores loop.header loop.body loop.marks)) _ _ got.value got.line_after
+    _ c.if-gathered.true c.list_kept-now.ensures ∙ loop.invariant
 
 pub loop-from-smaller : goal.loop-from-smaller
-loop-from-smaller c = omega (arith, further-on c, c.loop-from-test.true)
+loop-from-smaller c =
+    let some = c.loop-from-test.true in
+    omega (arith, further-on _ _ _ _ c.gather-gathered.ensures.value some, some)
 
 pub loop-from-preserved : goal.loop-from-preserved
 loop-from-preserved c =
-    turn-kept (chunk_of c) (from-of c) (carried c) _ _ c.gather-gathered.ensures.value
-    c.gather-gathered.ensures.line_after c.if-gathered.false ∙ c.loop-from.invariant
+    let loop = c.loop-from in
+    let got = c.gather-gathered.ensures in
+    turn-kept c.args.chunk.now loop.from
+    (listed_as loop.now loop.line loop.group (stores loop.header loop.body loop.marks)) _ _ got.value got.line_after
+    c.if-gathered.false ∙ loop.invariant
+
+past_all : (chunk : List ℕ) (from : ℕ) (l m : Listed) → length chunk ≤ from → input_listed (drop from chunk) l ≡ m
+    → l ≡ m
+past_all chunk from l m past e = sym (input_none l) ∙ rw (← drop_of_length-le chunk {i = from} past) e
 
 pub returns : goal.returns
-returns c =
-    let loop = c.loop-from in
-    let none : drop loop.from c.args.chunk.now ≡ [] =
-    drop_of_length-le c.args.chunk.now {i = loop.from} c.loop-from-test.false in
-    sym (input_none _) ∙ rw (← none) loop.invariant
+returns c = past_all c.args.chunk.now c.loop-from.from _ _ c.loop-from-test.false c.loop-from.invariant

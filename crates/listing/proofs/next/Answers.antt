@@ -1,7 +1,6 @@
 -- `listing::next` meets its contract.
 -- Assumes nothing.
 use borrow.Author.Tests.{lt-ltb, le-ltb}
-use borrow.Author.Rules.{rules}
 use Rattle.listing.proofs.next.Goals as goal
 
 pub returns-then-number-lt18446744073709551615 : goal.returns-then-number-lt18446744073709551615

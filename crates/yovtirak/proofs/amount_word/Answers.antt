@@ -3,7 +3,6 @@
 use mathlib.Core.Path.{refl}
 use native.Mathlib.Numerals.{add-one}
 use native.Mathlib.Omega.{arith}
-use borrow.Author.Rules.{rules}
 use Rattle.yovtirak.proofs.amount_word.Goals as goal
 
 pub returns-in-Unknown : goal.returns-in-Unknown

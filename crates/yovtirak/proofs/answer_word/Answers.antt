@@ -2,7 +2,6 @@
 -- Assumes nothing.
 use mathlib.Core.Path.{refl}
 use native.Mathlib.Omega.{arith}
-use borrow.Author.Rules.{rules}
 use Rattle.yovtirak.proofs.answer_word.Goals as goal
 
 pub overflow_add-result : goal.overflow_add-result

@@ -2,7 +2,6 @@
 -- Assumes nothing.
 use mathlib.Core.Path.{ap}
 use Prim.Native.Nat.{ℕ, ◌*◌}
-use borrow.Author.Rules.{rules}
 use Rattle.yovtirak.proofs.awaited_word.Goals as goal
 
 pub returns-in-Bytes : goal.returns-in-Bytes

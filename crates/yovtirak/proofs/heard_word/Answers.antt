@@ -3,7 +3,6 @@
 use mathlib.Core.Path.{refl}
 use native.Mathlib.Omega.{arith}
 use Rattle.yovtirak.specs.laws.Exports.{part_small}
-use borrow.Author.Rules.{rules}
 use Rattle.yovtirak.proofs.heard_word.Goals as goal
 
 pub overflow_mul-result : goal.overflow_mul-result

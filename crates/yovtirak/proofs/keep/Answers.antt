@@ -1,8 +1,6 @@
 -- `yovtirak::keep` meets its contract.
 -- Assumes nothing.
 use mathlib.Core.Path.{refl, sym, ◌∙◌}
-use borrow.Author.Tests.{not-true, not-false}
-use borrow.Author.Rules.{rules}
 use Rattle.yovtirak.proofs.keep.Goals as goal
 
 pub returns-then-not-changes : goal.returns-then-not-changes

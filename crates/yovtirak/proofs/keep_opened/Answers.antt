@@ -1,8 +1,6 @@
 -- `yovtirak::keep_opened` meets its contract.
 -- Assumes nothing.
 use mathlib.Core.Path.{refl, sym, ◌∙◌}
-use borrow.Author.Tests.{not-true, not-false}
-use borrow.Author.Rules.{rules}
 use Rattle.yovtirak.proofs.keep_opened.Goals as goal
 
 pub returns-then-not-is_open : goal.returns-then-not-is_open

@@ -4,7 +4,6 @@ use native.Mathlib.Omega.{arith}
 use lib.ListN.{length-set}
 use Rattle.yovtirak.specs.Exports.{priority_word, name_start, name_length}
 use Rattle.yovtirak.specs.laws.Exports.{seven-put}
-use borrow.Author.Rules.{rules}
 use Rattle.yovtirak.proofs.put_fields.Goals as goal
 
 pub bounds-told-4 : goal.bounds-told-4

@@ -2,7 +2,6 @@
 -- Assumes nothing.
 use Rattle.layout.specs.Layout.{header_word, body_word}
 use Rattle.yovtirak.specs.laws.Exports.{three-put}
-use borrow.Author.Rules.{rules}
 use Rattle.yovtirak.proofs.put_place.Goals as goal
 
 pub returns : goal.returns

@@ -1,7 +1,6 @@
 -- `yovtirak::sought_word` meets its contract.
 -- Assumes nothing.
 use mathlib.Core.Path.{refl}
-use borrow.Author.Rules.{rules}
 use Rattle.yovtirak.proofs.sought_word.Goals as goal
 
 pub returns-in-Number : goal.returns-in-Number

@@ -5,15 +5,14 @@ use Rattle.slots.specs.Stores.{slot_at, free_slot}
 use Prim.Native.Nat.{◌≤◌}
 use native.Mathlib.Omega.{arith}
 use lib.ListN.{length, get_or-eq_default}
-use borrow.Author.Rules.{rules}
 use Rattle.yovtirak.proofs.stage_at.Goals as goal
 
 pub returns-then-i-ge-SLOTS_MOST : goal.returns-then-i-ge-SLOTS_MOST
 unfolding slot_at free_slot
 returns-then-i-ge-SLOTS_MOST c =
     let a = c.args in
-    let past : length a.t1 ≤ a.i = omega (arith, c.if-i-ge-SLOTS_MOST.true, c.well-formed.0.1.0.1) in
-    rw (get_or-eq_default a.t1 free_slot past) refl
+    let past : length a.slots ≤ a.i = omega arith in
+    rw (get_or-eq_default a.slots free_slot past) refl
 
 pub returns : goal.returns
 unfolding slot_at free_slot

@@ -2,15 +2,10 @@
 -- Assumes nothing.
 use mathlib.Core.Path.{refl, sym, ◌∙◌}
 use native.Mathlib.Omega.{arith}
-use Rattle.wire.specs.laws.Theorems.{Inside, inside}
+use Rattle.wire.specs.laws.Theorems.{inside}
 use Rattle.yovtirak.specs.Exports.{address_call}
 use borrow.Author.Rules.{rules}
 use Rattle.yovtirak.proofs.yovtirak_address.Goals as goal
-
-within : (k : goal.In-Read-2)
-    → Inside k.args.group.now k.in-Read.carried
-within k = inside k.args.group.now k.in-Read.carried
-    (sym k.read-reading.ensures ∙ k.in-Read.is)
 
 pub returns-in_default : goal.returns-in_default
 unfolding address_call
@@ -22,20 +17,19 @@ returns-in_default c = rw (
 
 pub overflow_mul-result : goal.overflow_mul-result
 overflow_mul-result c =
-    let i = within c in
+    let i = inside c.args.group.now c.in-Read.carried (sym c.read-reading.ensures ∙ c.in-Read.is) in
     record { fits = omega (arith, i.whole, i.address, i.ends, i.short) }
 
 pub overflow_mul-result-2 : goal.overflow_mul-result-2
 overflow_mul-result-2 c =
-    let i = within c in
+    let i = inside c.args.group.now c.in-Read.carried (sym c.read-reading.ensures ∙ c.in-Read.is) in
     record { fits = omega (arith, i.whole, i.address, i.ends, i.short) }
 
 pub overflow_add-result : goal.overflow_add-result
 overflow_add-result c =
-    let i = within c in
+    let i = inside c.args.group.now c.in-Read.carried (sym c.read-reading.ensures ∙ c.in-Read.is) in
     record { fits = omega (arith, i.whole, i.address, i.ends, i.short) }
 
 pub returns : goal.returns
 unfolding address_call
-returns c =
-    rw (sym c.read-reading.ensures ∙ c.in-Read.is) refl
+returns c = rw (sym c.read-reading.ensures ∙ c.in-Read.is) refl

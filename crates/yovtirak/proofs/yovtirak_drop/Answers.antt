@@ -9,11 +9,6 @@ use Rattle.yovtirak.specs.laws.Exports.{readable-length}
 use borrow.Author.Rules.{rules}
 use Rattle.yovtirak.proofs.yovtirak_drop.Goals as goal
 
--- the state's words hold one
-held : (e : goal.Else-not-readable) → readable
-    e.args.state.now ≡ true
-held e = sym e.readable.ensures ∙ e.if-not-readable.false
-
 pub returns-then-counts-ne-COUNTS : goal.returns-then-counts-ne-COUNTS
 unfolding drop_call
 returns-then-counts-ne-COUNTS c = rw (ne_eqb _ _ c.if-counts-ne-COUNTS.true) refl
@@ -26,12 +21,11 @@ returns-then-not-readable c = rw (
 ) refl
 
 pub collector_from-collector-requires : goal.collector_from-collector-requires
-collector_from-collector-requires c =
-    readable-length c.args.state.now (held c)
+collector_from-collector-requires c = readable-length c.args.state.now (sym c.readable.ensures ∙ c.if-not-readable.false)
 
 pub leave-requires : goal.leave-requires
 leave-requires c =
-    (readable-length c.args.state.now (held c), c.if-counts-ne-COUNTS.false)
+    (readable-length c.args.state.now (sym c.readable.ensures ∙ c.if-not-readable.false), c.if-counts-ne-COUNTS.false)
 
 pub returns : goal.returns
 unfolding drop_call left
@@ -39,7 +33,7 @@ returns c =
     let l = c.leave.ensures in
     rw (
       eq-eqb _ _ c.if-counts-ne-COUNTS.false,
-      held c,
+      sym c.readable.ensures ∙ c.if-not-readable.false,
       ← c.collector_from-collector.ensures,
       ← c.counts_from-before.ensures,
       ← c.dropped-after.ensures,

@@ -9,11 +9,6 @@ use Rattle.yovtirak.specs.laws.Exports.{readable-length}
 use borrow.Author.Rules.{rules}
 use Rattle.yovtirak.proofs.yovtirak_finished.Goals as goal
 
--- the state's words hold one
-held : (e : goal.Else-not-readable) → readable
-    e.args.state.now ≡ true
-held e = sym e.readable.ensures ∙ e.if-not-readable.false
-
 pub returns-then-place-ne3 : goal.returns-then-place-ne3
 unfolding finished_call
 returns-then-place-ne3 c = rw (ne_eqb _ _ c.if-place-ne3.true) refl
@@ -31,8 +26,7 @@ returns-then-not-readable c = rw (
 ) refl
 
 pub collector_from-collector-requires : goal.collector_from-collector-requires
-collector_from-collector-requires c =
-    readable-length c.args.state.now (held c)
+collector_from-collector-requires c = readable-length c.args.state.now (sym c.readable.ensures ∙ c.if-not-readable.false)
 
 pub returns-in_default : goal.returns-in_default
 unfolding finished_call
@@ -40,7 +34,7 @@ returns-in_default c =
     rw (
       eq-eqb _ _ c.if-place-ne3.false,
       eq-eqb _ _ c.if-counts-ne-COUNTS.false,
-      held c,
+      sym c.readable.ensures ∙ c.if-not-readable.false,
       ← c.collector_from-collector.ensures,
       ← c.counts_from-counted.ensures,
       ← c.locate-located.ensures,
@@ -54,10 +48,10 @@ returns c =
     rw (
       eq-eqb _ _ c.if-place-ne3.false,
       eq-eqb _ _ c.if-counts-ne-COUNTS.false,
-      held c,
+      sym c.readable.ensures ∙ c.if-not-readable.false,
       ← c.collector_from-collector.ensures,
       ← c.counts_from-counted.ensures,
       sym c.locate-located.ensures ∙ c.in-At.is,
       c.put_place.ensures,
-      c.Stage-at.ensures,
+      c.stage_at.ensures,
     ) refl

@@ -3,7 +3,6 @@
 use mathlib.Core.Path.{refl}
 use borrow.Author.Tests.{eq-eqb, ne_eqb}
 use Rattle.yovtirak.specs.Exports.{left_open, open_call}
-use borrow.Author.Rules.{rules}
 use Rattle.yovtirak.proofs.yovtirak_open.Goals as goal
 
 pub returns-then-state-ne-STATE : goal.returns-then-state-ne-STATE
@@ -23,6 +22,6 @@ returns c =
       ← c.counts_from-before.ensures,
       ← c.opened-opened.ensures,
       c.opening_word.ensures,
-      c.keep_Opened.ensures,
+      c.keep_opened.ensures,
       c.put_counts.ensures,
     ) refl

@@ -9,11 +9,6 @@ use Rattle.yovtirak.specs.laws.Exports.{readable-length}
 use borrow.Author.Rules.{rules}
 use Rattle.yovtirak.proofs.yovtirak_read.Goals as goal
 
--- the state's words hold one
-held : (e : goal.Else-not-readable) → readable
-    e.args.state.now ≡ true
-held e = sym e.readable.ensures ∙ e.if-not-readable.false
-
 pub returns-then-told-ne7 : goal.returns-then-told-ne7
 unfolding read_call
 returns-then-told-ne7 c = rw (ne_eqb _ _ c.if-told-ne7.true) refl
@@ -31,8 +26,7 @@ returns-then-not-readable c = rw (
 ) refl
 
 pub collector_from-collector-requires : goal.collector_from-collector-requires
-collector_from-collector-requires c =
-    readable-length c.args.state.now (held c)
+collector_from-collector-requires c = readable-length c.args.state.now (sym c.readable.ensures ∙ c.if-not-readable.false)
 
 pub returns-in_default : goal.returns-in_default
 unfolding read_call
@@ -40,7 +34,7 @@ returns-in_default c =
     rw (
       eq-eqb _ _ c.if-told-ne7.false,
       eq-eqb _ _ c.if-counts-ne-COUNTS.false,
-      held c,
+      sym c.readable.ensures ∙ c.if-not-readable.false,
       ← c.collector_from-collector.ensures,
       ← c.counts_from-counted.ensures,
       ← c.parameters-asked.ensures,
@@ -54,7 +48,7 @@ returns c =
     rw (
       eq-eqb _ _ c.if-told-ne7.false,
       eq-eqb _ _ c.if-counts-ne-COUNTS.false,
-      held c,
+      sym c.readable.ensures ∙ c.if-not-readable.false,
       ← c.collector_from-collector.ensures,
       ← c.counts_from-counted.ensures,
       sym c.parameters-asked.ensures ∙ c.in-Fields.is,
