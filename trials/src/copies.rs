@@ -5,6 +5,7 @@ use crate::edit::{applied, renamed, Edit};
 use crate::list::List;
 use crate::log::{verdict, Verdict};
 use crate::rounds::{Marks, Texts};
+use crate::source::{functions, Item};
 use std::collections::BTreeSet;
 use std::fs::{self, File};
 use std::io;
@@ -52,8 +53,10 @@ pub enum Scope {
     Whole,
     /// These functions, and what they call.
     Functions(Marks),
-    /// The modules of these theorems and definitions, each by its path with a name to cite, and what they rest on.
-    Specs(BTreeSet<(String, String)>),
+    /// These theorems, each its module's path and its name, the rest of their modules, and what they rest on.
+    Theorems(BTreeSet<(String, String)>),
+    /// These modules, each its path and a name to cite of it, and what they rest on.
+    Modules(BTreeSet<(String, String)>),
 }
 
 fn told<T>(path: &Path, result: io::Result<T>) -> Result<T, String> {
@@ -253,16 +256,18 @@ impl Copy<'_> {
         Ok(())
     }
 
-    /// Adds a function for whose sake these modules are checked, and nothing else, and a definition that rests on each
-    /// theorem, as the prover does not name all that rests on what it refuses.
-    fn cite(&self, modules: &BTreeSet<(String, String)>) -> Result<(), String> {
+    /// Adds a function for whose sake modules are checked, and nothing else. Where these are theorems', a definition rests
+    /// on each, as the prover does not name all that rests on what it refuses.
+    fn cite(&self, cited: &BTreeSet<(String, String)>, are_theorems: bool) -> Result<(), String> {
         let (module, function) = CITES;
         let specs = format!("Rattle.{}", self.name);
         let mut uses = String::from("use Rattle.std.specs.Prelude.{ℕ}\n");
         let mut rests = String::from("\npub rest : {A : Type 0} → A → ℕ\nrest cited = 0\n");
-        for (index, (path, name)) in modules.iter().enumerate() {
+        for (index, (path, name)) in cited.iter().enumerate() {
             uses += &format!("use {specs}.{path}.{{{name} as cited-{index}}}\n");
-            rests += &format!("\nrests-{index} : ℕ\nrests-{index} = rest cited-{index}\n");
+            if are_theorems {
+                rests += &format!("\nrests-{index} : ℕ\nrests-{index} = rest cited-{index}\n");
+            }
         }
         self.put(&format!("specs/{module}.antt"), &(uses + &rests))?;
         self.add("specs/Lib.antt", |text| format!("{text}pub mod {module}\n"))?;
@@ -278,15 +283,14 @@ impl Copy<'_> {
     pub fn check(&self, scope: &Scope) -> Result<Verdict, String> {
         let mut words = self.list.words(self.name, self.root_file()?)?;
         words.extend(["--incremental".into(), self.checked.clone().into()]);
-        let mut only = Marks::new();
-        match scope {
-            Scope::Whole => {}
-            Scope::Functions(functions) => only.extend(functions.iter().cloned()),
-            Scope::Specs(theorems) => {
-                self.cite(theorems)?;
-                only.insert(format!("{}/{}", CITES.1, CITES.1));
+        let only = match scope {
+            Scope::Whole => Marks::new(),
+            Scope::Functions(functions) => functions.clone(),
+            Scope::Theorems(cited) | Scope::Modules(cited) => {
+                self.cite(cited, matches!(scope, Scope::Theorems(_)))?;
+                Marks::from([format!("{}/{}", CITES.1, CITES.1)])
             }
-        }
+        };
         for path in only {
             words.extend(["--only".into(), path.replace('/', "::").into()]);
         }
@@ -298,11 +302,22 @@ impl Copy<'_> {
         command.args(words).current_dir(&self.place);
         let status = told(&prover, command.stdout(file).stderr(again).status())?;
         let log = told(&path, fs::read(&path))?;
-        Ok(verdict(
-            self.name,
-            status.code(),
-            &String::from_utf8_lossy(&log),
-        ))
+        let log = String::from_utf8_lossy(&log);
+        let at_line = |file: &str, line: usize| self.function_at(file, line);
+        Ok(verdict(self.name, status.code(), &log, at_line))
+    }
+
+    /// The function that has a line of a file.
+    fn function_at(&self, file: &str, line: usize) -> Option<String> {
+        let text = fs::read_to_string(self.place.join(file)).ok()?;
+        let start = text
+            .split_inclusive('\n')
+            .take(line - 1)
+            .map(str::len)
+            .sum();
+        let found = functions(file, &text).into_iter();
+        let mut with_line = found.filter(|function: &Item| function.whole.contains(&start));
+        with_line.next().map(|function| function.path)
     }
 
     /// Takes all away but what the prover said.

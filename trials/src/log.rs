@@ -8,9 +8,11 @@ use std::collections::BTreeMap;
 pub enum Why {
     /// Only what it calls or cites is refused.
     Rests,
+    /// No proof was found of a goal that its proof does not speak of.
+    Open,
     /// Only that its proof no longer goes along with the code: what it names is not there.
     Shape,
-    /// A fact does not hold, or no proof of it was found.
+    /// A fact does not hold.
     Fact,
 }
 
@@ -24,14 +26,23 @@ pub enum Verdict {
     Neither,
 }
 
-/// Reads what the check of a crate, or of a part of it, printed before it ended with a status.
-pub fn verdict(name: &str, status: Option<i32>, log: &str) -> Verdict {
+/// Reads what the check of a crate, or of a part of it, printed before it ended with a status. What the prover says of a
+/// line of the code is told of the function that has this line in this file.
+pub fn verdict(
+    name: &str,
+    status: Option<i32>,
+    log: &str,
+    at_line: impl Fn(&str, usize) -> Option<String>,
+) -> Verdict {
     let says = |start| log.lines().any(|line: &str| line.starts_with(start));
     match status {
         Some(0) if says("logic=proved") || says("only=") => Verdict::Proved,
         Some(1) if says("logic=not-proved") || says("only=") => {
             let mut refused = BTreeMap::new();
-            for (at, why) in messages(log).iter().flat_map(|said| faults(name, said)) {
+            for (at, why) in messages(log)
+                .iter()
+                .flat_map(|said| faults(name, said, &at_line))
+            {
                 let known = refused.entry(at).or_insert(why);
                 *known = why.max(*known);
             }
@@ -53,18 +64,32 @@ fn messages(log: &str) -> Vec<String> {
     messages
 }
 
-fn faults(name: &str, said: &str) -> Vec<(String, Why)> {
-    match said.strip_prefix(&format!("fn {name}::")) {
-        Some(rest) => unproved(rest).into_iter().collect(),
-        None => errors(said),
+fn faults(
+    name: &str,
+    said: &str,
+    at_line: impl Fn(&str, usize) -> Option<String>,
+) -> Vec<(String, Why)> {
+    if let Some(rest) = said.strip_prefix(&format!("fn {name}::")) {
+        return unproved(rest).into_iter().collect();
     }
+    if let Some((place, _)) = said.split_once(": it is not proved that ") {
+        let place = place.trim_start_matches("note: ").trim_start_matches("./");
+        let mut parts = place.split(':');
+        let (file, line) = (
+            parts.next(),
+            parts.next().and_then(|line| line.parse().ok()),
+        );
+        let function = file.zip(line).and_then(|(file, line)| at_line(file, line));
+        return function.map(|at| (at, Why::Open)).into_iter().collect();
+    }
+    errors(said)
 }
 
 /// A function for which the prover finds no proof.
 fn unproved(rest: &str) -> Option<(String, Why)> {
     let (path, said) = rest.split_once(": no proof")?;
     let why = if said.contains("`search` did not prove") {
-        Why::Fact
+        Why::Open
     } else if said.starts_with(": it calls ") {
         Why::Rests
     } else {
@@ -80,6 +105,7 @@ fn errors(said: &str) -> Vec<(String, Why)> {
         return Vec::new();
     };
     let file = place.strip_prefix("./").unwrap_or(place);
+    let file = file.split(':').next().unwrap_or_default();
     let Some((folder, _)) = file.rsplit_once('/') else {
         return Vec::new();
     };
@@ -93,6 +119,7 @@ fn errors(said: &str) -> Vec<(String, Why)> {
     if let Some((cause, left)) = said.split_once(" not checked: ") {
         let names = left.lines().next().unwrap_or_default();
         let names = names.split(" and ").flat_map(|part| part.split(", "));
+        let names = names.filter_map(|name| name.split(' ').next());
         let cause = cause.split('`').nth(1).map(str::to_string);
         let found = names.map(of).chain(cause);
         return found.map(|name| (name, Why::Rests)).collect();

@@ -44,7 +44,7 @@ pub fn outcome(edit: &Edit, marks: &Option<Marks>, verdict: &Verdict) -> Result<
     let is_its_own = |at: &String| marks.as_ref().is_none_or(|marks| marks.contains(at));
     let own = || refused.iter().filter(|(at, _)| is_its_own(at));
     let of = |why| own().find(|(_, other)| **other == why).map(|(at, _)| at);
-    let Some(fact) = of(Why::Fact) else {
+    let Some(fact) = of(Why::Fact).or_else(|| of(Why::Open)) else {
         return Err(match of(Why::Shape) {
             Some(at) => {
                 format!("REFUSED ONLY FOR ITS SHAPE: the proof of {at} no longer fits the code")
@@ -142,7 +142,7 @@ fn cited(texts: &Texts, theorem: &str) -> Option<(String, String)> {
 pub fn scopes(texts: &Texts, edits: &[(&Edit, Option<Marks>)]) -> Vec<Scope> {
     let theorem = |(edit, _): &(&Edit, Option<Marks>)| cited(texts, edit.at.as_ref()?);
     if let Some(theorems) = edits.iter().map(theorem).collect() {
-        return vec![Scope::Specs(theorems)];
+        return vec![Scope::Theorems(theorems)];
     }
     let changed = |(edit, marks): &(&Edit, Option<Marks>)| match edit.at {
         Some(_) => None,
@@ -157,7 +157,7 @@ pub fn scopes(texts: &Texts, edits: &[(&Edit, Option<Marks>)]) -> Vec<Scope> {
     };
     if edits.iter().all(is_of_specs) {
         let all = specs(texts).filter_map(|(file, text)| citable(file, text).next());
-        return vec![Scope::Specs(all.collect()), Scope::Whole];
+        return vec![Scope::Modules(all.collect()), Scope::Whole];
     }
     vec![Scope::Whole]
 }
