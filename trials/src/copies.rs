@@ -1,14 +1,13 @@
-//! Copies of a crate in which edits are made, each in a repository of its own, and checks of them. Such a check goes
-//! over what the prover already checked of the crate as it is, so that only what an edit touches is checked again.
+//! Copies of a crate in which edits are made, each in a folder of its own, and checks of them. Such a check goes over
+//! what the prover already checked of the crate as it is, so that only what an edit touches is checked again.
 
-use crate::edit::{applied, Edit};
+use crate::edit::{applied, renamed, Edit};
+use crate::list::List;
 use crate::log::{verdict, Verdict};
-use crate::rounds::Texts;
+use crate::rounds::{Marks, Texts};
 use std::collections::BTreeSet;
-use std::ffi::OsString;
 use std::fs::{self, File};
 use std::io;
-use std::os::unix::fs::symlink;
 use std::path::{Path, PathBuf};
 use std::process::Command;
 use std::sync::OnceLock;
@@ -19,12 +18,13 @@ pub const CONTROL: &str = "control";
 /// The folders of a crate that the prover reads.
 const PARTS: [&str; 3] = ["src", "specs", "proofs"];
 
+/// The module of specs and the function of a copy that cite theorems, so that these alone are checked.
+pub const CITES: (&str, &str) = ("Cites", "cites");
+
 /// Where copies are made, over the repository with the crates.
 pub struct Workshop {
-    root: PathBuf,
+    pub list: List,
     work: PathBuf,
-    /// What the prover calls its folder of checked modules, if that can be told.
-    folder: Option<OsString>,
 }
 
 /// A crate whose edits are tried.
@@ -39,8 +39,21 @@ pub struct Crate {
 
 /// A copy of a crate.
 pub struct Copy<'a> {
+    list: &'a List,
     name: &'a str,
     place: PathBuf,
+    /// What was checked of it, which a check goes over and adds to.
+    checked: PathBuf,
+}
+
+/// What of a copy is checked.
+#[derive(Clone, Debug, PartialEq)]
+pub enum Scope {
+    Whole,
+    /// These functions, and what they call.
+    Functions(Marks),
+    /// The modules of these theorems and definitions, each by its path with a name to cite, and what they rest on.
+    Specs(BTreeSet<(String, String)>),
 }
 
 fn told<T>(path: &Path, result: io::Result<T>) -> Result<T, String> {
@@ -75,10 +88,13 @@ fn copy_file(from: &Path, to: &Path) -> io::Result<()> {
     fs::copy(from, to).map(drop)
 }
 
-/// Gives a file a second name, where that can be. The prover never writes into a file of checked modules: it puts
-/// another in its place.
+/// Gives the file of a checked module a second name, where that can be. The prover never writes into such a file: it
+/// puts another in its place. Other files are copied.
 fn link_file(from: &Path, to: &Path) -> io::Result<()> {
-    fs::hard_link(from, to).or_else(|_| copy_file(from, to))
+    if from.extension().is_some_and(|kind| kind == "oantt") && fs::hard_link(from, to).is_ok() {
+        return Ok(());
+    }
+    copy_file(from, to)
 }
 
 /// Reads all files below a folder.
@@ -97,8 +113,8 @@ fn read_all(folder: &Path, called: &str, texts: &mut Texts) -> Result<(), String
 
 impl Crate {
     /// A crate with the edits of its folder.
-    pub fn read(root: &Path, name: &str) -> Result<Crate, String> {
-        let folder = root.join("crates").join(name);
+    pub fn read(list: &List, name: &str) -> Result<Crate, String> {
+        let folder = list.folder(name);
         let mut edits = Vec::new();
         for path in entries(&folder.join("refused")) {
             let label = path.file_stem().unwrap_or_default().to_string_lossy();
@@ -121,75 +137,35 @@ impl Crate {
 
 impl Workshop {
     /// An empty workshop in the repository.
-    pub fn new(root: &Path) -> Result<Workshop, String> {
+    pub fn new(root: &Path, list: List) -> Result<Workshop, String> {
         let work = root.join("target/refused");
         if work.exists() {
             told(&work, fs::remove_dir_all(&work))?;
         }
-        let mut workshop = Workshop {
-            root: root.to_path_buf(),
-            work,
-            folder: None,
-        };
-        workshop.folder = workshop.folder_of_checked()?;
-        Ok(workshop)
-    }
-
-    /// Reads the name of the prover's folder off the check of a crate in which nothing stands.
-    fn folder_of_checked(&self) -> Result<Option<OsString>, String> {
-        let copy = Copy {
-            name: "nothing",
-            place: self.work.join("nothing"),
-        };
-        let source = copy.path("src");
-        told(&source, fs::create_dir_all(&source))?;
-        for (path, text) in [
-            (copy.place.join("crates.txt"), "nothing:\n"),
-            (source.join("lib.rt"), ""),
-        ] {
-            told(&path, fs::write(&path, text))?;
-        }
-        copy.check()?;
-        let folders = entries(&copy.checked());
-        match &folders[..] {
-            [folder] => Ok(folder.file_name().map(OsString::from)),
-            _ => Ok(None),
-        }
+        Ok(Workshop { list, work })
     }
 
     /// A copy of a crate, over what the prover already checked of it.
-    pub fn copy<'a>(&self, of: &'a Crate, label: &str) -> Result<Copy<'a>, String> {
-        let copy = self.bare(of, label)?;
-        if !self.is_over_proof(&copy)? {
-            self.control(of)?;
-            let left = self.place(of, CONTROL).checked();
-            put_all(&left, &copy.checked(), link_file)?;
-        }
-        Ok(copy)
+    pub fn copy<'a>(&'a self, of: &'a Crate, label: &str) -> Result<Copy<'a>, String> {
+        let place = self.work.join(&of.name).join(label);
+        let checked = place.join("checked");
+        put_all(&self.kept(of), &checked, link_file)?;
+        self.over(of, place, checked)
     }
 
-    /// Lays a copy over the modules that were checked when its crate was proved, if they are kept: a library's are.
-    fn is_over_proof(&self, copy: &Copy) -> Result<bool, String> {
-        let kept = format!("target/rlib/{}.rlib/toolchain/checked", copy.name);
-        let kept = self.root.join(kept);
-        match &self.folder {
-            Some(folder) if kept.is_dir() => {
-                put_all(&kept, &copy.checked().join(folder), link_file)?;
-                Ok(true)
-            }
-            _ => Ok(false),
-        }
-    }
-
-    /// Checks the control of a crate, once: a copy in which nothing is wrong, only a comment more. Where it can't go
-    /// over what was checked before, the crate's other copies go over what this check leaves.
+    /// Checks the control of a crate, once: a copy in which nothing is wrong, only a comment more. The crate's other
+    /// copies go over what this check leaves, which itself goes over what is kept of the crate's last check.
     pub fn control(&self, of: &Crate) -> Result<Verdict, String> {
         let check = || {
-            let copy = self.bare(of, CONTROL)?;
-            let is_over_proof = self.is_over_proof(&copy)?;
-            copy.add_comment()?;
-            let verdict = copy.check()?;
-            if is_over_proof && verdict == Verdict::Proved {
+            let kept = self.kept(of);
+            put_all(&self.list.kept(&of.name), &kept, link_file)?;
+            let place = self.work.join(&of.name).join(CONTROL);
+            let copy = self.over(of, place, kept)?;
+            copy.add(copy.root_file()?, |text| {
+                format!("// A comment more.\n{text}")
+            })?;
+            let verdict = copy.check(&Scope::Whole)?;
+            if verdict == Verdict::Proved {
                 copy.clear();
             }
             Ok(verdict)
@@ -197,70 +173,53 @@ impl Workshop {
         of.control.get_or_init(check).clone()
     }
 
-    /// What the list of crates says of a crate. A copy's list says no more: what the crate stands on is proved, and is
-    /// not asked for again.
-    fn line(&self, of: &Crate) -> Result<String, String> {
-        let list = self.root.join("crates.txt");
-        let text = told(&list, fs::read_to_string(&list))?;
-        let is_its = |line: &&str| line.starts_with(&format!("{}:", of.name));
-        let line = text.lines().find(is_its);
-        Ok(format!(
-            "{}\n",
-            line.ok_or(format!("{} is not listed", of.name))?
-        ))
+    /// Where that stands which the copies of a crate go over.
+    fn kept(&self, of: &Crate) -> PathBuf {
+        self.work.join(&of.name).join("kept")
     }
 
-    fn place<'a>(&self, of: &'a Crate, label: &str) -> Copy<'a> {
-        Copy {
-            name: &of.name,
-            place: self.work.join(&of.name).join(label),
-        }
-    }
-
-    /// A copy of a crate, over nothing checked; all else in its repository is the project's own.
-    fn bare<'a>(&self, of: &'a Crate, label: &str) -> Result<Copy<'a>, String> {
-        let copy = self.place(of, label);
-        let own = self.root.join("crates").join(&of.name);
+    fn over<'a>(
+        &'a self,
+        of: &'a Crate,
+        place: PathBuf,
+        checked: PathBuf,
+    ) -> Result<Copy<'a>, String> {
         for part in PARTS {
-            put_all(&own.join(part), &copy.path(part), copy_file)?;
+            let own = self.list.folder(&of.name).join(part);
+            put_all(&own, &place.join(part), copy_file)?;
         }
-        for other in entries(&self.root.join("crates"))
-            .iter()
-            .filter(|other| **other != own)
-        {
-            let link = copy
-                .place
-                .join("crates")
-                .join(other.file_name().unwrap_or_default());
-            told(&link, symlink(other, &link))?;
+        Ok(Copy {
+            list: &self.list,
+            name: &of.name,
+            place,
+            checked,
+        })
+    }
+
+    /// Takes away what the copies of crates went over.
+    pub fn clear(&self, crates: &[Crate]) {
+        for of in crates {
+            let _ = fs::remove_dir_all(self.kept(of));
         }
-        let list = copy.place.join("crates.txt");
-        told(&list, fs::write(&list, self.line(of)?))?;
-        let target = copy.place.join("target");
-        told(&target, fs::create_dir_all(&target))?;
-        let built = self.root.join("target/rlib");
-        told(&target, symlink(built, target.join("rlib")))?;
-        Ok(copy)
     }
 }
 
 impl Copy<'_> {
-    fn path(&self, file: &str) -> PathBuf {
-        self.place.join("crates").join(self.name).join(file)
-    }
-
-    fn checked(&self) -> PathBuf {
-        self.place.join("target/inc").join(self.name)
-    }
-
-    fn text(&self, file: &str) -> Result<String, String> {
-        let path = self.path(file);
-        told(&path, fs::read_to_string(&path))
-    }
-
     fn put(&self, file: &str, text: &str) -> Result<(), String> {
-        let path = self.path(file);
+        let path = self.place.join(file);
         told(&path, fs::write(&path, text))
+    }
+
+    fn add(&self, file: &str, change: impl Fn(&str) -> String) -> Result<(), String> {
+        let path = self.place.join(file);
+        self.put(file, &change(&told(&path, fs::read_to_string(&path))?))
+    }
+
+    /// The file of the crate's code that names the others.
+    fn root_file(&self) -> Result<&'static str, String> {
+        let is_there = |file: &&str| self.place.join(file).exists();
+        let found = ["src/lib.rt", "src/main.rt"].into_iter().find(is_there);
+        found.ok_or(format!("{} has no code", self.name))
     }
 
     /// Makes edits, each as if it were the only one.
@@ -273,57 +232,82 @@ impl Copy<'_> {
                 .copied()
                 .filter(|change| change.file == *file)
                 .collect();
-            self.put(file, &applied(&self.text(file)?, &here)?)?;
+            let path = self.place.join(file);
+            let text = told(&path, fs::read_to_string(&path))?;
+            self.put(file, &applied(&text, &here)?)?;
         }
         Ok(())
     }
 
-    /// Empties a file, so that nothing of it is checked.
-    pub fn empty(&self, file: &str) -> Result<(), String> {
-        self.put(file, "")
+    /// Changes names in the proofs of functions.
+    pub fn rename(&self, functions: &Marks, names: &[(String, String)]) -> Result<(), String> {
+        for function in functions {
+            let folder = format!("proofs/{function}");
+            for path in entries(&self.place.join(&folder)) {
+                if path.is_file() {
+                    let text = told(&path, fs::read_to_string(&path))?;
+                    told(&path, fs::write(&path, renamed(&text, names)))?;
+                }
+            }
+        }
+        Ok(())
     }
 
-    /// Puts a hole in the place of a function's proof, so that nothing of it is checked.
-    pub fn leave_out(&self, function: &str) -> Result<(), String> {
-        let module = function.replace('/', ".");
-        let last = function.rsplit('/').next().unwrap_or(function);
-        let law = format!("{}-spec", last.replace('_', "-"));
-        let folder = self.path(&format!("proofs/{function}"));
-        told(&folder, fs::create_dir_all(&folder))?;
-        let path = folder.join("Proof.antt");
-        let text = format!(
-            "use Rattle·{}·proofs.proofs.{module}.Statement.{{statement}}\n\n\
-             pub {law} : {{M : Type 1}} → statement M\n{law} = ?\n",
-            self.name
-        );
-        told(&path, fs::write(&path, text))
+    /// Adds a function for whose sake these modules are checked, and nothing else, and a definition that rests on each
+    /// theorem, as the prover does not name all that rests on what it refuses.
+    fn cite(&self, modules: &BTreeSet<(String, String)>) -> Result<(), String> {
+        let (module, function) = CITES;
+        let specs = format!("Rattle.{}", self.name);
+        let mut uses = String::from("use Rattle.std.specs.Prelude.{ℕ}\n");
+        let mut rests = String::from("\npub rest : {A : Type 0} → A → ℕ\nrest cited = 0\n");
+        for (index, (path, name)) in modules.iter().enumerate() {
+            uses += &format!("use {specs}.{path}.{{{name} as cited-{index}}}\n");
+            rests += &format!("\nrests-{index} : ℕ\nrests-{index} = rest cited-{index}\n");
+        }
+        self.put(&format!("specs/{module}.antt"), &(uses + &rests))?;
+        self.add("specs/Lib.antt", |text| format!("{text}pub mod {module}\n"))?;
+        let text =
+            format!("ghost use {specs}.specs.{module}.{{rest}};\n\npub fn {function}() {{}}\n");
+        self.put(&format!("src/{function}.rt"), &text)?;
+        self.add(self.root_file()?, |text| {
+            format!("{text}\nmod {function};\n")
+        })
     }
 
-    fn add_comment(&self) -> Result<(), String> {
-        let is_there = |file: &&str| self.path(file).exists();
-        let file = ["src/lib.rt", "src/main.rt"].into_iter().find(is_there);
-        let file = file.ok_or("a crate has no code")?;
-        self.put(file, &format!("// A comment more.\n{}", self.text(file)?))
-    }
-
-    pub fn check(&self) -> Result<Verdict, String> {
+    /// Checks the copy, or a part of it.
+    pub fn check(&self, scope: &Scope) -> Result<Verdict, String> {
+        let mut words = self.list.words(self.name, self.root_file()?)?;
+        words.extend(["--incremental".into(), self.checked.clone().into()]);
+        let mut only = Marks::new();
+        match scope {
+            Scope::Whole => {}
+            Scope::Functions(functions) => only.extend(functions.iter().cloned()),
+            Scope::Specs(theorems) => {
+                self.cite(theorems)?;
+                only.insert(format!("{}/{}", CITES.1, CITES.1));
+            }
+        }
+        for path in only {
+            words.extend(["--only".into(), path.replace('/', "::").into()]);
+        }
         let path = self.place.join("log");
         let file = told(&path, File::create(&path))?;
         let again = told(&path, file.try_clone())?;
-        let mut command = Command::new("rt");
-        command.args(["dev", self.name]).current_dir(&self.place);
-        let status = told(Path::new("rt"), command.stdout(file).stderr(again).status())?;
+        let prover = self.list.prover();
+        let mut command = Command::new(&prover);
+        command.args(words).current_dir(&self.place);
+        let status = told(&prover, command.stdout(file).stderr(again).status())?;
         let log = told(&path, fs::read(&path))?;
         Ok(verdict(
             self.name,
-            status.success(),
+            status.code(),
             &String::from_utf8_lossy(&log),
         ))
     }
 
     /// Takes all away but what the prover said.
     pub fn clear(&self) {
-        for part in ["crates", "target"] {
+        for part in PARTS.into_iter().chain(["checked"]) {
             let _ = fs::remove_dir_all(self.place.join(part));
         }
     }

@@ -3,6 +3,7 @@
 //! ```text
 //! # why the program is then wrong
 //! at: THEOREM
+//! named: NAME NAME
 //! file: src/lib.rt
 //! in: FUNCTION
 //! old: TEXT
@@ -11,7 +12,10 @@
 //!
 //! A line `file:` holds for what follows, and so does a line `in:` up to the next `file:`. Without `in:` the old
 //! text must stand in the file exactly once, with it in that function, or in that definition, exactly once. A line
-//! `at:` names the theorem that must be among what is refused. Several pairs of `old:` and `new:` are one edit.
+//! `at:` names the theorem that must be among what is refused. Several pairs of `old:` and `new:` are one edit. The
+//! prover names the facts of a test after the test's text, so a proof cites `if-a-b` for `a < b`: a line `named:` has the
+//! part of such names that an edit changes, as `a-b`, and what it becomes, and the changed function's proof is changed
+//! alike. Else it would be refused for its names alone.
 
 use crate::source;
 use std::ops::Range;
@@ -31,6 +35,8 @@ pub struct Edit {
     pub name: String,
     /// The theorem that must be among what is refused.
     pub at: Option<String>,
+    /// Parts of names that the proof of what is changed has, each with what it becomes.
+    pub names: Vec<(String, String)>,
     pub changes: Vec<Change>,
 }
 
@@ -48,6 +54,10 @@ impl Edit {
             match word {
                 "at" => edit.at = Some(rest.to_string()),
                 "file" => (file, within) = (Some(rest.to_string()), None),
+                "named" => {
+                    let (old, new) = rest.split_once(' ').ok_or("two names are not told")?;
+                    edit.names.push((old.to_string(), new.to_string()));
+                }
                 "in" => within = Some(rest.to_string()),
                 "old" if old.is_none() => old = Some(rest.to_string()),
                 "new" => edit.changes.push(Change {
@@ -86,6 +96,35 @@ impl Change {
             _ => Err(format!("the old text is not in {whose}")),
         }
     }
+}
+
+/// The text of a proof with parts of names changed, where they stand between dashes or at a name's ends.
+pub fn renamed(text: &str, names: &[(String, String)]) -> String {
+    let is_of_name = |letter: char| letter.is_alphanumeric() || "_-'".contains(letter);
+    let mut whole = String::new();
+    let mut rest = text;
+    while let Some(start) = rest.find(is_of_name) {
+        whole += &rest[..start];
+        rest = &rest[start..];
+        let (name, after) = rest.split_at(
+            rest.find(|letter| !is_of_name(letter))
+                .unwrap_or(rest.len()),
+        );
+        whole += &of_parts(name, names);
+        rest = after;
+    }
+    whole + rest
+}
+
+fn of_parts(name: &str, names: &[(String, String)]) -> String {
+    let whole = format!("-{name}-");
+    for (old, new) in names {
+        if let Some((before, after)) = whole.split_once(&format!("-{old}-")) {
+            let changed = format!("{before}-{new}-{after}");
+            return changed.trim_matches('-').to_string();
+        }
+    }
+    name.to_string()
 }
 
 /// The text of a file with each new text in its old one's place. All old texts are those of the file as it is.

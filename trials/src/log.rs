@@ -1,5 +1,6 @@
 //! What the prover said of a crate: whether it is proved, and if not, what is at fault and why.
 
+use crate::copies::CITES;
 use std::collections::BTreeMap;
 
 /// Why something is refused.
@@ -7,7 +8,7 @@ use std::collections::BTreeMap;
 pub enum Why {
     /// Only what it calls or cites is refused.
     Rests,
-    /// Only that its proof no longer goes along with the code: what it names is not there, or is something else.
+    /// Only that its proof no longer goes along with the code: what it names is not there.
     Shape,
     /// A fact does not hold, or no proof of it was found.
     Fact,
@@ -23,20 +24,20 @@ pub enum Verdict {
     Neither,
 }
 
-/// Reads what the check of a crate printed.
-pub fn verdict(name: &str, succeeded: bool, log: &str) -> Verdict {
+/// Reads what the check of a crate, or of a part of it, printed before it ended with a status.
+pub fn verdict(name: &str, status: Option<i32>, log: &str) -> Verdict {
     let says = |start| log.lines().any(|line: &str| line.starts_with(start));
-    if succeeded && says("logic=proved") {
-        Verdict::Proved
-    } else if !succeeded && says("logic=not-proved") {
-        let mut refused = BTreeMap::new();
-        for (at, why) in messages(log).iter().filter_map(|said| fault(name, said)) {
-            let known = refused.entry(at).or_insert(why);
-            *known = why.max(*known);
+    match status {
+        Some(0) if says("logic=proved") || says("only=") => Verdict::Proved,
+        Some(1) if says("logic=not-proved") || says("only=") => {
+            let mut refused = BTreeMap::new();
+            for (at, why) in messages(log).iter().flat_map(|said| faults(name, said)) {
+                let known = refused.entry(at).or_insert(why);
+                *known = why.max(*known);
+            }
+            Verdict::Refused(refused)
         }
-        Verdict::Refused(refused)
-    } else {
-        Verdict::Neither
+        _ => Verdict::Neither,
     }
 }
 
@@ -52,55 +53,86 @@ fn messages(log: &str) -> Vec<String> {
     messages
 }
 
-fn fault(name: &str, said: &str) -> Option<(String, Why)> {
+fn faults(name: &str, said: &str) -> Vec<(String, Why)> {
     match said.strip_prefix(&format!("fn {name}::")) {
-        Some(rest) => unproved(rest),
-        None => error(name, said),
+        Some(rest) => unproved(rest).into_iter().collect(),
+        None => errors(said),
     }
 }
 
-/// A function that has no proof in a file, and for which the prover finds none.
+/// A function for which the prover finds no proof.
 fn unproved(rest: &str) -> Option<(String, Why)> {
     let (path, said) = rest.split_once(": no proof")?;
-    let why = if said.contains("; it calls ") {
-        Why::Rests
-    } else if said.contains("`search` does not close") {
+    let why = if said.contains("`search` did not prove") {
         Why::Fact
+    } else if said.starts_with(": it calls ") {
+        Why::Rests
     } else {
         Why::Shape
     };
     Some((path.replace("::", "/"), why))
 }
 
-/// An error in a proof, or in a definition or theorem.
-fn error(name: &str, said: &str) -> Option<(String, Why)> {
-    let (place, said) = said.split_once(": error: ")?;
-    let (_, file) = place.split_once(&format!("/crates/{name}/"))?;
-    let (declared, said) = said.strip_prefix('`')?.split_once('`')?;
-    let (folder, _) = file.rsplit_once('/')?;
-    let at = match folder.strip_prefix("proofs/") {
+/// An error in a proof, or in a definition or theorem, or what was not checked for another's sake. Errors of other
+/// crates have other paths.
+fn errors(said: &str) -> Vec<(String, Why)> {
+    let Some((place, said)) = said.split_once(": error: ") else {
+        return Vec::new();
+    };
+    let file = place.strip_prefix("./").unwrap_or(place);
+    let Some((folder, _)) = file.rsplit_once('/') else {
+        return Vec::new();
+    };
+    let of = |declared: &str| match folder.strip_prefix("proofs/") {
         Some(function) => function.to_string(),
         None => declared.to_string(),
     };
-    let why = if said.contains("was not admitted") {
+    if !folder.starts_with("proofs") && !folder.starts_with("specs") {
+        return Vec::new();
+    }
+    if let Some((cause, left)) = said.split_once(" not checked: ") {
+        let names = left.lines().next().unwrap_or_default();
+        let names = names.split(" and ").flat_map(|part| part.split(", "));
+        let cause = cause.split('`').nth(1).map(str::to_string);
+        let found = names.map(of).chain(cause);
+        return found.map(|name| (name, Why::Rests)).collect();
+    }
+    if file == format!("specs/{}.antt", CITES.0) {
+        return Vec::new();
+    }
+    let declared = said
+        .strip_prefix('`')
+        .and_then(|rest| rest.split_once("`: "));
+    let (at, why) = match declared {
+        Some((at, why)) => (at, why),
+        // What can't be read has no name.
+        None => return vec![(of(file), Why::Shape)],
+    };
+    let why = if why.contains(" was not admitted") {
         Why::Rests
-    } else if is_of_shape(said) {
+    } else if is_of_shape(why) {
         Why::Shape
     } else {
         Why::Fact
     };
-    Some((at, why))
+    vec![(of(at), why)]
 }
 
-/// Whether an error says only that a proof does not go along with the code: it names a need, or a moment of the walk
-/// through the code, that is not there, or it gives one need's proof for another's.
+/// Whether an error says only that a name is not there, so that a proof does not go along with the code, or a text
+/// can't be read.
 fn is_of_shape(said: &str) -> bool {
-    let made = [".Tie`", ".Lts", ".Code`", ".Reads`"];
-    let lacks = (said.contains(" has no `") || said.contains(" has no field `"))
-        && made.iter().any(|part| said.contains(part));
-    let is_need = |before: &str| {
-        said.split_once(before)
-            .is_some_and(|(_, rest)| rest.starts_with("`tie.Need-"))
-    };
-    lacks || (is_need("expected type ") && is_need("this has type "))
+    let lacks = [
+        "` is not in scope",
+        " has no field `",
+        " has no `",
+        " can be named from here",
+        " cannot be named here",
+        " is no name",
+        "operand is missing",
+        "expected the end",
+        "cannot continue",
+    ];
+    let first = said.lines().next().unwrap_or_default();
+    let shown = first.replace("is not in scope here, so what is shown", "");
+    lacks.iter().any(|part| shown.contains(part))
 }

@@ -9,34 +9,57 @@
 //! so that nothing is refused for the way in which it is tried.
 
 use std::collections::VecDeque;
-use std::path::Path;
+use std::path::{Path, PathBuf};
 use std::process::Command;
 use std::sync::Mutex;
 use std::{env, fs, thread};
 use trials::copies::{Crate, Workshop};
+use trials::list::List;
 use trials::trial::{rounds_of, tried, Said, Trial};
 
-/// The crates that have edits, top to bottom: the higher a crate stands, the longer its checks take.
-fn with_edits(root: &Path) -> Result<Vec<String>, String> {
-    let list =
-        fs::read_to_string(root.join("crates.txt")).map_err(|why| format!("crates.txt: {why}"))?;
-    let named = list.lines().filter(|line| !line.starts_with('#'));
-    let names = named
-        .filter_map(|line| line.split_once(':'))
-        .map(|(name, _)| name);
-    let has_edits = |name: &&str| root.join("crates").join(name).join("refused").is_dir();
-    Ok(names.filter(has_edits).map(str::to_string).rev().collect())
+/// The kit that the crates are proved with: the folder of the one `rt` that is found as a command.
+fn kit() -> Result<PathBuf, String> {
+    let path = env::var_os("PATH").unwrap_or_default();
+    let mut found = env::split_paths(&path).map(|folder| folder.join("rt"));
+    let rt = found.find(|file| file.is_file()).ok_or("there is no rt")?;
+    let rt = fs::canonicalize(&rt).map_err(|why| format!("{}: {why}", rt.display()))?;
+    let kit = rt.parent().and_then(Path::parent);
+    Ok(kit.ok_or("rt lies in no kit")?.to_path_buf())
 }
 
-/// Proves crates as they are, where they are not yet proved.
-fn prove(names: &[String]) -> Result<(), String> {
-    let output = Command::new("rt").arg("check").args(names).output();
-    let output = output.map_err(|why| format!("rt: {why}"))?;
+/// Has `rt` do its work in a crate's folder.
+fn rt(list: &List, name: &str, verb: &str) -> Result<(), String> {
+    let mut command = Command::new("rt");
+    command.arg(verb).current_dir(list.folder(name));
+    let output = command.output().map_err(|why| format!("rt: {why}"))?;
     if output.status.success() {
         return Ok(());
     }
     print!("{}", String::from_utf8_lossy(&output.stdout));
-    Err("the crates are not proved as they are".into())
+    Err(format!("{name} is not proved as it is"))
+}
+
+/// Builds the libraries that crates stand on, where they are not yet built, and checks the crates of which nothing
+/// checked is kept.
+fn prepare(list: &List, names: &[String]) -> Result<(), String> {
+    for name in &list.names {
+        if names
+            .iter()
+            .any(|one| list.below(one).contains(&name.as_str()))
+        {
+            rt(list, name, "lib")?;
+        }
+        if names.contains(name) && !list.kept(name).is_dir() {
+            rt(list, name, "check")?;
+        }
+    }
+    Ok(())
+}
+
+/// The crates that have edits, top to bottom: the higher a crate stands, the longer its checks take.
+fn with_edits(list: &List) -> Vec<String> {
+    let has_edits = |name: &&String| list.folder(name).join("refused").is_dir();
+    list.names.iter().filter(has_edits).cloned().rev().collect()
 }
 
 fn print(said: &Said) {
@@ -74,16 +97,17 @@ fn all_tried(workshop: &Workshop, trials: VecDeque<(&Crate, Trial)>) -> (usize, 
 
 fn run(names: Vec<String>) -> Result<bool, String> {
     let root = env::current_dir().map_err(|why| why.to_string())?;
+    let list = List::read(&root, &kit()?)?;
     let names = if names.is_empty() {
-        with_edits(&root)?
+        with_edits(&list)
     } else {
         names
     };
-    prove(&names)?;
-    let workshop = Workshop::new(&root)?;
-    let crates = names.iter().map(|name| Crate::read(&root, name));
+    prepare(&list, &names)?;
+    let crates = names.iter().map(|name| Crate::read(&list, name));
     let crates = crates.collect::<Result<Vec<_>, _>>()?;
-    // The controls come first: where a crate has to be checked from nothing, no round then waits for it.
+    let workshop = Workshop::new(&root, list)?;
+    // The controls come first: where much of a crate has to be checked, no round then waits for it.
     let mut queue: VecDeque<_> = crates.iter().map(|of| (of, Trial::Control)).collect();
     let mut failed = 0;
     for of in &crates {
@@ -93,6 +117,7 @@ fn run(names: Vec<String>) -> Result<bool, String> {
         failed += unfit.len();
     }
     let (passed, more) = all_tried(&workshop, queue);
+    workshop.clear(&crates);
     failed += more;
     println!("{passed} passed, {failed} failed");
     Ok(failed == 0)

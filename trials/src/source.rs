@@ -11,6 +11,8 @@ pub struct Item {
     pub whole: Range<usize>,
     /// What no other proof sees: a function's body.
     pub body: Range<usize>,
+    /// Whether a definition or theorem can be named by other modules.
+    pub is_public: bool,
 }
 
 impl Item {
@@ -102,6 +104,7 @@ pub fn functions(file: &str, text: &str) -> Vec<Item> {
             path: path.join("/"),
             whole: line.start..end(&lines, closed),
             body: end(&lines, opened)..end(&lines, closed),
+            is_public: false,
         });
     }
     found
@@ -122,6 +125,7 @@ pub fn constants(text: &str) -> Vec<Item> {
             path: name.to_string(),
             whole: line.start..stop,
             body: line.start..stop,
+            is_public: false,
         });
     }
     found
@@ -184,11 +188,17 @@ pub fn definitions(text: &str) -> Vec<Item> {
                 path: name.to_string(),
                 whole: line.start..stop,
                 body: stop..stop,
+                is_public: line.text.split_whitespace().any(|word| word == "pub"),
             }),
             _ => {}
         }
     }
     found
+}
+
+/// The path of a module of specs or proofs in its crate.
+pub fn module(file: &str) -> String {
+    file.trim_end_matches(".antt").replace('/', ".")
 }
 
 /// What stands in a file.

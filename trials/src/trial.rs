@@ -1,10 +1,10 @@
 //! Trials of a crate's edits, and its control.
 
-use crate::above::{callers, topmost};
-use crate::copies::{Copy, Crate, Workshop, CONTROL};
+use crate::copies::{Crate, Scope, Workshop, CONTROL};
 use crate::edit::Edit;
 use crate::log::{Verdict, Why};
-use crate::rounds::{marks, rounds, Marks};
+use crate::rounds::{marks, rounds, Marks, Texts};
+use crate::source::{definitions, module};
 
 /// What is tried in one copy.
 pub enum Trial<'a> {
@@ -59,17 +59,23 @@ pub fn outcome(edit: &Edit, marks: &Option<Marks>, verdict: &Verdict) -> Result<
     }
 }
 
-/// The rounds of a crate's edits, and what is said of edits that can't be made.
+/// The rounds of a crate's edits, and what is said of edits that can't be made. Edits of theorems and of functions are
+/// tried apart, as different parts of the copy are then checked.
 pub fn rounds_of(of: &Crate) -> (Vec<Trial<'_>>, Vec<Said>) {
-    let mut edits = Vec::new();
+    let (mut of_theorems, mut others) = (Vec::new(), Vec::new());
     let mut unfit = Vec::new();
     for edit in &of.edits {
+        let list = match &edit.at {
+            Some(_) => &mut of_theorems,
+            None => &mut others,
+        };
         match marks(edit, &of.texts) {
-            Ok(marks) => edits.push(((edit, marks.clone()), marks)),
+            Ok(marks) => list.push(((edit, marks.clone()), marks)),
             Err(why) => unfit.push(failed(of, edit, &format!("DOES NOT APPLY: {why}"))),
         }
     }
-    (rounds(edits).into_iter().map(Trial::Round).collect(), unfit)
+    let trials = rounds(of_theorems).into_iter().chain(rounds(others));
+    (trials.map(Trial::Round).collect(), unfit)
 }
 
 fn failed(of: &Crate, edit: &Edit, why: &str) -> Said {
@@ -85,20 +91,22 @@ fn refused(of: &Crate, edit: &Edit, at: &str) -> Said {
 
 /// Makes a trial, and says what came of each edit.
 pub fn tried(workshop: &Workshop, of: &Crate, trial: &Trial) -> Result<Vec<Said>, String> {
+    let is_proved = workshop.control(of)? == Verdict::Proved;
     match trial {
-        Trial::Control => Ok(vec![control(workshop, of)?]),
-        Trial::Round(edits) => round(workshop, of, edits),
+        Trial::Control if is_proved => {
+            let line = format!("{}: control proved, as it must be", of.name);
+            Ok(vec![said(true, line)])
+        }
+        Trial::Control => {
+            let line = format!("{}: CONTROL NOT PROVED, {}", of.name, log(of, CONTROL));
+            Ok(vec![said(false, line)])
+        }
+        Trial::Round(edits) if is_proved => round(workshop, of, edits),
+        Trial::Round(edits) => Ok(edits
+            .iter()
+            .map(|(edit, _)| failed(of, edit, "NOT TRIED, as the control is not proved"))
+            .collect()),
     }
-}
-
-fn control(workshop: &Workshop, of: &Crate) -> Result<Said, String> {
-    Ok(match workshop.control(of)? {
-        Verdict::Proved => said(true, format!("{}: control proved, as it must be", of.name)),
-        _ => said(
-            false,
-            format!("{}: CONTROL NOT PROVED, {}", of.name, log(of, CONTROL)),
-        ),
-    })
 }
 
 /// Where it is kept what the prover said of a copy.
@@ -106,32 +114,52 @@ fn log(of: &Crate, label: &str) -> String {
     format!("as target/refused/{}/{label}/log tells", of.name)
 }
 
-/// Leaves out of a copy what stands above that which is to be refused, where this can be told: it can't be proved
-/// either, and its check takes time.
-fn leave_out(copy: &Copy, of: &Crate, edits: &[(&Edit, Option<Marks>)]) -> Result<(), String> {
-    let mut marks = Marks::new();
-    for (_, changed) in edits {
-        let Some(changed) = changed else {
-            return Ok(());
-        };
-        marks.extend(changed.iter().cloned());
+fn specs(texts: &Texts) -> impl Iterator<Item = (&String, &String)> {
+    let is_of_specs = |(file, _): &(&String, &String)| file.starts_with("specs/");
+    texts.iter().filter(is_of_specs)
+}
+
+/// The names of a module of specs that other modules can cite, each with the module's path.
+fn citable(file: &str, text: &str) -> impl Iterator<Item = (String, String)> {
+    let is_plain = |letter: char| letter.is_alphanumeric() || letter == '-' || letter == '_';
+    let path = module(file);
+    let items = definitions(text).into_iter();
+    let names = items.filter(|item| item.is_public).map(|item| item.path);
+    names
+        .filter(move |name| name.chars().all(is_plain))
+        .map(move |name| (path.clone(), name))
+}
+
+/// What to cite of the module that has a theorem: the theorem itself, if that can be.
+fn cited(texts: &Texts, theorem: &str) -> Option<(String, String)> {
+    let has_it = |text: &str| definitions(text).iter().any(|item| item.path == theorem);
+    let (file, text) = specs(texts).find(|(_, text)| has_it(text))?;
+    let itself = citable(file, text).find(|(_, name)| name == theorem);
+    itself.or_else(|| citable(file, text).next())
+}
+
+/// The parts of a copy that are checked for edits, one after the other until each edit is refused.
+pub fn scopes(texts: &Texts, edits: &[(&Edit, Option<Marks>)]) -> Vec<Scope> {
+    let theorem = |(edit, _): &(&Edit, Option<Marks>)| cited(texts, edit.at.as_ref()?);
+    if let Some(theorems) = edits.iter().map(theorem).collect() {
+        return vec![Scope::Specs(theorems)];
     }
-    for function in callers(&marks, &of.texts) {
-        copy.leave_out(&function)?;
+    let changed = |(edit, marks): &(&Edit, Option<Marks>)| match edit.at {
+        Some(_) => None,
+        None => marks.clone(),
+    };
+    if let Some(changed) = edits.iter().map(changed).collect::<Option<Vec<_>>>() {
+        return vec![Scope::Functions(changed.into_iter().flatten().collect())];
     }
-    let changes: Vec<_> = edits.iter().flat_map(|(edit, _)| &edit.changes).collect();
-    if changes
-        .iter()
-        .any(|change| change.file.starts_with("specs/"))
-    {
-        let new: Vec<_> = changes.iter().map(|change| change.new.as_str()).collect();
-        for file in topmost(&of.texts, &new) {
-            if changes.iter().all(|change| change.file != file) {
-                copy.empty(file)?;
-            }
-        }
+    let is_of_specs = |(edit, _): &(&Edit, Option<Marks>)| {
+        let mut files = edit.changes.iter().map(|change| &change.file);
+        edit.at.is_none() && files.all(|file| file.starts_with("specs/"))
+    };
+    if edits.iter().all(is_of_specs) {
+        let all = specs(texts).filter_map(|(file, text)| citable(file, text).next());
+        return vec![Scope::Specs(all.collect()), Scope::Whole];
     }
-    Ok(())
+    vec![Scope::Whole]
 }
 
 /// Tries edits in one copy, and alone those that are not refused there.
@@ -149,11 +177,23 @@ fn round(
     } else {
         format!("with-{}", first.0.name)
     };
-    let copy = workshop.copy(of, &label)?;
     let made: Vec<_> = edits.iter().map(|(edit, _)| *edit).collect();
-    copy.apply(&made)?;
-    leave_out(&copy, of, edits)?;
-    let verdict = copy.check()?;
+    let mut verdict = Verdict::Proved;
+    for scope in scopes(&of.texts, edits) {
+        let copy = workshop.copy(of, &label)?;
+        copy.apply(&made)?;
+        for (edit, marks) in edits {
+            copy.rename(marks.as_ref().unwrap_or(&Marks::new()), &edit.names)?;
+        }
+        verdict = copy.check(&scope)?;
+        copy.clear();
+        if edits
+            .iter()
+            .all(|(edit, marks)| outcome(edit, marks, &verdict).is_ok())
+        {
+            break;
+        }
+    }
     let mut lines = Vec::new();
     for (edit, marks) in edits {
         match outcome(edit, marks, &verdict) {
@@ -164,6 +204,5 @@ fn round(
             Err(_) => lines.extend(round(workshop, of, &[(edit, marks.clone())])?),
         }
     }
-    copy.clear();
     Ok(lines)
 }
