@@ -11,7 +11,8 @@ returns-then-words-ne-STATE c = rw (ne_eqb _ _ c.if-words-ne-STATE.true) refl
 
 pub returns-then-count-gt-SLOTS_MOST : goal.returns-then-count-gt-SLOTS_MOST
 unfolding readable
-returns-then-count-gt-SLOTS_MOST c = rw (eq-eqb _ _ c.if-words-ne-STATE.false, lt-leb _ _ c.if-count-gt-SLOTS_MOST.true) refl
+returns-then-count-gt-SLOTS_MOST c =
+    rw (eq-eqb _ _ c.if-words-ne-STATE.false, lt-leb _ _ c.if-count-gt-SLOTS_MOST.true) refl
 
 pub returns : goal.returns
 unfolding readable

@@ -4,7 +4,6 @@ use mathlib.Core.Path.{refl, sym, ◌∙◌}
 use native.Mathlib.Omega.{arith}
 use Rattle.wire.specs.laws.Theorems.{inside}
 use Rattle.yovtirak.specs.Exports.{address_call}
-use borrow.Author.Rules.{rules}
 use Rattle.yovtirak.proofs.yovtirak_address.Goals as goal
 
 pub returns-in_default : goal.returns-in_default

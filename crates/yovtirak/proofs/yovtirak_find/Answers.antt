@@ -1,12 +1,9 @@
 -- `yovtirak::yovtirak_find` meets its contract: the words are read, and the name is looked for.
 -- Assumes nothing.
-use mathlib.Core.Path.{◌≡◌, refl, sym, ◌∙◌}
-use mathlib.Core.Bool.{true}
-use borrow.Author.Tests.{eq-eqb, ne_eqb, not-true, not-false}
-use Rattle.layout.specs.Layout.{readable}
+use mathlib.Core.Path.{refl, sym, ◌∙◌}
+use borrow.Author.Tests.{eq-eqb, ne_eqb}
 use Rattle.yovtirak.specs.Exports.{find_call}
 use Rattle.yovtirak.specs.laws.Exports.{readable-length}
-use borrow.Author.Rules.{rules}
 use Rattle.yovtirak.proofs.yovtirak_find.Goals as goal
 
 pub returns-then-counts-ne-COUNTS : goal.returns-then-counts-ne-COUNTS
@@ -21,7 +18,8 @@ returns-then-not-readable c = rw (
 ) refl
 
 pub collector_from-collector-requires : goal.collector_from-collector-requires
-collector_from-collector-requires c = readable-length c.args.state.now (sym c.readable.ensures ∙ c.if-not-readable.false)
+collector_from-collector-requires c =
+    readable-length c.args.state.now (sym c.readable.ensures ∙ c.if-not-readable.false)
 
 pub returns : goal.returns
 unfolding find_call

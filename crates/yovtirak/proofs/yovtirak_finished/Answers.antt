@@ -1,12 +1,9 @@
 -- `yovtirak::yovtirak_finished` meets its contract: the words are read, and the object is located.
 -- Assumes nothing.
-use mathlib.Core.Path.{◌≡◌, refl, sym, ◌∙◌}
-use mathlib.Core.Bool.{true}
-use borrow.Author.Tests.{eq-eqb, ne_eqb, not-true, not-false}
-use Rattle.layout.specs.Layout.{readable}
+use mathlib.Core.Path.{refl, sym, ◌∙◌}
+use borrow.Author.Tests.{eq-eqb, ne_eqb}
 use Rattle.yovtirak.specs.Exports.{finished_call}
 use Rattle.yovtirak.specs.laws.Exports.{readable-length}
-use borrow.Author.Rules.{rules}
 use Rattle.yovtirak.proofs.yovtirak_finished.Goals as goal
 
 pub returns-then-place-ne3 : goal.returns-then-place-ne3
@@ -26,7 +23,8 @@ returns-then-not-readable c = rw (
 ) refl
 
 pub collector_from-collector-requires : goal.collector_from-collector-requires
-collector_from-collector-requires c = readable-length c.args.state.now (sym c.readable.ensures ∙ c.if-not-readable.false)
+collector_from-collector-requires c =
+    readable-length c.args.state.now (sym c.readable.ensures ∙ c.if-not-readable.false)
 
 pub returns-in_default : goal.returns-in_default
 unfolding finished_call
