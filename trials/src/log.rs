@@ -12,7 +12,7 @@ pub enum Why {
     Open,
     /// Only that its proof no longer goes along with the code: what it names is not there.
     Shape,
-    /// A fact does not hold.
+    /// A fact does not hold, or what was its proof is none.
     Fact,
 }
 
@@ -72,7 +72,7 @@ fn faults(
     if let Some(rest) = said.strip_prefix(&format!("fn {name}::")) {
         return unproved(rest).into_iter().collect();
     }
-    if let Some((place, _)) = said.split_once(": it is not proved that ") {
+    if let Some((place, goal)) = said.split_once(": it is not proved that ") {
         let place = place.trim_start_matches("note: ").trim_start_matches("./");
         let mut parts = place.split(':');
         let (file, line) = (
@@ -80,7 +80,12 @@ fn faults(
             parts.next().and_then(|line| line.parse().ok()),
         );
         let function = file.zip(line).and_then(|(file, line)| at_line(file, line));
-        return function.map(|at| (at, Why::Open)).into_iter().collect();
+        let why = if goal.contains("at which this goal is false") {
+            Why::Fact
+        } else {
+            Why::Open
+        };
+        return function.map(|at| (at, why)).into_iter().collect();
     }
     errors(said)
 }
@@ -119,6 +124,7 @@ fn errors(said: &str) -> Vec<(String, Why)> {
     if let Some((cause, left)) = said.split_once(" not checked: ") {
         let names = left.lines().next().unwrap_or_default();
         let names = names.split(" and ").flat_map(|part| part.split(", "));
+        let names = names.filter(|name| !name.ends_with(" more"));
         let names = names.filter_map(|name| name.split(' ').next());
         let cause = cause.split('`').nth(1).map(str::to_string);
         let found = names.map(of).chain(cause);

@@ -1,12 +1,12 @@
 //! An edit is read off its file, and its old text must stand exactly once where it says.
 
-use trials::edit::{applied, Change, Edit};
+use trials::edit::{applied, renamed, Change, Edit};
 use trials::source::{definitions, functions};
 
 const CODE: &str = "\
 // A comment on fn nothing() {
 pub fn first(a: u8) -> u8
-    ensures { λ r. ⌜ r ≡ a ⌝ }
+    ensures { result ≡ a }
 {
     if a == 0 {
         return 0;
@@ -53,12 +53,13 @@ fn change(file: &str, within: Option<&str>, old: &str) -> Change {
 
 #[test]
 fn an_edit_is_read() {
-    let text = "# why\nat: law\nfile: src/lib.rt\nin: first\nold:     a\nnew: \nfile: specs/A.antt\nold: b: c\nnew: d";
+    let text = "# why\nat: law\nnamed: a-b b-a\nfile: src/lib.rt\nin: first\nold:     a\nnew: \nfile: specs/A.antt\nold: b: c\nnew: d";
     let edit = Edit::read("name", text).unwrap();
     assert_eq!(
         (edit.name.as_str(), edit.at.as_deref()),
         ("name", Some("law"))
     );
+    assert_eq!(edit.names, [("a-b".to_string(), "b-a".to_string())]);
     let [one, other] = &edit.changes[..] else {
         panic!("{:?}", edit.changes)
     };
@@ -81,6 +82,7 @@ fn an_edit_that_is_not_whole_is_refused() {
         "old: a\nnew: b\n",
         "file: src/lib.rt\nold: a\nold: b\nnew: c\n",
         "file: src/lib.rt\nwhere: f\nold: a\nnew: b\n",
+        "named: a\nfile: src/lib.rt\nold: a\nnew: b\n",
     ] {
         assert!(Edit::read("name", text).is_err(), "{text}");
     }
@@ -172,4 +174,14 @@ fn edits_of_one_copy_are_made_as_if_each_were_the_only_one() {
     assert!(applied(CODE, &[&other, &across])
         .unwrap_err()
         .contains("overlap"));
+}
+
+#[test]
+fn parts_of_names_are_changed_where_they_stand_whole() {
+    let names = [("a-b".to_string(), "b-a".to_string())];
+    let proof = "then-a-b c = f (c.if-a-b.true, a-b-i, c.if-a-b₀, a-bc, ba-b, a'-b, x)\n";
+    let changed = "then-b-a c = f (c.if-b-a.true, b-a-i, c.if-a-b₀, a-bc, ba-b, a'-b, x)\n";
+    assert_eq!(renamed(proof, &names), changed);
+    assert_eq!(renamed(proof, &[]), proof);
+    assert_eq!(renamed("- a-b -", &names), "- b-a -");
 }

@@ -1,9 +1,10 @@
 //! Edits of different bodies, or of different theorems, share a round; what can't be told is tried alone.
 
 use std::collections::BTreeSet;
-use trials::above::{callers, topmost};
+use trials::copies::Scope;
 use trials::edit::Edit;
 use trials::rounds::{marks, rounds, Marks, Texts};
+use trials::trial::scopes;
 
 const CODE: &str = "\
 // MOST of all
@@ -18,7 +19,7 @@ pub struct Row {
 }
 
 fn first(a: u8) -> u8
-    requires { ⌜ a ≤ 7 ⌝ }
+    requires { a ≤ 7 }
 {
     a + 1
 }
@@ -37,6 +38,8 @@ fn fourth() -> u8 {
 ";
 
 const SPECS: &str = "\
+inner : ℕ
+inner = 0
 pub small : 1 < 2
 small = omega arith
 pub large : 2 < 3
@@ -106,56 +109,36 @@ fn no_two_edits_of_a_round_change_the_same() {
     assert!(rounds::<&str>(Vec::new()).is_empty());
 }
 
-#[test]
-fn callers_are_those_that_call_or_call_what_does() {
-    let code = "\
-fn inner() -> u8 {
-    1
+/// What is checked for edits that are tried together.
+fn checked(texts_of_edits: &[&str]) -> Vec<Scope> {
+    let read = |text: &&str| Edit::read("name", text).unwrap();
+    let edits: Vec<_> = texts_of_edits.iter().map(read).collect();
+    let marked = |edit| (edit, marks(edit, &texts()).unwrap());
+    scopes(&texts(), &edits.iter().map(marked).collect::<Vec<_>>())
 }
 
-impl Pair {
-    fn middle(self) -> u8 {
-        inner()
+fn of_specs(name: &str) -> BTreeSet<(String, String)> {
+    BTreeSet::from([("specs.A".to_string(), name.to_string())])
+}
+
+#[test]
+fn only_that_is_checked_which_an_edit_changes() {
+    let first = "file: src/lib.rt\nold: a + 1\nnew: a\n";
+    let second = "file: src/lib.rt\nold: a + 2\nnew: a\n";
+    let functions = set(&["first", "second"]).unwrap();
+    assert_eq!(checked(&[first, second]), [Scope::Functions(functions)]);
+    let theorem = "file: specs/A.antt\nold: 1 < 2\nnew: 2 < 1\n";
+    let large = of_specs("large");
+    let at_large = format!("at: large\n{theorem}");
+    assert_eq!(checked(&[&at_large]), [Scope::Theorems(large)]);
+    let at_inner = format!("at: inner\n{theorem}");
+    let small = of_specs("small");
+    assert_eq!(checked(&[&at_inner]), [Scope::Theorems(small.clone())]);
+    assert_eq!(checked(&[theorem]), [Scope::Modules(small), Scope::Whole]);
+    let both = format!("{first}{theorem}");
+    let at_none = format!("at: none\n{theorem}");
+    let contract = "file: src/lib.rt\nold: a ≤ 7\nnew: a ≤ 8\n";
+    for edit in [both.as_str(), &at_none, contract] {
+        assert_eq!(checked(&[edit]), [Scope::Whole], "{edit}");
     }
-}
-
-fn outer(pair: Pair) -> u8 {
-    pair.middle()
-}
-
-fn apart() -> u8 {
-    // not inner_most
-    inner_most()
-}
-";
-    let texts = Texts::from([("src/lib.rt".to_string(), code.to_string())]);
-    let of = |names: &[&str]| callers(&set(names).unwrap(), &texts);
-    assert_eq!(Some(of(&["inner"])), set(&["Pair/middle", "outer"]));
-    assert_eq!(Some(of(&["inner", "Pair/middle"])), set(&["outer"]));
-    assert_eq!(Some(of(&["outer", "apart"])), set(&[]));
-}
-
-#[test]
-fn topmost_is_what_nothing_stands_on() {
-    let files = [
-        ("specs/Lib.antt", "pub mod laws\n"),
-        ("specs/Low.antt", "low = 0\n"),
-        (
-            "specs/laws/High.antt",
-            "use Rattle·one·specs.specs.Low.{low}\n",
-        ),
-        (
-            "specs/laws/Higher.antt",
-            "use Rattle·one·specs.specs.Low.{low}\n",
-        ),
-        ("specs/laws/Named.antt", "named = 0\n"),
-        (
-            "src/lib.rt",
-            "ghost use Rattle·one·specs.specs.laws.High.{high};\n",
-        ),
-    ];
-    let owned = |(file, text): (&str, &str)| (file.to_string(), text.to_string());
-    let texts: Texts = files.into_iter().map(owned).collect();
-    let new = ["Rattle·one·specs.specs.laws.Named.named"];
-    assert_eq!(topmost(&texts, &new), ["specs/laws/Higher.antt"]);
 }
