@@ -253,7 +253,8 @@ impl Collector {
         }
     }
 
-    // Whether the state is not damaged.
+    // Whether the state is not damaged. Inlined, it puts no copy of the collector on the stack.
+    #[inline(always)]
     pub fn is_sound(self, counts: Counts, header: &[u8], body: &[u8], marks: &[u8]) -> bool
         ensures { result ≡ sound (state self counts (stores header.now body.now marks.now)) }
     {

@@ -174,7 +174,8 @@ pub fn readable(words: &[u64]) -> bool
     all_readable(words, count)
 }
 
-// The slots that the words of a state hold.
+// The slots that the words of a state hold. Not inlined: what it needs of the stack is free again behind it.
+#[inline(never)]
 fn slots_from(words: &[u64]) -> [Slot; SLOTS_MOST]
     requires { length words.now ≡ 178 }
     ensures { result ≡ slots_from words.now slots_most 2 }

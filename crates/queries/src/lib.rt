@@ -5,7 +5,8 @@
 
 ghost use Rattle.std.specs.Prelude.{◌≡◌};
 ghost use Rattle.cut.specs.Missing.{amount_of};
-ghost use Rattle.collector.specs.State.{stores, state};
+ghost use Rattle.slots.specs.Stores.{stores};
+ghost use Rattle.collector.specs.State.{state};
 ghost use Rattle.queries.specs.Questions.{sought_as, parameters, name, find};
 ghost use Rattle.queries.specs.Missing.{missing};
 ghost use Rattle.queries.specs.Said.{reason_of, asked_as};
@@ -77,7 +78,7 @@ pub fn parameters<'a>(
     marks: &[u8],
 ) -> Asked
     ensures { result ≡ parameters number
-        (state collector counts (stores header.entry body.entry marks.entry)) }
+        (state collector counts (stores header.now body.now marks.now)) }
 {
     match collector.locate(counts, number, header, body, marks) {
         Located::Denied(why) => Asked::Denied(why),
@@ -96,7 +97,7 @@ pub fn name<'a>(
     marks: &[u8],
 ) -> &'a [u8]
     ensures { result.now ≡ name number
-        (state collector counts (stores header.entry body.entry marks.entry)) }
+        (state collector counts (stores header.now body.now marks.now)) }
 {
     let Located::At(i) = collector.locate(counts, number, header, body, marks) else {
         return &header[..0];
@@ -114,7 +115,7 @@ pub fn find(
     marks: &[u8],
 ) -> Sought
     ensures { result ≡ find asked.now
-        (state collector counts (stores header.entry body.entry marks.entry)) }
+        (state collector counts (stores header.now body.now marks.now)) }
 {
     if !collector.is_sound(counts, header, body, marks) {
         return Sought::Denied(Reason::State);
@@ -144,7 +145,7 @@ pub fn missing(
     marks: &[u8],
 ) -> Awaited
     ensures { result ≡ missing number
-        (state collector counts (stores header.entry body.entry marks.entry)) }
+        (state collector counts (stores header.now body.now marks.now)) }
 {
     if !collector.is_sound(counts, header, body, marks) {
         return Awaited::Denied(Reason::State);

@@ -99,7 +99,8 @@ fn keep(state: &mut [u64], answer: Answer, next: Collector)
     layout::put_collector(state, next);
 }
 
-// What a call leaves in words, and its answer's word.
+// What a call leaves in words, and its answer's word. Inlined, it puts no copy of the reply on the stack.
+#[inline(always)]
 fn leave(state: &mut [u64], counts: &mut [u32], after: Reply) -> u64
     requires { (length state.old ≡ 178) × (length counts.old ≡ 5) }
     ensures { (result ≡ answer_word after.answer)

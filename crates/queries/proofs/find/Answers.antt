@@ -1,7 +1,8 @@
 -- `queries::find` meets its contract: STATE, then the search.
 -- Assumes nothing.
 use mathlib.Core.Path.{sym, ap, ◌∙◌}
-use Rattle.collector.specs.State.{stores, state}
+use Rattle.collector.specs.State.{state}
+use Rattle.slots.specs.Stores.{stores}
 use Rattle.queries.specs.Questions.{sought_as, find}
 use Rattle.queries.specs.laws.Theorems.{cores-searched}
 use Rattle.queries.proofs.find.Goals as goal
@@ -13,7 +14,7 @@ returns-then-not-is_sound c = rw (sym c.is_sound.ensures ∙ c.if-not-is_sound.t
 pub find-requires : goal.find-requires
 find-requires c =
     let a = c.args in
-    let lent = stores a.header a.body a.marks in
+    let lent = stores a.header.now a.body.now a.marks.now in
     let good = sym c.is_sound.ensures ∙ c.if-not-is_sound.false in
     cores-searched (state a.collector a.counts lent) good
 

@@ -3,8 +3,8 @@
 use mathlib.Core.Path.{refl, sym, ap, ◌∙◌}
 use native.Mathlib.Omega.{arith}
 use Rattle.slots.specs.laws.Ready.{found_inside}
-use Rattle.slots.specs.Stores.{free_slot, slot_at}
-use Rattle.collector.specs.State.{stores, state}
+use Rattle.slots.specs.Stores.{stores, free_slot, slot_at}
+use Rattle.collector.specs.State.{state}
 use Rattle.collector.specs.laws.State.{slots-sound}
 use Rattle.queries.specs.declared.Awaited.TheVariants.{Bytes}
 use Rattle.queries.specs.Missing.{missing}
@@ -23,7 +23,7 @@ returns-in_default c =
 pub returns-then-i-ge-SLOTS_MOST : goal.returns-then-i-ge-SLOTS_MOST
 returns-then-i-ge-SLOTS_MOST c =
     let a = c.args in
-    let lent = stores a.header a.body a.marks in
+    let lent = stores a.header.now a.body.now a.marks.now in
     let good = sym c.is_sound.ensures ∙ c.if-not-is_sound.false in
     let found = sym c.find.ensures ∙ c.in-At.is in
     let slots = slots-sound (state a.collector a.counts lent) good in

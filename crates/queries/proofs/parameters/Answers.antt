@@ -2,7 +2,8 @@
 -- Assumes nothing.
 use mathlib.Core.Path.{sym, ap, ◌∙◌}
 use Rattle.header.specs.Parameters.{read_header}
-use Rattle.collector.specs.State.{stores, state}
+use Rattle.collector.specs.State.{state}
+use Rattle.slots.specs.Stores.{stores}
 use Rattle.collector.specs.Calls.{show}
 use Rattle.queries.specs.Questions.{parameters}
 use Rattle.queries.specs.laws.Theorems.{core-shown}
@@ -13,7 +14,7 @@ pub read-requires : goal.read-requires
 unfolding show
 read-requires c =
     let a = c.args in
-    let s = state a.collector a.counts (stores a.header a.body a.marks) in
+    let s = state a.collector a.counts (stores a.header.now a.body.now a.marks.now) in
     let there = sym c.locate.ensures ∙ c.in-At.is in
     rw c.shown_at.ensures (rw there at (core-shown a.number _ s there))
 
