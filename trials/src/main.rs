@@ -42,11 +42,9 @@ fn rt(list: &List, name: &str, verb: &str) -> Result<(), String> {
 /// Builds the libraries that crates stand on, where they are not yet built, and checks the crates of which nothing
 /// checked is kept.
 fn prepare(list: &List, names: &[String]) -> Result<(), String> {
+    let is_below = |name: &str| names.iter().any(|one| list.below(one).contains(&name));
     for name in &list.names {
-        if names
-            .iter()
-            .any(|one| list.below(one).contains(&name.as_str()))
-        {
+        if is_below(name) {
             rt(list, name, "lib")?;
         }
         if names.contains(name) && !list.kept(name).is_dir() {

@@ -1,7 +1,7 @@
 //! Trials of a crate's edits, and its control.
 
 use crate::copies::{Crate, Scope, Workshop, CONTROL};
-use crate::edit::Edit;
+use crate::edit::{renamed, Edit};
 use crate::log::{Verdict, Why};
 use crate::rounds::{marks, rounds, Marks, Texts};
 use crate::source::{definitions, module};
@@ -69,13 +69,31 @@ pub fn rounds_of(of: &Crate) -> (Vec<Trial<'_>>, Vec<Said>) {
             Some(_) => &mut of_theorems,
             None => &mut others,
         };
-        match marks(edit, &of.texts) {
+        let found = marks(edit, &of.texts).and_then(|marks| {
+            let lost = |name: &&(String, String)| !is_in_proof(name, &marks, &of.texts);
+            match edit.names.iter().find(lost) {
+                None => Ok(marks),
+                Some((old, _)) => Err(format!("no proof of what it changes has the name {old}")),
+            }
+        });
+        match found {
             Ok(marks) => list.push(((edit, marks.clone()), marks)),
             Err(why) => unfit.push(failed(of, edit, &format!("DOES NOT APPLY: {why}"))),
         }
     }
     let trials = rounds(of_theorems).into_iter().chain(rounds(others));
     (trials.map(Trial::Round).collect(), unfit)
+}
+
+/// Whether a proof of what an edit changes has a name that becomes another.
+fn is_in_proof(name: &(String, String), marks: &Option<Marks>, texts: &Texts) -> bool {
+    let changed = |text: &String| renamed(text, std::slice::from_ref(name)) != *text;
+    let mut functions = marks.iter().flatten();
+    functions.any(|function| {
+        let folder = format!("proofs/{function}/");
+        let mut files = texts.iter().filter(|(file, _)| file.starts_with(&folder));
+        files.any(|(_, text)| changed(text))
+    })
 }
 
 fn failed(of: &Crate, edit: &Edit, why: &str) -> Said {
