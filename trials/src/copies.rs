@@ -256,8 +256,8 @@ impl Copy<'_> {
         Ok(())
     }
 
-    /// Adds a function for whose sake modules are checked, and nothing else. Where these are theorems', a definition rests
-    /// on each, as the prover does not name all that rests on what it refuses.
+    /// Adds a function for whose sake modules are checked, and nothing else. Where these are theorems', a definition
+    /// rests on each, as the prover does not name all that rests on what it refuses.
     fn cite(&self, cited: &BTreeSet<(String, String)>, are_theorems: bool) -> Result<(), String> {
         let (module, function) = CITES;
         let specs = format!("Rattle.{}", self.name);

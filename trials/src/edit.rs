@@ -13,9 +13,9 @@
 //! A line `file:` holds for what follows, and so does a line `in:` up to the next `file:`. Without `in:` the old
 //! text must stand in the file exactly once, with it in that function, or in that definition, exactly once. A line
 //! `at:` names the theorem that must be among what is refused. Several pairs of `old:` and `new:` are one edit. The
-//! prover names the facts of a test after the test's text, so a proof cites `if-a-b` for `a < b`: a line `named:` has the
-//! part of such names that an edit changes, as `a-b`, and what it becomes, and the changed function's proof is changed
-//! alike. Else it would be refused for its names alone.
+//! prover names the facts of a test after the test's text, so a proof cites `if-a-b` for `a < b`: a line `named:` has
+//! the part of such names that an edit changes, as `a-b`, and what it becomes, and the changed function's proof is
+//! changed alike. Else it would be refused for its names alone.
 
 use crate::source;
 use std::ops::Range;

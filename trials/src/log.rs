@@ -26,8 +26,8 @@ pub enum Verdict {
     Neither,
 }
 
-/// Reads what the check of a crate, or of a part of it, printed before it ended with a status. What the prover says of a
-/// line of the code is told of the function that has this line in this file.
+/// Reads what the check of a crate, or of a part of it, printed before it ended with a status. What the prover says of
+/// a line of the code is told of the function that has this line in this file.
 pub fn verdict(
     name: &str,
     status: Option<i32>,
