@@ -63,6 +63,7 @@ def told(title, places):
         print(f"  {place}")
 
 
+NUMBER = re.compile(r"//.*(0 while|or 0 |0 for any|0 where|none\b.*15 bits)|^ +_ => \d+,|const (LIMITS|STATE): u")
 SOURCES = [(name, bare(text), text) for name, text in texts(SOURCE)]
 
 
@@ -103,7 +104,8 @@ def travelling():
             for group in TOGETHER:
                 if all(word in names for word in group):
                     groups[group].append(f"{name.split('/')[1]}::{function}")
-    return [f"{', '.join(group)}: {len(found)}: {', '.join(found)}" for group, found in groups.items() if len(found) > 2]
+    many = [(group, found) for group, found in groups.items() if len(found) > 2]
+    return [f"{', '.join(group)}: {len(found)}: {', '.join(found)}" for group, found in many]
 
 
 def repeated_facts():
@@ -136,7 +138,7 @@ told("1. enums of two cases of which one carries a value", one)
 told("1. flags in structs", list(flags()))
 told("1. numbers that stand for a case, as the comments say them",
      [f"{name}:{at}: {line.strip()}" for name, _, text in SOURCES for at, line in enumerate(text.split("\n"), 1)
-      if re.search(r"//.*(0 while|or 0 |0 for any|0 where|none\b.*15 bits)|^ +_ => \d+,|const (LIMITS|STATE): u", line)])
+      if NUMBER.search(line)])
 told("2. functions of one shape", of_one_shape())
 told("3. loops by hand", lines_of(r"\bwhile\b|\bloop\b"))
 told("4. equality and order", lines_of(r"^ *(pub )?fn \w*(same|alike|unlike|less|lower|large)\w*\("))
@@ -147,6 +149,7 @@ told("5. parameters that travel together in three functions or more", travelling
 told("5. facts that three contracts or more ask for", repeated_facts())
 told("6. a buffer with a length beside it", list(buffers()))
 told("7. a match that chooses what to run", list(dispatches()))
-told("8. files of answers, of invariants, and lines of all proofs", [
-    f"{what}: {sum(1 for name, _ in texts(PROOF) if name.endswith(what))}" for what in ("Answers.antt", "Invariants.antt")]
-     + [f"lines: {sum(text.count(chr(10)) for _, text in texts(PROOF))}"])
+PROOFS = list(texts(PROOF))
+files = [f"{what}: {sum(name.endswith(what) for name, _ in PROOFS)}" for what in ("Answers.antt", "Invariants.antt")]
+told("8. files of answers, of invariants, and lines of all proofs",
+     files + [f"lines: {sum(text.count(chr(10)) for _, text in PROOFS)}"])
