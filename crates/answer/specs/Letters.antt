@@ -1,14 +1,11 @@
 -- A name, spelt in ASCII.
-use Rattle.std.specs.Prelude.{◌≡◌, List, ◌++◌, [] as none, ◌∷◌ as ◌then◌, ℕ, ◌-◌, length, replicate}
-use Prim.Native.Char.{code}
-use Prim.Native.String.{String, [], ◌∷◌}
+use Rattle.std.specs.Prelude.{◌≡◌, List, ℕ, codes}
+use Prim.Native.String.{String}
 
 -- the letters of a text, as their codes
 abbrev pub letters : String → List ℕ
-letters [] = none
-letters (c ∷ text) = code c then letters text
+letters text = codes text
 
--- the name, filled up to ten places with blanks, and how many letters it has
-pub record Spells (bytes : List ℕ) (count : ℕ) (name : String) : Type 0 where
-  pub spelt : bytes ≡ letters name ++ replicate (10 - length (letters name)) 0x20
-  pub counted : count ≡ length (letters name)
+-- the name: all its letters, and no other
+abbrev pub Spells : List ℕ → String → Type 0
+Spells bytes name = bytes ≡ letters name

@@ -66,6 +66,6 @@ retired = 23
 
 -- a row as the code has it, with the name spelt in ASCII
 pub record Reads (kept : Kept) (row : Row) : Type 0 where
-  pub number : kept.number ≡ row.number
-  pub name : Spells kept.letters kept.length row.name
-  pub returned : kept.returned ≡ row.returned
+  pub number : kept.0 ≡ row.number
+  pub name : Spells kept.1.now row.name
+  pub returned : kept.2 ≡ row.returned

@@ -24,7 +24,7 @@ pub struct Heard {
 
 // What the sender of a group meant by a repeat: its repetition index, its continuity index and its
 // repetition count. All three are 0 for a segment that came without a group.
-#[derive(Clone, Copy)]
+#[derive(Clone, Copy, Default)]
 pub struct Repetition {
     pub index: u8,
     pub continuity: u8,
@@ -77,49 +77,26 @@ pub enum Returned {
     Nothing,
 }
 
-// A name in ASCII: its letters, filled up with blanks, and how many they are.
+// A row of the table: the number, the name and the values returned.
 #[derive(Clone, Copy)]
-pub struct Name {
-    pub letters: [u8; 10],
-    pub length: usize,
-}
-
-// A row of the table.
-#[derive(Clone, Copy)]
-struct Row {
-    number: u8,
-    letters: [u8; 10],
-    length: usize,
-    returned: Returned,
-}
+struct Row(u8, &'static str, Returned);
 
 // The numbers of the two answers that can be given before there is a collector.
 pub const LIMITS: u8 = 25;
 
 pub const STATE: u8 = 26;
 
-fn entry(number: u8, letters: [u8; 10], length: usize, returned: Returned) -> Row
-    ensures { result ≡ record { number = number; letters = letters; length = length; returned = returned } }
-{
-    Row {
-        number,
-        letters,
-        length,
-        returned,
-    }
-}
-
 fn refusal_row(refusal: Refusal) -> Row
     ensures { Reads result (refusal_row refusal) }
 {
     match refusal {
-        Refusal::Length => entry(10, *b"LENGTH    ", 6, Returned::Nothing),
-        Refusal::NoCheck => entry(11, *b"NOCHECK   ", 7, Returned::Nothing),
-        Refusal::BadCheck => entry(12, *b"BADCHECK  ", 8, Returned::Nothing),
-        Refusal::Kind => entry(13, *b"KIND      ", 4, Returned::Nothing),
-        Refusal::NoSegment => entry(14, *b"NOSEGMENT ", 9, Returned::Nothing),
-        Refusal::Address => entry(15, *b"ADDRESS   ", 7, Returned::Nothing),
-        Refusal::Size => entry(16, *b"SIZE      ", 4, Returned::Nothing),
+        Refusal::Length => Row(10, "LENGTH", Returned::Nothing),
+        Refusal::NoCheck => Row(11, "NOCHECK", Returned::Nothing),
+        Refusal::BadCheck => Row(12, "BADCHECK", Returned::Nothing),
+        Refusal::Kind => Row(13, "KIND", Returned::Nothing),
+        Refusal::NoSegment => Row(14, "NOSEGMENT", Returned::Nothing),
+        Refusal::Address => Row(15, "ADDRESS", Returned::Nothing),
+        Refusal::Size => Row(16, "SIZE", Returned::Nothing),
     }
 }
 
@@ -127,13 +104,13 @@ fn reason_row(reason: Reason) -> Row
     ensures { Reads result (reason_row reason) }
 {
     match reason {
-        Reason::NotHeld => entry(19, *b"NOTHELD   ", 7, Returned::Nothing),
-        Reason::Unfinished => entry(20, *b"UNFINISHED", 10, Returned::Nothing),
-        Reason::Header => entry(21, *b"HEADER    ", 6, Returned::Nothing),
-        Reason::Duplicate => entry(22, *b"DUPLICATE ", 9, Returned::Nothing),
-        Reason::NotFound => entry(24, *b"NOTFOUND  ", 8, Returned::Nothing),
-        Reason::Limits => entry(LIMITS, *b"LIMITS    ", 6, Returned::Nothing),
-        Reason::State => entry(STATE, *b"STATE     ", 5, Returned::Nothing),
+        Reason::NotHeld => Row(19, "NOTHELD", Returned::Nothing),
+        Reason::Unfinished => Row(20, "UNFINISHED", Returned::Nothing),
+        Reason::Header => Row(21, "HEADER", Returned::Nothing),
+        Reason::Duplicate => Row(22, "DUPLICATE", Returned::Nothing),
+        Reason::NotFound => Row(24, "NOTFOUND", Returned::Nothing),
+        Reason::Limits => Row(LIMITS, "LIMITS", Returned::Nothing),
+        Reason::State => Row(STATE, "STATE", Returned::Nothing),
     }
 }
 
@@ -141,13 +118,13 @@ fn row_of(answer: Answer) -> Row
     ensures { Reads result (row_of answer) }
 {
     match answer {
-        Answer::Stored(heard, meant) => entry(0, *b"STORED    ", 6, Returned::Sent(heard, meant)),
-        Answer::Complete(heard, meant) => entry(1, *b"COMPLETE  ", 8, Returned::Sent(heard, meant)),
-        Answer::Repeat(heard, meant) => entry(2, *b"REPEAT    ", 6, Returned::Sent(heard, meant)),
-        Answer::Dropped(number) => entry(3, *b"DROPPED   ", 7, Returned::Number(number)),
+        Answer::Stored(heard, meant) => Row(0, "STORED", Returned::Sent(heard, meant)),
+        Answer::Complete(heard, meant) => Row(1, "COMPLETE", Returned::Sent(heard, meant)),
+        Answer::Repeat(heard, meant) => Row(2, "REPEAT", Returned::Sent(heard, meant)),
+        Answer::Dropped(number) => Row(3, "DROPPED", Returned::Number(number)),
         Answer::Refused(refusal) => refusal_row(refusal),
-        Answer::Conflict(heard) => entry(17, *b"CONFLICT  ", 8, Returned::Segment(heard)),
-        Answer::Full(heard) => entry(18, *b"FULL      ", 4, Returned::Segment(heard)),
+        Answer::Conflict(heard) => Row(17, "CONFLICT", Returned::Segment(heard)),
+        Answer::Full(heard) => Row(18, "FULL", Returned::Segment(heard)),
         Answer::Denied(reason) => reason_row(reason),
     }
 }
@@ -156,24 +133,19 @@ fn row_of(answer: Answer) -> Row
 pub fn number_of(answer: Answer) -> u8
     ensures { result ≡ number_of answer }
 {
-    row_of(answer).number
+    row_of(answer).0
 }
 
 // The name of an answer in document 01's table.
-pub fn name_of(answer: Answer) -> Name
-    ensures { Spells result.letters result.length (name_of answer) }
+pub fn name_of(answer: Answer) -> &'static str
+    ensures { Spells result.now (name_of answer) }
 {
-    let row = row_of(answer);
-    let letters = row.letters;
-    Name {
-        letters,
-        length: row.length,
-    }
+    row_of(answer).1
 }
 
 // The values that document 01's table returns with an answer.
 pub fn returned_with(answer: Answer) -> Returned
     ensures { result ≡ returned_with answer }
 {
-    row_of(answer).returned
+    row_of(answer).2
 }

@@ -1,29 +1,29 @@
 -- A segment given as numbers, or none, with what is kept of a part.
-use Rattle.std.specs.Prelude.{Bool, true, ℕ, ◌+◌, ltb}
+use Rattle.std.specs.Prelude.{Bool, true, Option, Some, None, ℕ, ◌+◌, ltb}
 use Rattle.cut.specs.Decision.{joins, suits, finished}
 use Rattle.cut.specs.Kept.{add_part, add_top}
 use Rattle.cut.specs.declared.Record.{Record}
-use Rattle.cut.specs.declared.Core.{Core}
+use Rattle.cut.specs.declared.Sizes.{Sizes}
 use Rattle.cut.specs.Lists.{pick}
 use Rattle.cases.specs.declared.Piece.{Piece}
 use Rattle.cases.specs.declared.Verdict.{Verdict}
 use Rattle.cases.specs.declared.Verdict.TheVariants.{Conflicts, Fits, Completes}
 
--- it has a number of 15 bits
-abbrev pub is_there : Piece → Bool
-is_there s = ltb s.number 32768
+abbrev pub count_of : Option Piece → ℕ
+count_of None = 0
+count_of (Some s) = 1
 
-abbrev pub count_of : Piece → ℕ
-count_of s = pick (is_there s) 1 0
+abbrev pub kept_with : Option Piece → Record → Record
+kept_with None p = p
+kept_with (Some s) p = add_part s.last s.number s.length p
 
-abbrev pub kept_with : Piece → Record → Record
-kept_with s p = pick (is_there s) (add_part s.last s.number s.length p) p
+abbrev pub top_with : Option Piece → ℕ → ℕ
+top_with None t = t
+top_with (Some s) t = add_top s.last s.number t
 
-abbrev pub top_with : Piece → ℕ → ℕ
-top_with s t = pick (is_there s) (add_top s.last s.number t) t
-
-abbrev pub goes_with : Piece → ℕ → Record → Bool
-goes_with s t p = pick (is_there s) (joins (ltb 0 t) s.last s.length p) true
+abbrev pub goes_with : Option Piece → ℕ → Record → Bool
+goes_with None t p = true
+goes_with (Some s) t p = joins (ltb 0 t) s.last s.length p
 
 -- ---- what the decision makes of a header segment and two body segments, the second one new
 
@@ -33,7 +33,7 @@ verdict_by suit whole = pick suit (pick whole Completes Fits) Conflicts
 abbrev nothing : Record
 nothing = record { size = 0; end = 0; tail = 0 }
 
-unfoldable pub verdict_of : ℕ → Core → Piece → Piece → Piece → Verdict
+unfoldable pub verdict_of : ℕ → Option Sizes → Option Piece → Option Piece → Option Piece → Verdict
 verdict_of limit core header first second =
     pick
     (goes_with second (top_with first 0) (kept_with first nothing))

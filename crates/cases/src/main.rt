@@ -3,19 +3,26 @@
 // independent program, which searches every length and every size (independent/src/bin/cases.rs).
 #![tactic(auto)]
 
-ghost use Rattle.std.specs.Prelude.{◌≡◌, true, false, ◌<◌};
-ghost use Rattle.cases.specs.Pieces.{is_there, count_of, kept_with, top_with, goes_with, verdict_by, verdict_of};
+ghost use Rattle.std.specs.Prelude.{◌≡◌, true, false, Some, None, ◌<◌};
+ghost use Rattle.cases.specs.Pieces.{count_of, kept_with, top_with, goes_with, verdict_of};
 
-use cut::{Core, Record};
+use cut::{Record, Sizes};
+use std::fmt;
 
 const LIMIT: usize = 12288;
 
 const MOST: usize = 1048576;
 
-// A segment, as far as the decision looks at it. One with a number of more than 15 bits is none.
+const NOTHING: Record = Record {
+    size: 0,
+    end: 0,
+    tail: 0,
+};
+
+// A segment, as far as the decision looks at it.
 #[derive(Clone, Copy)]
 struct Piece {
-    number: usize,
+    number: u16,
     last: bool,
     length: usize,
 }
@@ -28,7 +35,17 @@ enum Verdict {
     Completes,
 }
 
-fn full(number: usize, length: usize) -> Piece
+// A header segment, what it says if it is number 0, and two body segments, the second one new.
+#[derive(Clone, Copy)]
+struct Case {
+    limit: usize,
+    core: Option<Sizes>,
+    header: Option<Piece>,
+    first: Option<Piece>,
+    second: Option<Piece>,
+}
+
+fn full(number: u16, length: usize) -> Piece
     ensures { result ≡ record { number = number; last = false; length = length } }
 {
     Piece {
@@ -38,7 +55,7 @@ fn full(number: usize, length: usize) -> Piece
     }
 }
 
-fn last(number: usize, length: usize) -> Piece
+fn last(number: u16, length: usize) -> Piece
     ensures { result ≡ record { number = number; last = true; length = length } }
 {
     Piece {
@@ -48,273 +65,320 @@ fn last(number: usize, length: usize) -> Piece
     }
 }
 
-fn none() -> Piece
-    ensures { result ≡ record { number = 32768; last = false; length = 0 } }
-{
-    full(32768, 0)
-}
-
-fn nothing() -> Record
-    ensures { result ≡ record { size = 0; end = 0; tail = 0 } }
-{
-    Record {
-        size: 0,
-        end: 0,
-        tail: 0,
-    }
-}
-
-// A header whose segment 0 says these two lengths.
-fn says(header: usize, body: usize) -> Core
-    ensures { result ≡ Core.Seen body header }
-{
-    Core::Seen { body, header }
-}
-
-fn is_there(piece: Piece) -> bool
-    ensures { result ≡ is_there piece }
-{
-    piece.number < 32768
-}
-
-fn count_of(piece: Piece) -> usize
+fn count_of(piece: Option<Piece>) -> usize
     ensures { (result ≡ count_of piece) × (result < 2) }
 {
-    if is_there(piece) { 1 } else { 0 }
+    piece.is_some() as usize
 }
 
-fn kept_with(piece: Piece, kept: Record) -> Record
+fn kept_with(piece: Option<Piece>, kept: Record) -> Record
     ensures { result ≡ kept_with piece kept }
 {
-    if is_there(piece) {
-        return part::record::add(piece.last, piece.number, piece.length, kept);
-    }
-    kept
+    piece.map_or(kept, |piece| {
+        part::record::add(piece.last, piece.number as usize, piece.length, kept)
+    })
 }
 
-fn top_with(piece: Piece, top: usize) -> usize
+fn top_with(piece: Option<Piece>, top: usize) -> usize
     ensures { result ≡ top_with piece top }
 {
-    if !is_there(piece) {
-        return top;
-    }
-    if piece.last {
-        return top;
-    }
-    if piece.number < top {
-        return top;
-    }
-    piece.number + 1
+    piece.map_or(top, |piece| {
+        part::record::add_top(piece.last, piece.number as usize, top)
+    })
 }
 
-fn goes_with(piece: Piece, top: usize, kept: Record) -> bool
+fn goes_with(piece: Option<Piece>, top: usize, kept: Record) -> bool
     ensures { result ≡ goes_with piece top kept }
 {
-    if is_there(piece) {
-        return part::record::joins(0 < top, piece.last, piece.length, kept);
-    }
-    true
+    piece.is_none_or(|piece| part::record::joins(0 < top, piece.last, piece.length, kept))
 }
 
-fn verdict_by(suits: bool, finished: bool) -> Verdict
-    ensures { result ≡ verdict_by suits finished }
+// What comes of the second body segment, where the header segment and the first one are held.
+#[tactic(auto, unfolding(crate::specs::Pieces::verdict_of))]
+fn verdict_of(case: Case) -> Verdict
+    ensures { result ≡ verdict_of case.limit case.core case.header case.first case.second }
 {
-    if !suits {
+    let core = case.core;
+    let headers = kept_with(case.header, NOTHING);
+    let held = kept_with(case.first, NOTHING);
+    let top = top_with(case.first, 0);
+    if !goes_with(case.second, top, held) {
         return Verdict::Conflicts;
     }
-    if finished {
+    let bodies = kept_with(case.second, held);
+    if !object::decision::suits(
+        case.limit,
+        core,
+        top_with(case.header, 0),
+        headers,
+        top_with(case.second, top),
+        bodies,
+    ) {
+        return Verdict::Conflicts;
+    }
+    let count = count_of(case.first) + count_of(case.second);
+    if object::decision::finished(core, count_of(case.header), headers, count, bodies) {
         return Verdict::Completes;
     }
     Verdict::Fits
 }
 
-// What comes of the second body segment, where the header segment and the first one are held.
-fn verdict_of(limit: usize, core: Core, header: Piece, first: Piece, second: Piece) -> Verdict
-    ensures { result ≡ verdict_of limit core header first second }
+// ---- a case, written
+
+impl fmt::Display for Piece {
+    fn fmt<W: fmt::Write>(&self, f: &mut fmt::Formatter<W>) -> fmt::Result {
+        let number = self.number;
+        let flag = if self.last { "last" } else { "not last" };
+        let length = self.length;
+        write!(f, "{number}, {flag}, length {length}")
+    }
+}
+
+impl fmt::Display for Verdict {
+    fn fmt<W: fmt::Write>(&self, f: &mut fmt::Formatter<W>) -> fmt::Result {
+        f.write_str(match self {
+            Verdict::Conflicts => "conflicts",
+            Verdict::Fits => "fits",
+            Verdict::Completes => "completes",
+        })
+    }
+}
+
+impl fmt::Display for Case {
+    fn fmt<W: fmt::Write>(&self, f: &mut fmt::Formatter<W>) -> fmt::Result {
+        let case = *self;
+        let limit = case.limit;
+        write!(f, "limit {limit}")?;
+        if let Some(piece) = case.header {
+            write!(f, "; header {piece}")?;
+        }
+        if let Some(Sizes { body, header }) = case.core {
+            write!(f, ", HeaderSize {header}, BodySize {body}")?;
+        }
+        if let Some(piece) = case.first {
+            write!(f, "; body {piece}")?;
+        }
+        if let Some(piece) = case.second {
+            write!(f, "; body {piece}")?;
+        }
+        let verdict = verdict_of(case);
+        write!(f, ": {verdict}")
+    }
+}
+
+// Where a case can't be written the others go on.
+fn say(output: &impl Print, cases: &[Case]) {
+    for case in cases {
+        let _ = println!(output; "{case}");
+    }
+}
+
+// ---- the cases
+
+fn header_alone(header: Piece) -> Case
+    ensures { result ≡ record { limit = 12288; core = None; header = Some header; first = None; second = None } }
 {
-    let headers = kept_with(header, nothing());
-    let held = kept_with(first, nothing());
-    let top = top_with(first, 0);
-    if !goes_with(second, top, held) {
-        return Verdict::Conflicts;
-    }
-    let bodies = kept_with(second, held);
-    let count = count_of(first) + count_of(second);
-    verdict_by(
-        object::decision::suits(
-            limit,
-            core,
-            top_with(header, 0),
-            headers,
-            top_with(second, top),
-            bodies,
-        ),
-        object::decision::finished(core, count_of(header), headers, count, bodies),
-    )
-}
-
-// Where a text can't be written the cases go on.
-fn say(output: &impl Print, text: &str) {
-    let _ = output.print(text);
-}
-
-fn say_number(output: &impl Print, name: &str, number: usize) {
-    let _ = print!(output; "{name}{number}");
-}
-
-fn say_piece(output: &impl Print, part: &str, piece: Piece) {
-    if !is_there(piece) {
-        return;
-    }
-    say_number(output, part, piece.number);
-    if piece.last {
-        say(output, ", last");
-    } else {
-        say(output, ", not last");
-    }
-    say_number(output, ", length ", piece.length);
-}
-
-fn say_core(output: &impl Print, core: Core) {
-    if let Core::Seen { body, header } = core {
-        say_number(output, ", HeaderSize ", header);
-        say_number(output, ", BodySize ", body);
+    Case {
+        limit: LIMIT,
+        core: None,
+        header: Some(header),
+        first: None,
+        second: None,
     }
 }
 
-fn say_verdict(output: &impl Print, verdict: Verdict) {
-    match verdict {
-        Verdict::Conflicts => say(output, ": conflicts\n"),
-        Verdict::Completes => say(output, ": completes\n"),
-        Verdict::Fits => say(output, ": fits\n"),
-    };
+// One whose segment 0 says its length, and that there is no body.
+fn header_first(header: Piece, size: usize) -> Case
+    ensures { result ≡ record {
+      limit = 12288;
+      core = Some (record { body = 0; header = size });
+      header = Some header;
+      first = None;
+      second = None;
+    } }
+{
+    Case {
+        core: Some(Sizes {
+            body: 0,
+            header: size,
+        }),
+        ..header_alone(header)
+    }
 }
 
-// A header segment, what it says if it is number 0, and two body segments, the second one new.
-fn case(output: &impl Print, limit: usize, core: Core, header: Piece, first: Piece, second: Piece) {
-    say_number(output, "limit ", limit);
-    say_piece(output, "; header ", header);
-    say_core(output, core);
-    say_piece(output, "; body ", first);
-    say_piece(output, "; body ", second);
-    say_verdict(output, verdict_of(limit, core, header, first, second));
-}
-
-fn header_alone(output: &impl Print, header: Piece) {
-    case(output, LIMIT, Core::Unseen, header, none(), none());
-}
-
-fn header_first(output: &impl Print, header: Piece, size: usize) {
-    case(output, LIMIT, says(size, 0), header, none(), none());
-}
-
-fn body_alone(output: &impl Print, limit: usize, body: Piece) {
-    case(output, limit, Core::Unseen, none(), body, none());
+fn body_alone(limit: usize, body: Piece) -> Case
+    ensures { result ≡ record { limit = limit; core = None; header = None; first = Some body; second = None } }
+{
+    Case {
+        limit,
+        core: None,
+        header: None,
+        first: Some(body),
+        second: None,
+    }
 }
 
 // A whole header of 7 bytes that says BodySize, and body segments.
-fn sized(output: &impl Print, limit: usize, size: usize, first: Piece, second: Piece) {
-    case(output, limit, says(7, size), last(0, 7), first, second);
+fn sized(limit: usize, size: usize, first: Option<Piece>, second: Option<Piece>) -> Case
+    ensures { result ≡ record {
+      limit = limit;
+      core = Some (record { body = size; header = 7 });
+      header = Some (record { number = 0; last = true; length = 7 });
+      first = first;
+      second = second;
+    } }
+{
+    Case {
+        limit,
+        core: Some(Sizes {
+            body: size,
+            header: 7,
+        }),
+        header: Some(last(0, 7)),
+        first,
+        second,
+    }
 }
 
-fn pair(output: &impl Print, first: Piece, second: Piece) {
-    case(output, LIMIT, Core::Unseen, none(), first, second);
+fn pair(first: Piece, second: Piece) -> Case
+    ensures { result ≡ record {
+      limit = 12288;
+      core = None;
+      header = None;
+      first = Some first;
+      second = Some second;
+    } }
+{
+    Case {
+        second: Some(second),
+        ..body_alone(LIMIT, first)
+    }
 }
 
 fn cases_of_document_01(output: &impl Print) {
-    sized(output, LIMIT, 20, none(), none());
-    sized(output, LIMIT, 0, none(), none());
-    sized(output, LIMIT, 100, last(3, 10), none());
-    sized(output, LIMIT, 99, last(3, 10), none());
-    sized(output, LIMIT, 40, last(3, 10), none());
-    sized(output, LIMIT, 58, last(3, 10), none());
-    sized(output, LIMIT, 68, last(3, 20), none());
-    sized(output, LIMIT, 32, full(0, 16), full(1, 16));
-    sized(output, LIMIT, 32, full(0, 16), last(1, 16));
-    header_first(output, full(0, 16), 16);
-    header_first(output, full(0, 16), 17);
-    header_alone(output, last(63, 16));
-    header_alone(output, last(63, 17));
-    header_alone(output, last(0, 6));
+    say(
+        output,
+        &[
+            sized(LIMIT, 20, None, None),
+            sized(LIMIT, 0, None, None),
+            sized(LIMIT, 100, Some(last(3, 10)), None),
+            sized(LIMIT, 99, Some(last(3, 10)), None),
+            sized(LIMIT, 40, Some(last(3, 10)), None),
+            sized(LIMIT, 58, Some(last(3, 10)), None),
+            sized(LIMIT, 68, Some(last(3, 20)), None),
+            sized(LIMIT, 32, Some(full(0, 16)), Some(full(1, 16))),
+            sized(LIMIT, 32, Some(full(0, 16)), Some(last(1, 16))),
+            header_first(full(0, 16), 16),
+            header_first(full(0, 16), 17),
+            header_alone(last(63, 16)),
+            header_alone(last(63, 17)),
+            header_alone(last(0, 6)),
+        ],
+    );
 }
 
 // A header's numbers and lengths, and the body size that it says.
 fn cases_of_headers(output: &impl Print) {
-    header_alone(output, last(64, 7));
-    header_alone(output, full(62, 16));
-    header_alone(output, full(63, 16));
-    header_first(output, last(0, 1024), 1024);
-    header_first(output, last(0, 1025), 1025);
-    sized(output, 1024, 1024, none(), none());
-    sized(output, 1024, 1025, none(), none());
-    sized(output, LIMIT, LIMIT, none(), none());
-    sized(output, LIMIT, LIMIT + 1, none(), none());
-    sized(output, MOST, MOST, none(), none());
-    sized(output, MOST, MOST + 1, none(), none());
+    say(
+        output,
+        &[
+            header_alone(last(64, 7)),
+            header_alone(full(62, 16)),
+            header_alone(full(63, 16)),
+            header_first(last(0, 1024), 1024),
+            header_first(last(0, 1025), 1025),
+            sized(1024, 1024, None, None),
+            sized(1024, 1025, None, None),
+            sized(LIMIT, LIMIT, None, None),
+            sized(LIMIT, LIMIT + 1, None, None),
+            sized(MOST, MOST, None, None),
+            sized(MOST, MOST + 1, None, None),
+        ],
+    );
 }
 
 // A body's numbers and sizes, and how far they reach.
 fn cases_of_bodies(output: &impl Print) {
-    sized(output, MOST, 16384, full(0, 16), none());
-    sized(output, MOST, 16385, full(0, 16), none());
-    body_alone(output, 16384, last(1023, 16));
-    body_alone(output, 16384, full(1022, 16));
-    body_alone(output, 16384, full(1023, 16));
-    body_alone(output, 16400, last(1024, 1));
-    body_alone(output, MOST, last(1023, 16));
-    body_alone(output, MOST, full(1023, 16));
-    body_alone(output, MOST, last(1024, 16));
-    body_alone(output, MOST, full(1024, 16));
-    sized(output, MOST, MOST, full(0, 8189), none());
-    sized(output, MOST, MOST, full(0, 8190), none());
-    sized(output, MOST, 8385536, full(0, 8189), none());
+    say(
+        output,
+        &[
+            sized(MOST, 16384, Some(full(0, 16)), None),
+            sized(MOST, 16385, Some(full(0, 16)), None),
+            body_alone(16384, last(1023, 16)),
+            body_alone(16384, full(1022, 16)),
+            body_alone(16384, full(1023, 16)),
+            body_alone(16400, last(1024, 1)),
+            body_alone(MOST, last(1023, 16)),
+            body_alone(MOST, full(1023, 16)),
+            body_alone(MOST, last(1024, 16)),
+            body_alone(MOST, full(1024, 16)),
+            sized(MOST, MOST, Some(full(0, 8189)), None),
+            sized(MOST, MOST, Some(full(0, 8190)), None),
+            sized(MOST, 8385536, Some(full(0, 8189)), None),
+        ],
+    );
 }
 
 // The last one alone, number n of length k: n times the greater of 16 and k, and k, at the limit and one or as little
 // as can be over.
 fn cases_of_the_last_alone(output: &impl Print) {
-    body_alone(output, 1024, last(63, 16));
-    body_alone(output, 1024, last(63, 17));
-    body_alone(output, LIMIT, last(767, 16));
-    body_alone(output, LIMIT, last(767, 17));
-    body_alone(output, LIMIT, last(768, 1));
-    body_alone(output, LIMIT, last(511, 24));
-    body_alone(output, LIMIT - 1, last(511, 24));
-    body_alone(output, LIMIT, last(2, 4096));
-    body_alone(output, LIMIT, last(2, 4097));
-    body_alone(output, MOST, last(1023, 1024));
-    body_alone(output, MOST, last(1023, 1025));
-    body_alone(output, MOST, last(127, 8189));
-    body_alone(output, MOST, last(128, 8128));
-    body_alone(output, MOST, last(128, 8129));
+    say(
+        output,
+        &[
+            body_alone(1024, last(63, 16)),
+            body_alone(1024, last(63, 17)),
+            body_alone(LIMIT, last(767, 16)),
+            body_alone(LIMIT, last(767, 17)),
+            body_alone(LIMIT, last(768, 1)),
+            body_alone(LIMIT, last(511, 24)),
+            body_alone(LIMIT - 1, last(511, 24)),
+            body_alone(LIMIT, last(2, 4096)),
+            body_alone(LIMIT, last(2, 4097)),
+            body_alone(MOST, last(1023, 1024)),
+            body_alone(MOST, last(1023, 1025)),
+            body_alone(MOST, last(127, 8189)),
+            body_alone(MOST, last(128, 8128)),
+            body_alone(MOST, last(128, 8129)),
+        ],
+    );
 }
 
 // Two segments of a part: there is one last one, full ones have one length, and the last one is no longer and comes
 // after.
 fn cases_of_two_segments(output: &impl Print) {
-    pair(output, full(0, 16), full(1, 17));
-    pair(output, full(0, 17), full(1, 17));
-    pair(output, last(1, 16), last(2, 16));
-    pair(output, full(0, 16), last(1, 17));
-    pair(output, full(0, 17), last(1, 17));
-    pair(output, full(1, 16), last(1023, 16));
-    pair(output, full(2, 16), last(1, 16));
+    say(
+        output,
+        &[
+            pair(full(0, 16), full(1, 17)),
+            pair(full(0, 17), full(1, 17)),
+            pair(last(1, 16), last(2, 16)),
+            pair(full(0, 16), last(1, 17)),
+            pair(full(0, 17), last(1, 17)),
+            pair(full(1, 16), last(1023, 16)),
+            pair(full(2, 16), last(1, 16)),
+        ],
+    );
 }
 
 // The empty last segment: with BodySize 0 or before it is said, and with nothing else of the body.
 fn cases_of_the_empty_segment(output: &impl Print) {
-    body_alone(output, LIMIT, last(0, 0));
-    body_alone(output, LIMIT, last(1, 0));
-    body_alone(output, LIMIT, full(0, 0));
-    header_alone(output, last(0, 0));
-    sized(output, LIMIT, 0, last(0, 0), none());
-    sized(output, LIMIT, 1, last(0, 0), none());
-    sized(output, LIMIT, LIMIT, last(0, 0), none());
-    sized(output, MOST, MOST, last(0, 0), none());
-    pair(output, last(0, 0), last(1, 5));
-    pair(output, last(1, 5), last(0, 0));
-    pair(output, last(0, 0), full(1, 16));
-    pair(output, full(1, 16), last(0, 0));
+    say(
+        output,
+        &[
+            body_alone(LIMIT, last(0, 0)),
+            body_alone(LIMIT, last(1, 0)),
+            body_alone(LIMIT, full(0, 0)),
+            header_alone(last(0, 0)),
+            sized(LIMIT, 0, Some(last(0, 0)), None),
+            sized(LIMIT, 1, Some(last(0, 0)), None),
+            sized(LIMIT, LIMIT, Some(last(0, 0)), None),
+            sized(MOST, MOST, Some(last(0, 0)), None),
+            pair(last(0, 0), last(1, 5)),
+            pair(last(1, 5), last(0, 0)),
+            pair(last(0, 0), full(1, 16)),
+            pair(full(1, 16), last(0, 0)),
+        ],
+    );
 }
 
 fn main(rt: HostRuntime) {

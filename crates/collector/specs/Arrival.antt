@@ -33,15 +33,19 @@ heard_as a = record { number = a.number; part = a.part; segment = a.segment.numb
 
 -- the segment that a group carries
 abbrev pub segment_in : List ℕ → Carried → Segment
-segment_in group carried = record { number = carried.segment; last = carried.last; bytes = bytes_in group carried }
+segment_in group carried = record {
+  number = carried.heard.segment;
+  last = carried.last;
+  bytes = bytes_in group carried;
+}
 
 abbrev pub arrival_in : List ℕ → Carried → Arrival
 arrival_in group carried = record {
-  number = carried.number;
-  part = carried.part;
+  number = carried.heard.number;
+  part = carried.heard.part;
   segment = segment_in group carried;
   repetition = carried.repetition;
 }
 
 abbrev pub heard_in : Carried → Heard
-heard_in carried = record { number = carried.number; part = carried.part; segment = carried.segment }
+heard_in carried = carried.heard

@@ -1,17 +1,14 @@
 -- What each call of the collector answers, and the state that it leaves.
-use Rattle.std.specs.Prelude.{Bool, true, false, List, [], ℕ, length}
+use Rattle.std.specs.Prelude.{Option, None, Some, Bool, true, false, Result, Ok, Err, List, [], ℕ, length}
 use Rattle.octets.specs.Octets.{zeros}
 use Rattle.answer.specs.declared.Answer.{Answer}
-use Rattle.answer.specs.declared.Answer.TheVariants as Answer
-use Rattle.answer.specs.declared.Reason.TheVariants as Reason
+use Rattle.answer.specs.declared.Reason.{Reason}
 use Rattle.answer.specs.declared.Heard.{Heard}
 use Rattle.answer.specs.declared.Part.{Part}
 use Rattle.answer.specs.declared.Refusal.{Refusal}
-use Rattle.answer.specs.declared.Refusal.TheVariants as Refusal
 use Rattle.answer.specs.declared.Repetition.{Repetition}
 use Rattle.counts.specs.Counted.{none_yet, counted, within}
-use Rattle.wire.specs.declared.Reading.{Reading}
-use Rattle.wire.specs.declared.Reading.TheVariants.{Read, Refused}
+use Rattle.wire.specs.declared.Carried.{Carried}
 use Rattle.wire.specs.Reading.{reading_of}
 use Rattle.cut.specs.Lists.{pick, both}
 use Rattle.object.specs.declared.Outcome.{Outcome}
@@ -19,18 +16,12 @@ use Rattle.object.specs.declared.Outcome.TheVariants.{Stored, Complete, Repeat, 
 use Rattle.object.specs.declared.Stage.{Stage}
 use Rattle.object.specs.declared.Stage.TheVariants.{Free, Gathering, Finished}
 use Rattle.object.specs.declared.Slot.{Slot}
-use Rattle.slots.specs.declared.Found.{Found}
-use Rattle.slots.specs.declared.Found.TheVariants.{Nothing, At}
 use Rattle.slots.specs.Stores.{slot_at}
 use Rattle.slots.specs.Alone.{fits_alone}
 use Rattle.slots.specs.State.{within_limits, sound_slots}
 use Rattle.slots.specs.Show.{shown_of}
 use Rattle.slots.specs.Take.{TakenAt, take_at, take_new, drop_at}
 use Rattle.collector.specs.declared.Collector.{Collector}
-use Rattle.collector.specs.declared.Opening.{Opening}
-use Rattle.collector.specs.declared.Opening.TheVariants as Opening
-use Rattle.collector.specs.declared.Located.{Located}
-use Rattle.collector.specs.declared.Located.TheVariants as Located
 use Rattle.collector.specs.State.{State, Reply, Start, Opened, state, find, free, all_free}
 use Rattle.collector.specs.Arrival.{Arrival, heard_as, arrival_in}
 
@@ -67,9 +58,9 @@ taken_by a s taken =
     (state (with_slots taken.slots s.collector) s.counts taken.stores)
 
 -- no slot holds the number: the segment takes the lowest free one
-abbrev pub into_free : Found → Arrival → State → Reply
-into_free Nothing a s = answering (Answer.Full (heard_as a)) s
-into_free (At i) a s =
+abbrev pub into_free : Option ℕ → Arrival → State → Reply
+into_free None a s = answering (Answer.Full (heard_as a)) s
+into_free (Some i) a s =
     taken_by a s
     (take_new a.number a.part s.collector.limit i a.segment s.collector.slots s.stores)
 
@@ -78,10 +69,10 @@ abbrev pub if_alone : Bool → Arrival → State → Reply
 if_alone true a s = into_free (free s) a s
 if_alone false a s = answering (Answer.Conflict (heard_as a)) s
 
-abbrev pub into_held : Found → Arrival → State → Reply
-into_held (At i) a s =
+abbrev pub into_held : Option ℕ → Arrival → State → Reply
+into_held (Some i) a s =
     taken_by a s (take_at a.part s.collector.limit i a.segment s.collector.slots s.stores)
-into_held Nothing a s = if_alone (fits_alone a.part s.collector.limit a.segment) a s
+into_held None a s = if_alone (fits_alone a.part s.collector.limit a.segment) a s
 
 -- STATE, then CONFLICT, then FULL
 unfoldable pub take_segment : Arrival → State → Reply
@@ -89,14 +80,9 @@ take_segment a s = pick (sound s) (into_held (find a.number s) a s) (answering (
 
 -- ---- a group
 
-abbrev pub take_read : Reading → List ℕ → State → Reply
-take_read (Refused refusal) group s = answering (Answer.Refused refusal) s
-take_read (Read carried) group s = take_segment (arrival_in group carried) s
-
--- why a group is not read; a group that is read is never asked this
-abbrev pub refusal_of : Reading → Refusal
-refusal_of (Refused refusal) = refusal
-refusal_of (Read carried) = Refusal.Length
+abbrev pub take_read : Result Carried Refusal → List ℕ → State → Reply
+take_read (Err refusal) group s = answering (Answer.Refused refusal) s
+take_read (Ok carried) group s = take_segment (arrival_in group carried) s
 
 -- STATE, then the reading checks; then the segment comes in
 unfoldable pub take_group : List ℕ → State → Reply
@@ -105,9 +91,9 @@ take_group group s =
 
 -- ---- a drop
 
-abbrev pub drop_found : Found → ℕ → State → Reply
-drop_found Nothing number s = answering (Answer.Denied Reason.NotHeld) s
-drop_found (At i) number s =
+abbrev pub drop_found : Option ℕ → ℕ → State → Reply
+drop_found None number s = answering (Answer.Denied Reason.NotHeld) s
+drop_found (Some i) number s =
     let left = drop_at i s.collector.slots s.stores.marks in
     answering (Answer.Dropped number)
     (state (with_slots left.slots s.collector) s.counts
@@ -132,31 +118,31 @@ open_with start =
     let lent = start.stores in
     pick (in_limits start)
     (record {
-      opening = Opening.Open;
+      opening = Ok tt;
       left =
           state (all_free start.limit start.count) none_yet
           (record { header = lent.header; body = lent.body; marks = zeros (length lent.marks) });
     })
-    (record { opening = Opening.Denied Reason.Limits; left = state (all_free 0 0) start.counts lent })
+    (record { opening = Err Reason.Limits; left = state (all_free 0 0) start.counts lent })
 
 -- ---- a finished object
 
-abbrev pub located_as : Stage → ℕ → Located
-located_as Free i = Located.Denied Reason.NotHeld
-located_as Gathering i = Located.Denied Reason.Unfinished
-located_as (Finished header body) i = Located.At i
+abbrev pub located_as : Stage → ℕ → Result ℕ Reason
+located_as Free i = Err Reason.NotHeld
+located_as Gathering i = Err Reason.Unfinished
+located_as (Finished header body) i = Ok i
 
-abbrev pub located_in : Found → Collector → Located
-located_in Nothing c = Located.Denied Reason.NotHeld
-located_in (At i) c = located_as (slot_at i c.slots).stage i
+abbrev pub located_in : Option ℕ → Collector → Result ℕ Reason
+located_in None c = Err Reason.NotHeld
+located_in (Some i) c = located_as (slot_at i c.slots).stage i
 
 -- STATE, NOTHELD, UNFINISHED
-unfoldable pub locate : ℕ → State → Located
-locate number s = pick (sound s) (located_in (find number s) s.collector) (Located.Denied Reason.State)
+unfoldable pub locate : ℕ → State → Result ℕ Reason
+locate number s = pick (sound s) (located_in (find number s) s.collector) (Err Reason.State)
 
-abbrev pub shown_at : Located → Part → State → List ℕ
-shown_at (Located.Denied why) part s = []
-shown_at (Located.At i) part s =
+abbrev pub shown_at : Result ℕ Reason → Part → State → List ℕ
+shown_at (Err why) part s = []
+shown_at (Ok i) part s =
     shown_of part i s.collector.limit (slot_at i s.collector.slots) s.stores.header s.stores.body
 
 -- its header or body, as the part of the store that has it; nothing where it can't be shown

@@ -1,14 +1,13 @@
 -- A collector's state, as the caller has it in hand between two calls, and what a call answers and leaves. Every call
 -- is defined in these words.
-use Rattle.std.specs.Prelude.{List, ℕ, replicate}
+use Rattle.std.specs.Prelude.{Option, List, ℕ, replicate, Result, ⊤}
 use Rattle.std.specs.Borrow.{Bor}
 use Rattle.answer.specs.declared.Answer.{Answer}
+use Rattle.answer.specs.declared.Reason.{Reason}
 use Rattle.counts.specs.declared.Counts.{Counts}
 use Rattle.slots.specs.Stores.{Stores, slots_most, free_slot}
-use Rattle.slots.specs.declared.Found.{Found}
 use Rattle.slots.specs.Find.{find_in, free_in}
 use Rattle.collector.specs.declared.Collector.{Collector}
-use Rattle.collector.specs.declared.Opening.{Opening}
 use Rattle.collector.specs.declared.Reply.{Reply as ReplyOf}
 use Rattle.collector.specs.declared.Opened.{Opened as OpenedOf}
 
@@ -29,7 +28,7 @@ pub record Start : Type 0 where
   pub stores : Stores
 
 pub record Opened : Type 0 where
-  pub opening : Opening
+  pub opening : Result ⊤ Reason
   pub left : State
 
 -- ---- as a contract has them: what is lent, what is passed, and what is returned beside what is lent
@@ -50,10 +49,10 @@ abbrev pub opened : OpenedOf → Stores → Opened
 opened r lent = record { opening = r.opening; left = state r.collector r.counts lent }
 
 -- the slot that holds a number, and the lowest one that is free
-abbrev pub find : ℕ → State → Found
+abbrev pub find : ℕ → State → Option ℕ
 find number s = find_in number s.collector.count s.collector.slots
 
-abbrev pub free : State → Found
+abbrev pub free : State → Option ℕ
 free s = free_in s.collector.count s.collector.slots
 
 abbrev pub all_free : ℕ → ℕ → Collector

@@ -13,15 +13,14 @@ ghost use Rattle.slots.specs.Stores.{Stores, stores, slots_most, slot_at, lent_a
 ghost use Rattle.slots.specs.Take.{Inside};
 ghost use Rattle.collector.specs.Bounds.{bounds};
 ghost use Rattle.collector.specs.State.{state, reply, start, opened};
-ghost use Rattle.collector.specs.Calls.{answer_as, into_held, take_segment, refusal_of, take_group, drop_number, open_with, located_as, locate, show, sound, answering};
+ghost use Rattle.collector.specs.Calls.{answer_as, into_held, take_segment, take_group, drop_number, open_with, locate, show, sound, answering};
 ghost use Rattle.collector.specs.Changes.{place_of, left_by, offered_at};
-ghost use Rattle.collector.specs.Arrival.{heard_in, no_repetition, arrival};
+ghost use Rattle.collector.specs.Arrival.{no_repetition, arrival};
 
-use answer::{Answer, Heard, Part, Reason, Refusal, Repetition};
+use answer::{Answer, Heard, Part, Reason, Repetition};
 use counts::Counts;
+use cut::Segment;
 use object::{Outcome, Slot, Stage};
-use slots::Found;
-use wire::{Carried, Reading};
 
 // A collector: the limit on a body, how many slots it has, and the slots.
 #[derive(Clone, Copy)]
@@ -50,37 +49,13 @@ pub struct BoundingNumbers {
     pub slot_marks: usize,
 }
 
-// Whether a collector is open, or why it is not.
-#[derive(Clone, Copy)]
-pub enum Opening {
-    Open,
-    Denied(Reason),
-}
-
-// What an opening hands back. A refused one hands back a collector that every call answers with
-// STATE.
+// What an opening hands back: whether the collector is open, or why it is not. A refused one hands back a collector
+// that every call answers with STATE.
 #[derive(Clone, Copy)]
 pub struct Opened {
-    pub opening: Opening,
+    pub opening: Result<(), Reason>,
     pub collector: Collector,
     pub counts: Counts,
-}
-
-// Where a finished object is, or why it can't be shown.
-#[derive(Clone, Copy)]
-pub enum Located {
-    At(usize),
-    Denied(Reason),
-}
-
-fn located_as(stage: Stage, i: usize) -> Located
-    ensures { result ≡ located_as stage i }
-{
-    match stage {
-        Stage::Free => Located::Denied(Reason::NotHeld),
-        Stage::Gathering => Located::Denied(Reason::Unfinished),
-        Stage::Finished(_, _) => Located::At(i),
-    }
 }
 
 // What a call answers, and the collector and the counts afterwards.
@@ -92,7 +67,8 @@ pub struct Reply {
 }
 
 // What a segment comes to: the answer, and the slot that is put in one place, if one is. It is handed
-// from function to function in place of the collector, which is more than ten times as large.
+// from function to function in place of the collector, which is more than ten times as large. Both cases carry an
+// answer: an `Option` of the place and the slot beside it would be no plainer.
 #[derive(Clone, Copy)]
 enum Change {
     Nothing(Answer),
@@ -107,18 +83,6 @@ fn answer_as(outcome: Outcome, heard: Heard, repetition: Repetition) -> Answer
         Outcome::Complete => Answer::Complete(heard, repetition),
         Outcome::Repeat => Answer::Repeat(heard, repetition),
         Outcome::Conflict => Answer::Conflict(heard),
-    }
-}
-
-// The segment that a group carries, by its numbers.
-fn heard_as(carried: Carried) -> Heard
-    ensures { result ≡ heard_in carried }
-{
-    let part = carried.part;
-    Heard {
-        number: carried.number,
-        part,
-        segment: carried.segment,
     }
 }
 
@@ -141,23 +105,15 @@ fn take_at(
         ≡ offered_at limit i (arrival heard repetition last bytes.now) slot
         (stores header.old body.old marks.old) }
 {
-    let part = heard.part;
-    let number = heard.segment as usize;
-    let took = slots::take_into(
-        slot, part, limit, i, last, number, bytes, header, body, marks,
-    );
+    let segment = Segment {
+        number: heard.segment as usize,
+        last,
+        bytes,
+    };
+    let took = slots::take_into(slot, heard.part, limit, i, &segment, header, body, marks);
     let outcome = took.outcome;
     let after = took.slot;
     Change::At(i, after, answer_as(outcome, heard, repetition))
-}
-
-fn refusal_of(reading: Reading) -> Refusal
-    ensures { result ≡ refusal_of reading }
-{
-    match reading {
-        Reading::Refused(refusal) => refusal,
-        Reading::Read(_) => Refusal::Length,
-    }
 }
 
 impl Collector {
@@ -235,7 +191,7 @@ impl Collector {
                 slots: [free; Collector::SLOTS_MOST],
             };
             return Opened {
-                opening: Opening::Denied(Reason::Limits),
+                opening: Err(Reason::Limits),
                 collector: none,
                 counts,
             };
@@ -247,7 +203,7 @@ impl Collector {
             slots: [free; Collector::SLOTS_MOST],
         };
         Opened {
-            opening: Opening::Open,
+            opening: Ok(()),
             collector: fresh,
             counts: counts::none_yet(),
         }
@@ -258,14 +214,11 @@ impl Collector {
     pub fn is_sound(self, counts: Counts, header: &[u8], body: &[u8], marks: &[u8]) -> bool
         ensures { result ≡ sound (state self counts (stores header.now body.now marks.now)) }
     {
-        let slots = self.slots;
-        if !slots::sound(self.limit, self.count, slots, header, body, marks) {
-            return false;
-        }
-        counts::are_within(counts)
+        slots::sound(self.limit, self.count, self.slots, header, body, marks)
+            && counts::are_within(counts)
     }
 
-    // Where the finished object of a number is.
+    // Where the finished object of a number is, or why it can't be shown.
     pub fn locate(
         self,
         counts: Counts,
@@ -273,22 +226,21 @@ impl Collector {
         header: &[u8],
         body: &[u8],
         marks: &[u8],
-    ) -> Located
+    ) -> Result<usize, Reason>
         ensures { result ≡ locate number (state self counts (stores header.now body.now marks.now)) }
     {
         if !self.is_sound(counts, header, body, marks) {
-            return Located::Denied(Reason::State);
+            return Err(Reason::State);
         }
         let slots = self.slots;
-        let Found::At(i) = slots::find(number, self.count, slots) else {
-            return Located::Denied(Reason::NotHeld);
+        let Some(i) = slots::find(number, self.count, slots) else {
+            return Err(Reason::NotHeld);
         };
-        if Collector::SLOTS_MOST <= i {
-            return Located::Denied(Reason::NotHeld);
+        match self.slots[i].stage {
+            Stage::Free => Err(Reason::NotHeld),
+            Stage::Gathering => Err(Reason::Unfinished),
+            Stage::Finished(_, _) => Ok(i),
         }
-        let slot = self.slots[i];
-        let stage = slot.stage;
-        located_as(stage, i)
     }
 
     // A part of the finished object in slot i; nothing where there is none.
@@ -317,7 +269,7 @@ impl Collector {
         ensures { result.now ≡ show number part
             (state self counts (stores header.now body.now marks.now)) }
     {
-        let Located::At(i) = self.locate(counts, number, header, body, marks) else {
+        let Ok(i) = self.locate(counts, number, header, body, marks) else {
             return &header[..0];
         };
         self.shown_at(part, i, header, body)
@@ -362,16 +314,19 @@ impl Collector {
         requires { sound_slots self.limit self.count self.slots (stores header.old body.old marks.old) ≡ true }
         ensures { (place_of result < slots_most) × ((counts : Counts)
             → left_by result (state self counts (stores header.new body.new marks.new))
-            ≡ into_held Found.Nothing (arrival heard repetition last bytes.now)
+            ≡ into_held None (arrival heard repetition last bytes.now)
             (state self counts (stores header.old body.old marks.old))) }
     {
-        let part = heard.part;
-        let number = heard.segment as usize;
-        if !slots::fits_alone(part, self.limit, last, number, bytes) {
+        let segment = Segment {
+            number: heard.segment as usize,
+            last,
+            bytes,
+        };
+        if !slots::fits_alone(heard.part, self.limit, &segment) {
             return Change::Nothing(Answer::Conflict(heard));
         }
         let slots = self.slots;
-        let Found::At(i) = slots::free(self.count, slots) else {
+        let Some(i) = slots::free(self.count, slots) else {
             return Change::Nothing(Answer::Full(heard));
         };
         let fresh = slots::fresh_slot(heard.number);
@@ -399,7 +354,7 @@ impl Collector {
             (state self counts (stores header.old body.old marks.old))) }
     {
         let slots = self.slots;
-        let Found::At(i) = slots::find(heard.number, self.count, slots) else {
+        let Some(i) = slots::find(heard.number, self.count, slots) else {
             return self.take_first(heard, repetition, last, bytes, header, body, marks);
         };
         let old = self.slots[i];
@@ -427,16 +382,13 @@ impl Collector {
         if !self.is_sound(counts, header, body, marks) {
             return self.answered(counts, Answer::Denied(Reason::State));
         }
-        let repetition = Repetition {
-            index: 0,
-            continuity: 0,
-            count: 0,
-        };
+        let repetition = Repetition::default();
         let change = self.take_segment(heard, repetition, last, bytes, header, body, marks);
         self.changed(counts, change)
     }
 
     // What a group comes to.
+    #[tactic(auto, using(wire::specs::laws::Theorems::inside), unfolding(crate::specs::Calls::take_group))]
     fn take_group(
         self,
         counts: Counts,
@@ -453,16 +405,16 @@ impl Collector {
         if !self.is_sound(counts, header, body, marks) {
             return Change::Nothing(Answer::Denied(Reason::State));
         }
+        // Taken apart by let .. else, as document 01 has it.
         let reading = wire::read(group);
-        let Reading::Read(carried) = reading else {
-            return Change::Nothing(Answer::Refused(refusal_of(reading)));
+        let Ok(carried) = reading else {
+            return Change::Nothing(Answer::Refused(reading.unwrap_err()));
         };
-        let start = carried.start;
-        let end = start + carried.length;
-        let repetition = carried.repetition;
+        let start = carried.bytes.start;
+        let end = start + carried.bytes.length;
         self.take_segment(
-            heard_as(carried),
-            repetition,
+            carried.heard,
+            carried.repetition,
             carried.last,
             &group[start..end],
             header,
@@ -504,7 +456,7 @@ impl Collector {
             return self.answered(counts, Answer::Denied(Reason::State));
         }
         let slots = self.slots;
-        let Found::At(i) = slots::find(number, self.count, slots) else {
+        let Some(i) = slots::find(number, self.count, slots) else {
             return self.answered(counts, Answer::Denied(Reason::NotHeld));
         };
         let all = slots::drop_at(i, slots, marks);

@@ -1,12 +1,11 @@
 -- A reading, field by field, in numbers: 0 for what is not there.
-use Rattle.std.specs.Prelude.{Bool, true, false, cond, ℕ, eqb}
+use Rattle.std.specs.Prelude.{Bool, true, false, cond, Result, Ok, Err, ℕ, eqb}
 use Rattle.answer.specs.declared.Part.{Part}
 use Rattle.answer.specs.declared.Part.TheVariants.{Header, Body}
 use Rattle.answer.specs.declared.Answer.TheVariants as Answer
+use Rattle.answer.specs.declared.Refusal.{Refusal}
 use Rattle.answer.specs.Table.{number_of}
 use Rattle.wire.specs.declared.Carried.{Carried}
-use Rattle.wire.specs.declared.Reading.{Reading}
-use Rattle.wire.specs.declared.Reading.TheVariants.{Read, Refused}
 
 abbrev pub flag_number : Bool → ℕ
 flag_number true = 1
@@ -23,21 +22,21 @@ beside_field segment field =
     cond (eqb field 7) segment.repetition.index
     (cond (eqb field 8) segment.repetition.continuity
     (cond (eqb field 9) segment.repetition.count
-    (cond (eqb field 10) segment.address_start
-    (cond (eqb field 11) segment.address_length 0))))
+    (cond (eqb field 10) segment.address.start
+    (cond (eqb field 11) segment.address.length 0))))
 
 unfoldable pub segment_field : Carried → ℕ → ℕ
 segment_field segment field =
-    cond (eqb field 1) segment.number
-    (cond (eqb field 2) (part_number segment.part)
-    (cond (eqb field 3) segment.segment
+    cond (eqb field 1) segment.heard.number
+    (cond (eqb field 2) (part_number segment.heard.part)
+    (cond (eqb field 3) segment.heard.segment
     (cond (eqb field 4) (flag_number segment.last)
-    (cond (eqb field 5) segment.start
-    (cond (eqb field 6) segment.length (beside_field segment field))))))
+    (cond (eqb field 5) segment.bytes.start
+    (cond (eqb field 6) segment.bytes.length (beside_field segment field))))))
 
 unfoldable pub refusal_field : ℕ → ℕ → ℕ
 refusal_field number field = cond (eqb field 0) number 0
 
-abbrev pub field_of : Reading → ℕ → ℕ
-field_of (Read segment) field = segment_field segment field
-field_of (Refused refusal) field = refusal_field (number_of (Answer.Refused refusal)) field
+abbrev pub field_of : Result Carried Refusal → ℕ → ℕ
+field_of (Ok segment) field = segment_field segment field
+field_of (Err refusal) field = refusal_field (number_of (Answer.Refused refusal)) field

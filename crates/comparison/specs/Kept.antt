@@ -1,10 +1,9 @@
 -- What is kept of segments, from numbers, and the decision of crate `cut` on it.
-use Rattle.std.specs.Prelude.{Bool, cond, List, ℕ, eqb, ltb}
+use Rattle.std.specs.Prelude.{Bool, cond, Option, Some, None, ℕ, eqb, ltb}
 use Rattle.answer.specs.declared.Part.{Part}
 use Rattle.answer.specs.declared.Part.TheVariants.{Header, Body}
-use Rattle.cut.specs.Requirement.{body_size, header_size, Segment}
-use Rattle.cut.specs.declared.Core.{Core}
-use Rattle.cut.specs.declared.Core.TheVariants.{Unseen, Seen}
+use Rattle.cut.specs.Requirement.{Segment}
+use Rattle.cut.specs.declared.Sizes.{Sizes}
 use Rattle.cut.specs.Decision.{accepts}
 use Rattle.cut.specs.Kept.{Summary, add_part, add_top}
 use Rattle.cut.specs.Lists.{both, pick}
@@ -13,8 +12,8 @@ use Rattle.comparison.specs.declared.decision.Kept.{Kept}
 abbrev pub part_of : ℕ → Part
 part_of part = pick (eqb part 0) Header Body
 
-abbrev pub core_said : Bool → ℕ → ℕ → Core
-core_said seen body header = pick seen (Seen body header) Unseen
+abbrev pub core_said : Bool → ℕ → ℕ → Option Sizes
+core_said seen body header = pick seen (Some (record { body = body; header = header })) None
 
 abbrev pub kept_of : ℕ → ℕ → ℕ → ℕ → Kept
 kept_of top size end tail = record { top = top; part = record { size = size; end = end; tail = tail } }
@@ -34,11 +33,7 @@ kept_with last number length k =
 abbrev pub kept_after : Bool → ℕ → ℕ → Kept → Kept
 kept_after last number length k = pick (is_number number) (kept_with last number length k) k
 
--- the sizes that a header says, with a segment of it more
-abbrev pub core_with : ℕ → List ℕ → Core → Core
-core_with number bytes c = pick (eqb number 0) (Seen (body_size bytes) (header_size bytes)) c
-
-abbrev pub accepts_of : Part → ℕ → Core → Kept → Kept → Segment → Bool
+abbrev pub accepts_of : Part → ℕ → Option Sizes → Kept → Kept → Segment → Bool
 accepts_of part limit c h b s = both (is_number s.number) (accepts part limit c (summary_of h) (summary_of b) s)
 
 unfoldable pub kept_field : Kept → ℕ → ℕ

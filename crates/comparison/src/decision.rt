@@ -1,13 +1,12 @@
 // The decision of crate `cut`: whether one more segment fits what is kept of others, and what is
 // kept with it. The numbers that are kept are the caller's.
 ghost use Rattle.std.specs.Prelude.{◌≡◌, ◌<◌};
-ghost use Rattle.cut.specs.Requirement.{body_size, header_size, segment};
+ghost use Rattle.cut.specs.Requirement.{body_size, header_size, segment, sent};
 ghost use Rattle.cut.specs.Decision.{accepts};
-ghost use Rattle.cut.specs.Kept.{add_top};
-ghost use Rattle.comparison.specs.Kept.{part_of, core_said, core_with, summary_of, kept_of, kept_with, kept_after, kept_field, accepts_of};
+ghost use Rattle.comparison.specs.Kept.{part_of, core_said, summary_of, kept_of, kept_with, kept_after, kept_field, accepts_of};
 
 use answer::Part;
-use cut::{Core, Record};
+use cut::{Record, Segment, Sizes};
 
 // What is kept of a part: 1 + the highest number of a full segment, or 0, and its record.
 #[derive(Clone, Copy)]
@@ -22,13 +21,10 @@ fn part_of(part: u8) -> Part
     if part == 0 { Part::Header } else { Part::Body }
 }
 
-fn core_said(seen: bool, body: usize, header: usize) -> Core
+fn core_said(seen: bool, body: usize, header: usize) -> Option<Sizes>
     ensures { result ≡ core_said seen body header }
 {
-    if seen {
-        return Core::Seen { body, header };
-    }
-    Core::Unseen
+    seen.then_some(Sizes { body, header })
 }
 
 fn kept_of(top: usize, size: usize, end: usize, tail: usize) -> Kept
@@ -38,78 +34,43 @@ fn kept_of(top: usize, size: usize, end: usize, tail: usize) -> Kept
     Kept { top, part }
 }
 
-fn top_with(last: bool, number: usize, top: usize) -> usize
-    requires { number < 32768 }
-    ensures { result ≡ add_top last number top }
-{
-    if last {
-        return top;
-    }
-    if number < top {
-        return top;
-    }
-    number + 1
-}
-
 fn kept_with(last: bool, number: usize, length: usize, kept: Kept) -> Kept
-    requires { number < 32768 }
+    requires { number < 65536 }
     ensures { result ≡ kept_with last number length kept }
 {
-    let top = top_with(last, number, kept.top);
-    let part = part::record::add(last, number, length, kept.part);
-    Kept { top, part }
-}
-
-fn core_with(number: usize, bytes: &[u8], core: Core) -> Core
-    ensures { result ≡ core_with number bytes.now core }
-{
-    if number == 0 {
-        let body = core_fields::body_size(bytes) as usize;
-        let header = core_fields::header_size(bytes) as usize;
-        return Core::Seen { body, header };
+    Kept {
+        top: part::record::add_top(last, number, kept.top),
+        part: part::record::add(last, number, length, kept.part),
     }
-    core
 }
 
-fn accepts_header(
+// Whether a segment of a new number fits.
+fn accepts(
+    part: Part,
     limit: usize,
-    core: Core,
+    core: Option<Sizes>,
     header: Kept,
     body: Kept,
-    number: usize,
-    last: bool,
-    bytes: &[u8],
+    segment: &Segment<'_>,
 ) -> bool
-    requires { number < 32768 }
-    ensures { result ≡ accepts Part.Header limit core (summary_of header) (summary_of body)
-        (segment number last bytes.now) }
+    requires { segment.now.number < 65536 }
+    ensures { result ≡ accepts part limit core (summary_of header) (summary_of body) (sent segment.now) }
 {
-    if !part::record::joins(0 < header.top, last, bytes.len(), header.part) {
+    let own = match part {
+        Part::Header => header,
+        Part::Body => body,
+    };
+    let length = segment.bytes.len();
+    if !part::record::joins(0 < own.top, segment.last, length, own.part) {
         return false;
     }
-    let with = kept_with(last, number, bytes.len(), header);
-    let said = core_with(number, bytes, core);
-    object::decision::suits(limit, said, with.top, with.part, body.top, body.part)
-}
-
-fn accepts_body(
-    limit: usize,
-    core: Core,
-    header: Kept,
-    body: Kept,
-    number: usize,
-    last: bool,
-    bytes: &[u8],
-) -> bool
-    requires { number < 32768 }
-    ensures { result ≡ accepts Part.Body limit core (summary_of header) (summary_of body)
-        (segment number last bytes.now) }
-{
-    if !part::record::joins(0 < body.top, last, bytes.len(), body.part) {
-        return false;
-    }
-    let with = kept_with(last, number, bytes.len(), body);
-    object::decision::suits(limit, core, header.top, header.part, with.top, with.part)
+    let with = kept_with(segment.last, segment.number, length, own);
+    let said = object::core_with(part, segment, core);
+    let (header, body) = match part {
+        Part::Header => (with, body),
+        Part::Body => (header, with),
+    };
+    object::decision::suits(limit, said, header.top, header.part, body.top, body.part)
 }
 
 // Whether a segment of a new number fits, one of a header (part 0) or of a body.
@@ -137,18 +98,18 @@ pub extern "C" fn compared_accepts(
         (kept_of body_top body_size body_end body_tail)
         (segment number last bytes.now) }
 {
-    if 32767 < number {
-        return false;
-    }
     let core = core_said(seen, body, header);
     let h = kept_of(header_top, header_size, header_end, header_tail);
     let b = kept_of(body_top, body_size, body_end, body_tail);
-    match part_of(part) {
-        Part::Header => accepts_header(limit, core, h, b, number as usize, last, bytes),
-        Part::Body => accepts_body(limit, core, h, b, number as usize, last, bytes),
-    }
+    let segment = Segment {
+        number: number as usize,
+        last,
+        bytes,
+    };
+    number < 32768 && accepts(part_of(part), limit, core, h, b, &segment)
 }
 
+#[tactic(auto, unfolding(crate::specs::Kept::kept_field))]
 fn kept_field(kept: Kept, field: u8) -> usize
     ensures { result ≡ kept_field kept field }
 {
@@ -176,11 +137,11 @@ pub extern "C" fn compared_kept(
 ) -> usize
     ensures { result ≡ kept_field (kept_after last number length (kept_of top size end tail)) field }
 {
-    let kept = kept_of(top, size, end, tail);
-    if 32767 < number {
-        return kept_field(kept, field);
+    let mut kept = kept_of(top, size, end, tail);
+    if number < 32768 {
+        kept = kept_with(last, number as usize, length, kept);
     }
-    kept_field(kept_with(last, number as usize, length, kept), field)
+    kept_field(kept, field)
 }
 
 #[unsafe(no_mangle)]

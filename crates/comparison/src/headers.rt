@@ -4,7 +4,7 @@ ghost use Rattle.std.specs.Prelude.{◌≡◌};
 ghost use Rattle.header.specs.Names.{name_matches};
 ghost use Rattle.comparison.specs.Headers.{refusal_number, priority_number, name_start, name_size, said_field, header_field};
 
-use header::{Fields, Name, Priority, Reading, Refusal};
+use header::{Fields, Place, Refusal};
 
 fn refusal_number(refusal: Refusal) -> u8
     ensures { result ≡ refusal_number refusal }
@@ -15,51 +15,42 @@ fn refusal_number(refusal: Refusal) -> u8
     }
 }
 
-fn priority_number(priority: Priority) -> u64
+fn priority_number(priority: Option<u8>) -> u64
     ensures { result ≡ priority_number priority }
 {
-    match priority {
-        Priority::Absent => 0,
-        Priority::Byte(byte) => byte as u64 + 1,
-    }
+    priority.map_or(0, |byte| byte as u64 + 1)
 }
 
-fn name_start(name: Name) -> u64
+fn name_start(name: Option<Place>) -> u64
     ensures { result ≡ name_start name }
 {
-    match name {
-        Name::Absent => 0,
-        Name::Data(start, _) => start as u64,
-    }
+    name.map_or(0, |place| place.start as u64)
 }
 
-fn name_size(name: Name) -> u64
+fn name_size(name: Option<Place>) -> u64
     ensures { result ≡ name_size name }
 {
-    match name {
-        Name::Absent => 0,
-        Name::Data(_, size) => size as u64,
-    }
+    name.map_or(0, |place| place.size as u64)
 }
 
+#[tactic(auto, unfolding(crate::specs::Headers::said_field))]
 fn said_field(fields: Fields, field: u8) -> u64
     ensures { result ≡ said_field fields field }
 {
-    let priority = fields.priority;
-    let name = fields.name;
     match field {
         1 => fields.body_size as u64,
         2 => fields.header_size as u64,
         3 => fields.content_type as u64,
         4 => fields.content_sub_type as u64,
-        5 => priority_number(priority),
-        6 => name_start(name),
-        7 => name_size(name),
+        5 => priority_number(fields.priority),
+        6 => name_start(fields.name),
+        7 => name_size(fields.name),
         _ => 0,
     }
 }
 
 // One field of what is read of a header that has its core, as every finished one has.
+#[tactic(auto, unfolding(crate::specs::Headers::header_field))]
 #[unsafe(no_mangle)]
 pub extern "C" fn compared_header(header: &[u8], field: u8) -> u64
     ensures { result ≡ header_field header.now field }
@@ -68,8 +59,8 @@ pub extern "C" fn compared_header(header: &[u8], field: u8) -> u64
         return 0;
     }
     match header::read(header) {
-        Reading::Read(fields) => said_field(fields, field),
-        Reading::Refused(refusal) => crate::refusal_field(refusal_number(refusal), field),
+        Ok(fields) => said_field(fields, field),
+        Err(refusal) => crate::refusal_field(refusal_number(refusal), field),
     }
 }
 

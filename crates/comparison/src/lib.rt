@@ -8,22 +8,16 @@ mod headers;
 ghost use Rattle.std.specs.Prelude.{◌≡◌};
 ghost use Rattle.crc.specs.CheckWord.{check_word};
 ghost use Rattle.wire.specs.Reading.{reading_of};
-ghost use Rattle.comparison.specs.Fields.{flag_number, part_number, beside_field, segment_field, refusal_field, field_of};
+ghost use Rattle.comparison.specs.Fields.{part_number, beside_field, segment_field, refusal_field, field_of};
 
 use answer::{Answer, Part};
-use wire::{Carried, Reading};
+use wire::Carried;
 
 #[unsafe(no_mangle)]
 pub extern "C" fn compared_check_word(bytes: &[u8]) -> u16
     ensures { result ≡ check_word bytes.now }
 {
     crc::check_word(bytes)
-}
-
-fn flag_number(flag: bool) -> u64
-    ensures { result ≡ flag_number flag }
-{
-    if flag { 1 } else { 0 }
 }
 
 fn part_number(part: Part) -> u64
@@ -35,6 +29,7 @@ fn part_number(part: Part) -> u64
     }
 }
 
+#[tactic(auto, unfolding(crate::specs::Fields::beside_field))]
 fn beside_field(segment: Carried, field: u8) -> u64
     ensures { result ≡ beside_field segment field }
 {
@@ -43,27 +38,29 @@ fn beside_field(segment: Carried, field: u8) -> u64
         7 => repetition.index as u64,
         8 => repetition.continuity as u64,
         9 => repetition.count as u64,
-        10 => segment.address_start as u64,
-        11 => segment.address_length as u64,
+        10 => segment.address.start as u64,
+        11 => segment.address.length as u64,
         _ => 0,
     }
 }
 
+#[tactic(auto, unfolding(crate::specs::Fields::segment_field))]
 fn segment_field(segment: Carried, field: u8) -> u64
     ensures { result ≡ segment_field segment field }
 {
-    let part = segment.part;
+    let part = segment.heard.part;
     match field {
-        1 => segment.number as u64,
+        1 => segment.heard.number as u64,
         2 => part_number(part),
-        3 => segment.segment as u64,
-        4 => flag_number(segment.last),
-        5 => segment.start as u64,
-        6 => segment.length as u64,
+        3 => segment.heard.segment as u64,
+        4 => u64::from(segment.last),
+        5 => segment.bytes.start as u64,
+        6 => segment.bytes.length as u64,
         _ => beside_field(segment, field),
     }
 }
 
+#[tactic(auto, unfolding(crate::specs::Fields::refusal_field))]
 fn refusal_field(number: u8, field: u8) -> u64
     ensures { result ≡ refusal_field number field }
 {
@@ -79,10 +76,7 @@ pub extern "C" fn compared_reading(group: &[u8], field: u8) -> u64
     ensures { result ≡ field_of (reading_of group.now) field }
 {
     match wire::read(group) {
-        Reading::Read(segment) => segment_field(segment, field),
-        Reading::Refused(refusal) => refusal_field(
-            answer::number_of(Answer::Refused(refusal)),
-            field,
-        ),
+        Ok(segment) => segment_field(segment, field),
+        Err(refusal) => refusal_field(answer::number_of(Answer::Refused(refusal)), field),
     }
 }

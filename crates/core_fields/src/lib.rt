@@ -9,13 +9,11 @@ ghost use Rattle.cut.specs.Requirement.{body_size, header_size, content_type, co
 fn octet(bytes: &[u8], at: usize) -> u32
     ensures { (result ≡ get_or bytes.now at 0) × (result < 256) }
 {
-    if at < bytes.len() {
-        return bytes[at] as u32;
-    }
-    0
+    bytes.get(at).map_or(0, |octet| u32::from(*octet))
 }
 
 // It has 28 bits.
+#[tactic(auto, unfolding(cut::specs::Requirement::body_size))]
 pub fn body_size(bytes: &[u8]) -> u32
     ensures { (result ≡ body_size bytes.now) × (result < 268435456) }
 {
@@ -25,18 +23,21 @@ pub fn body_size(bytes: &[u8]) -> u32
         + octet(bytes, 3) / 0x10
 }
 
+#[tactic(auto, unfolding(cut::specs::Requirement::header_size))]
 pub fn header_size(bytes: &[u8]) -> u16
     ensures { result ≡ header_size bytes.now }
 {
     (octet(bytes, 3) % 0x10 * 0x200 + octet(bytes, 4) * 2 + octet(bytes, 5) / 0x80) as u16
 }
 
+#[tactic(auto, unfolding(cut::specs::Requirement::content_type))]
 pub fn content_type(bytes: &[u8]) -> u8
     ensures { result ≡ content_type bytes.now }
 {
     (octet(bytes, 5) % 0x80 / 2) as u8
 }
 
+#[tactic(auto, unfolding(cut::specs::Requirement::content_sub_type))]
 pub fn content_sub_type(bytes: &[u8]) -> u16
     ensures { result ≡ content_sub_type bytes.now }
 {

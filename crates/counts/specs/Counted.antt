@@ -15,52 +15,19 @@ abbrev pub none_yet : Counts
 none_yet = record { taken = 0; repeated = 0; refused = 0; completed = 0; dropped = 0 }
 
 abbrev pub one_taken : Counts → Counts
-one_taken c = record {
-  taken = risen c.taken;
-  repeated = c.repeated;
-  refused = c.refused;
-  completed = c.completed;
-  dropped = c.dropped;
-}
+one_taken c = record c { taken = risen c.taken }
 
 abbrev pub one_completed : Counts → Counts
-one_completed c = record {
-  taken = risen c.taken;
-  repeated = c.repeated;
-  refused = c.refused;
-  completed =
-      risen c.completed;
-  dropped = c.dropped;
-}
+one_completed c = record c { taken = risen c.taken; completed = risen c.completed }
 
 abbrev pub one_repeated : Counts → Counts
-one_repeated c = record {
-  taken = c.taken;
-  repeated = risen c.repeated;
-  refused = c.refused;
-  completed =
-      c.completed;
-  dropped = c.dropped;
-}
+one_repeated c = record c { repeated = risen c.repeated }
 
 abbrev pub one_refused : Counts → Counts
-one_refused c = record {
-  taken = c.taken;
-  repeated = c.repeated;
-  refused = risen c.refused;
-  completed =
-      c.completed;
-  dropped = c.dropped;
-}
+one_refused c = record c { refused = risen c.refused }
 
 abbrev pub one_dropped : Counts → Counts
-one_dropped c = record {
-  taken = c.taken;
-  repeated = c.repeated;
-  refused = c.refused;
-  completed = c.completed;
-  dropped = risen c.dropped;
-}
+one_dropped c = record c { dropped = risen c.dropped }
 
 -- taken (0 and 1), repeated (2), refused (10 to 18), completed (1), dropped (3); no other answer is counted
 abbrev pub counted : Answer → Counts → Counts

@@ -8,7 +8,7 @@ ghost use Rattle.counts.specs.Counted.{risen, none_yet, counted, within};
 
 use answer::Answer;
 
-#[derive(Clone, Copy)]
+#[derive(Clone, Copy, Default)]
 pub struct Counts {
     pub taken: u32,
     pub repeated: u32,
@@ -17,83 +17,62 @@ pub struct Counts {
     pub dropped: u32,
 }
 
+// Where a count stays.
+const CEILING: u32 = 2147483647;
+
 // As opening leaves them.
 pub fn none_yet() -> Counts
     ensures { result ≡ none_yet }
 {
-    Counts {
-        taken: 0,
-        repeated: 0,
-        refused: 0,
-        completed: 0,
-        dropped: 0,
-    }
+    Counts::default()
 }
 
 // One more, up to the ceiling.
+#[tactic(auto, unfolding(crate::specs::Counted::risen))]
 fn risen(count: u32) -> u32
     ensures { result ≡ risen count }
 {
-    if count < 2147483647 {
-        return count + 1;
-    }
-    count
+    if count < CEILING { count + 1 } else { count }
 }
 
 // The counts after an answer.
 pub fn counted(answer: Answer, counts: Counts) -> Counts
     ensures { result ≡ counted answer counts }
 {
-    let mut next = counts;
     match answer {
-        Answer::Stored(_, _) => {
-            next.taken = risen(counts.taken);
-            next
-        }
-        Answer::Complete(_, _) => {
-            next.taken = risen(counts.taken);
-            next.completed = risen(counts.completed);
-            next
-        }
-        Answer::Repeat(_, _) => {
-            next.repeated = risen(counts.repeated);
-            next
-        }
-        Answer::Dropped(_) => {
-            next.dropped = risen(counts.dropped);
-            next
-        }
-        Answer::Refused(_) => {
-            next.refused = risen(counts.refused);
-            next
-        }
-        Answer::Conflict(_) => {
-            next.refused = risen(counts.refused);
-            next
-        }
-        Answer::Full(_) => {
-            next.refused = risen(counts.refused);
-            next
-        }
+        Answer::Stored(..) => Counts {
+            taken: risen(counts.taken),
+            ..counts
+        },
+        Answer::Complete(..) => Counts {
+            taken: risen(counts.taken),
+            completed: risen(counts.completed),
+            ..counts
+        },
+        Answer::Repeat(..) => Counts {
+            repeated: risen(counts.repeated),
+            ..counts
+        },
+        Answer::Dropped(_) => Counts {
+            dropped: risen(counts.dropped),
+            ..counts
+        },
+        Answer::Refused(_) | Answer::Conflict(_) | Answer::Full(_) => Counts {
+            refused: risen(counts.refused),
+            ..counts
+        },
         Answer::Denied(_) => counts,
     }
 }
 
 // Whether no count lies outside 0 to 2147483647.
+#[tactic(auto, unfolding(crate::specs::Counted::within))]
 pub fn are_within(counts: Counts) -> bool
     ensures { result ≡ within counts }
 {
-    if 2147483647 < counts.taken {
-        return false;
-    }
-    if 2147483647 < counts.repeated {
-        return false;
-    }
-    if 2147483647 < counts.refused {
-        return false;
-    }
-    if 2147483647 < counts.completed {
-        return false;
-    }
-    counts.dropped <= 2147483647
+    counts.taken <= CEILING
+        && counts.repeated <= CEILING
+        && counts.refused <= CEILING
+        && counts.completed <= CEILING
+        && counts.dropped <= CEILING
 }

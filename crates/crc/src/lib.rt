@@ -36,14 +36,10 @@ const TABLE: [u16; 256] = [
 pub fn check_word(bytes: &[u8]) -> u16
     ensures { result ≡ check_word bytes.now }
 {
-    // A local copy: indexed in the loop, the constant would be laid out anew at every turn.
-    let table = TABLE;
     let mut remainder: u16 = 0xFFFF;
-    let mut i = 0;
-    while i < bytes.len() {
-        let high = ((remainder >> 8) ^ (bytes[i] as u16)) as usize;
-        remainder = (remainder << 8) ^ table[high];
-        i += 1;
+    for &byte in bytes {
+        let high = (remainder >> 8) as u8 ^ byte;
+        remainder = (remainder << 8) ^ TABLE[high as usize];
     }
     0xFFFF - remainder
 }

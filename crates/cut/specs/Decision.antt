@@ -1,11 +1,10 @@
 -- The decision, numbers only: whether what is kept of the segments of an object suits some object and cut, whether one
 -- more segment fits, and whether every one is in.
-use Rattle.std.specs.Prelude.{Bool, true, false, List, [], ◌∷◌, ℕ, zero, suc, ◌+◌, ◌-◌, ◌*◌, ◌/◌, min, length, eqb, leb}
+use Rattle.std.specs.Prelude.{Bool, true, false, Option, Some, None, List, [], ◌∷◌, ℕ, zero, suc, ◌+◌, ◌-◌, ◌*◌, ◌/◌, min, length, eqb, leb}
 use Rattle.cut.specs.Requirement.{header_least, header_most, size_least, size_most, Segment}
 use Rattle.answer.specs.declared.Part.{Part}
 use Rattle.answer.specs.declared.Part.TheVariants.{Header, Body}
-use Rattle.cut.specs.declared.Core.{Core}
-use Rattle.cut.specs.declared.Core.TheVariants.{Unseen, Seen}
+use Rattle.cut.specs.declared.Sizes.{Sizes}
 use Rattle.cut.specs.declared.Bounds.{Bounds}
 use Rattle.cut.specs.declared.Record.{Record}
 use Rattle.cut.specs.Lists.{pick, both, all}
@@ -14,11 +13,12 @@ use Rattle.cut.specs.Kept.{bounds_of, Summary, add_to, some_full, core_after}
 -- ---- the core
 
 -- the sizes that the header says are within the bounds
-abbrev pub core_tests : ℕ → Core → List Bool
-core_tests limit Unseen = []
-core_tests limit (Seen body header) = leb header_least header ∷ leb header header_most ∷ leb body limit ∷ []
+abbrev pub core_tests : ℕ → Option Sizes → List Bool
+core_tests limit None = []
+core_tests limit (Some sizes) = leb header_least sizes.header ∷ leb sizes.header header_most ∷ leb sizes.body limit
+    ∷ []
 
-unfoldable pub core_fits : ℕ → Core → Bool
+unfoldable pub core_fits : ℕ → Option Sizes → Bool
 core_fits limit c = all (core_tests limit c)
 
 -- ---- one part
@@ -88,25 +88,24 @@ whole count p = both (leb 1 p.end) (eqb count p.end)
 -- ---- the object
 
 -- what is kept of the header, top and record, and of the body suits some object and cut
-abbrev pub suit_tests : ℕ → Core → ℕ → Record → ℕ → Record → List Bool
+abbrev pub suit_tests : ℕ → Option Sizes → ℕ → Record → ℕ → Record → List Bool
 suit_tests limit c h p b q = core_fits limit c ∷ possible (bounds_of Header limit c) h p
     ∷ possible (bounds_of Body limit c) b q ∷ []
 
-unfoldable pub suits : ℕ → Core → ℕ → Record → ℕ → Record → Bool
+unfoldable pub suits : ℕ → Option Sizes → ℕ → Record → ℕ → Record → Bool
 suits limit c h p b q = all (suit_tests limit c h p b q)
 
-abbrev pub suits_both : ℕ → Core → Summary → Summary → Bool
+abbrev pub suits_both : ℕ → Option Sizes → Summary → Summary → Bool
 suits_both limit c σ τ = suits limit c σ.top σ.part τ.top τ.part
 
 -- THE DECISION: a segment of a new number fits what is kept
-abbrev pub accepts : Part → ℕ → Core → Summary → Summary → Segment → Bool
+abbrev pub accepts : Part → ℕ → Option Sizes → Summary → Summary → Segment → Bool
 accepts Header limit c σ τ s = both (joins (some_full σ) s.last (length s.bytes) σ.part)
     (suits_both limit (core_after s c) (add_to s σ) τ)
 accepts Body limit c σ τ s = both (joins (some_full τ) s.last (length s.bytes) τ.part)
     (suits_both limit c σ (add_to s τ))
 
 -- every segment of the object is in: h numbers of the header are, and b of the body, which may have none
-abbrev pub finished : Core → ℕ → Record → ℕ → Record → Bool
-finished Unseen h p b q = false
-finished (Seen zero header) h p b q = whole h p
-finished (Seen (suc body) header) h p b q = both (whole h p) (whole b q)
+abbrev pub finished : Option Sizes → ℕ → Record → ℕ → Record → Bool
+finished None h p b q = false
+finished (Some sizes) h p b q = both (whole h p) (pick (eqb sizes.body 0) true (whole b q))

@@ -1,22 +1,21 @@
 -- What is kept of the segments of a part, numbers only: its record (size, end, tail) and top, 1 + the highest number of
 -- a full segment or 0; of the header also the two sizes that segment 0 says. No bytes play a part but those two sizes.
-use Rattle.std.specs.Prelude.{Bool, true, false, List, [], ◌∷◌, ℕ, zero, suc, ◌-◌, ◌/◌, max, length, eqb, leb}
+use Rattle.std.specs.Prelude.{Bool, true, false, Option, Some, None, List, [], ◌∷◌, ℕ, zero, suc, ◌-◌, ◌/◌, max, length, eqb, leb}
 use Rattle.cut.specs.Requirement.{header_least, header_most, header_numbers, body_numbers, body_size, header_size, Segment}
 use Rattle.answer.specs.declared.Part.{Part}
 use Rattle.answer.specs.declared.Part.TheVariants.{Header, Body}
-use Rattle.cut.specs.declared.Core.{Core}
-use Rattle.cut.specs.declared.Core.TheVariants.{Unseen, Seen}
+use Rattle.cut.specs.declared.Sizes.{Sizes}
 use Rattle.cut.specs.declared.Bounds.{Bounds}
 use Rattle.cut.specs.declared.Record.{Record}
 use Rattle.cut.specs.Lists.{pick}
 
 -- ---- the bounds of a part
 
-unfoldable pub bounds_of : Part → ℕ → Core → Bounds
-bounds_of Header limit Unseen = record { least = header_least; most = header_most; numbers = header_numbers }
-bounds_of Header limit (Seen body header) = record { least = header; most = header; numbers = header_numbers }
-bounds_of Body limit Unseen = record { least = 0; most = limit; numbers = body_numbers }
-bounds_of Body limit (Seen body header) = record { least = body; most = body; numbers = body_numbers }
+unfoldable pub bounds_of : Part → ℕ → Option Sizes → Bounds
+bounds_of Header limit None = record { least = header_least; most = header_most; numbers = header_numbers }
+bounds_of Header limit (Some sizes) = record { least = sizes.header; most = sizes.header; numbers = header_numbers }
+bounds_of Body limit None = record { least = 0; most = limit; numbers = body_numbers }
+bounds_of Body limit (Some sizes) = record { least = sizes.body; most = sizes.body; numbers = body_numbers }
 
 -- ---- the segments of a part, whatever their order
 
@@ -65,15 +64,19 @@ record_of b σ = settle b (some_full σ) σ.part
 
 -- ---- what header segment 0 says
 
+-- the two sizes in these bytes
+abbrev pub sizes_of : List ℕ → Sizes
+sizes_of bytes = record { body = body_size bytes; header = header_size bytes }
+
 -- with a header segment
-abbrev pub core_after : Segment → Core → Core
-core_after s c = pick (eqb s.number 0) (Seen (body_size s.bytes) (header_size s.bytes)) c
+abbrev pub core_after : Segment → Option Sizes → Option Sizes
+core_after s c = pick (eqb s.number 0) (Some (sizes_of s.bytes)) c
 
 -- with a segment of a part
-abbrev pub core_with : Part → Segment → Core → Core
+abbrev pub core_with : Part → Segment → Option Sizes → Option Sizes
 core_with Header s c = core_after s c
 core_with Body s c = c
 
-abbrev pub core_of : List Segment → Core
-core_of [] = Unseen
+abbrev pub core_of : List Segment → Option Sizes
+core_of [] = None
 core_of (s ∷ ss) = core_after s (core_of ss)

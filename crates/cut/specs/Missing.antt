@@ -1,12 +1,9 @@
 -- How much is still missing: document 02, Item 4. Unknown until both lengths are known, from the core, or from a part's
 -- last segment when that is number 0 or S is known; otherwise the bytes of header and body that have not arrived.
-use Rattle.std.specs.Prelude.{Bool, true, false, List, [], ◌∷◌, ℕ, zero, suc, ◌+◌, ◌-◌, ◌*◌, ◌/◌, eqb, length}
+use Rattle.std.specs.Prelude.{Bool, true, false, Option, Some, None, List, [], ◌∷◌, ℕ, zero, suc, ◌+◌, ◌-◌, ◌*◌, ◌/◌, eqb, length}
 use Rattle.answer.specs.declared.Part.{Part}
 use Rattle.answer.specs.declared.Part.TheVariants.{Header, Body}
-use Rattle.cut.specs.declared.Amount.{Amount}
-use Rattle.cut.specs.declared.Amount.TheVariants.{Unknown, Known}
-use Rattle.cut.specs.declared.Core.{Core}
-use Rattle.cut.specs.declared.Core.TheVariants.{Unseen, Seen}
+use Rattle.cut.specs.declared.Sizes.{Sizes}
 use Rattle.cut.specs.Lists.{pick}
 use Rattle.cut.specs.Requirement.{header_numbers, body_numbers, Segment, Fits, joined}
 use Rattle.cut.specs.Kept.{core_of}
@@ -19,35 +16,35 @@ size_shown [] = 0
 size_shown (s ∷ segments) = pick s.last (size_shown segments) (length s.bytes)
 
 -- the length of a part whose last segment is number n of k bytes: known when that is number 0, or S is
-abbrev pub length_by : ℕ → ℕ → ℕ → Amount
-length_by size zero k = Known k
-length_by zero (suc n) k = Unknown
-length_by (suc size) (suc n) k = Known (suc n * suc size + k)
+abbrev pub length_by : ℕ → ℕ → ℕ → Option ℕ
+length_by size zero k = Some k
+length_by zero (suc n) k = None
+length_by (suc size) (suc n) k = Some (suc n * suc size + k)
 
 -- the length that the last one of these segments gives, once it is in
-abbrev pub length_from : ℕ → List Segment → Amount
-length_from size [] = Unknown
+abbrev pub length_from : ℕ → List Segment → Option ℕ
+length_from size [] = None
 length_from size (s ∷ segments) =
     pick s.last (length_by size s.number (length s.bytes)) (length_from size segments)
 
 -- a part's length: from the core, or from its last segment
-abbrev pub length_known : Part → Core → List Segment → Amount
-length_known part Unseen segments = length_from (size_shown segments) segments
-length_known Header (Seen body header) segments = Known header
-length_known Body (Seen body header) segments = Known body
+abbrev pub length_known : Part → Option Sizes → List Segment → Option ℕ
+length_known part None segments = length_from (size_shown segments) segments
+length_known Header (Some sizes) segments = Some sizes.header
+length_known Body (Some sizes) segments = Some sizes.body
 
 -- a part's bytes that have arrived: those of its segments, each number once
 abbrev pub arrived : ℕ → List Segment → ℕ
 arrived numbers segments = length (joined numbers segments)
 
 -- what is left of both lengths, once so many bytes have arrived
-abbrev pub lacking : Amount → Amount → ℕ → Amount
-lacking Unknown body count = Unknown
-lacking (Known header) Unknown count = Unknown
-lacking (Known header) (Known body) count = Known (header + body - count)
+abbrev pub lacking : Option ℕ → Option ℕ → ℕ → Option ℕ
+lacking None body count = None
+lacking (Some header) None count = None
+lacking (Some header) (Some body) count = Some (header + body - count)
 
 -- THE NUMBER of bytes still to come, of the stored segments of a header and of a body
-unfoldable pub missing_of : List Segment → List Segment → Amount
+unfoldable pub missing_of : List Segment → List Segment → Option ℕ
 missing_of header_segments body_segments =
     lacking (length_known Header (core_of header_segments) header_segments)
     (length_known Body (core_of header_segments) body_segments)
@@ -76,10 +73,10 @@ outside_of {header_segments = header_segments} {body_segments = body_segments} f
 -- ---- as a slot keeps it
 
 -- 1 more than the number, or 0 while it is not known
-abbrev pub amount_kept : Amount → ℕ
-amount_kept Unknown = 0
-amount_kept (Known bytes) = suc bytes
+abbrev pub amount_kept : Option ℕ → ℕ
+amount_kept None = 0
+amount_kept (Some bytes) = suc bytes
 
-abbrev pub amount_of : ℕ → Amount
-amount_of zero = Unknown
-amount_of (suc bytes) = Known bytes
+abbrev pub amount_of : ℕ → Option ℕ
+amount_of zero = None
+amount_of (suc bytes) = Some bytes

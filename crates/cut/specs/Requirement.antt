@@ -3,6 +3,7 @@
 -- `Each P l` says that P holds of each element of l, `Among x l` that x is one of l, `Bytes l` that each is below 256;
 -- `pick t a b` is a if the test t passes, else b.
 use Rattle.std.specs.Prelude.{◌≡◌, ◌⊎◌, Bool, true, List, [], ◌∷◌, ◌++◌, ℕ, zero, suc, ◌+◌, ◌*◌, ◌/◌, ◌%◌, ◌≤◌, ◌<◌, length, take, drop, get_or, eqb, leb}
+use Rattle.cut.specs.declared.Segment.{Segment as Lent}
 use Rattle.cut.specs.Lists.{pick, Each, Among, Bytes}
 
 -- ---- the numbers that bound it
@@ -78,6 +79,10 @@ pub record Segment : Type 0 where
 
 abbrev pub segment : ℕ → Bool → List ℕ → Segment
 segment number last bytes = record { number = number; last = last; bytes = bytes }
+
+-- a segment that is lent
+abbrev pub sent : Lent → Segment
+sent s = segment s.number s.last s.bytes.now
 
 -- a part cut at a size has this segment: the part goes on at number times size; the segment has the bytes from there,
 -- as many as the size says or as there are; it is the last one if none are left after it

@@ -1,8 +1,8 @@
 -- The decision as code asks it: of a record and of sums of marks.
-use Rattle.std.specs.Prelude.{Bool, true, false, List, [], ◌∷◌, ℕ, suc, min, drop, eqb, leb}
+use Rattle.std.specs.Prelude.{Bool, true, false, Option, List, [], ◌∷◌, ℕ, suc, min, drop, eqb, leb}
 use Rattle.octets.specs.Octets.{sum_of}
 use Rattle.answer.specs.declared.Part.{Part}
-use Rattle.cut.specs.declared.Core.{Core}
+use Rattle.cut.specs.declared.Sizes.{Sizes}
 use Rattle.cut.specs.declared.Bounds.{Bounds}
 use Rattle.cut.specs.declared.Record.{Record}
 use Rattle.cut.specs.Parts.{other_part}
@@ -37,7 +37,7 @@ fits_in b p marks last n k = both (joins (full_in p marks) last k p) (accepts_in
 
 -- THE DECISION, of the record and the marks of its part and of the other: a segment of a part whose number is not
 -- marked fits, c being what header segment 0 says with it in
-abbrev pub takes : Part → ℕ → Core → Record → List ℕ → Record → List ℕ → Bool → ℕ → ℕ → Bool
+abbrev pub takes : Part → ℕ → Option Sizes → Record → List ℕ → Record → List ℕ → Bool → ℕ → ℕ → Bool
 takes part limit c p marks q others last n k = all
     (core_fits limit c
     ∷ fits_in (bounds_of part limit c) p marks last n k

@@ -20,11 +20,11 @@ pub const HEADER_NUMBERS: usize = 64;
 
 pub const BODY_NUMBERS: usize = 1024;
 
-// What header segment 0 says, once it is in: BodySize and HeaderSize.
+// What header segment 0 says: BodySize and HeaderSize.
 #[derive(Clone, Copy)]
-pub enum Core {
-    Unseen,
-    Seen { body: usize, header: usize },
+pub struct Sizes {
+    pub body: usize,
+    pub header: usize,
 }
 
 // The bounds of a part: its length, and how many segment numbers it has. Where least and most meet, its length is
@@ -45,9 +45,10 @@ pub struct Record {
     pub tail: usize,
 }
 
-// A number of bytes, once it is known.
+// A segment of a part, as it is offered: its number, whether it is the last one, and its bytes.
 #[derive(Clone, Copy)]
-pub enum Amount {
-    Unknown,
-    Known(u32),
+pub struct Segment<'a> {
+    pub number: usize,
+    pub last: bool,
+    pub bytes: &'a [u8],
 }

@@ -1,9 +1,8 @@
 -- Document 01, "Parameters and names": when a name that is asked for is a header's.
-use Rattle.std.specs.Prelude.{Bool, false, List, [], ◌∷◌, ℕ, eqb, drop, take}
+use Rattle.std.specs.Prelude.{Bool, false, List, [], ◌∷◌, Option, Some, None, ℕ, eqb, drop, take}
 use Rattle.octets.specs.Octets.{equal}
 use Rattle.header.specs.Parameters.{pick, read_header, name_in}
-use Rattle.header.specs.declared.Name.{Name}
-use Rattle.header.specs.declared.Name.TheVariants.{Absent, Data}
+use Rattle.header.specs.declared.Place.{Place}
 
 -- one leading slash dropped
 unfoldable pub unslashed : List ℕ → List ℕ
@@ -16,14 +15,14 @@ unfoldable pub name_matches : List ℕ → List ℕ → Bool
 name_matches data_bytes asked = equal (unslashed (drop 1 data_bytes)) (unslashed asked)
 
 -- the header's name is
-abbrev pub named_as : List ℕ → List ℕ → Name → Bool
-named_as h asked Absent = false
-named_as h asked (Data start size) = name_matches (take size (drop start h)) asked
+abbrev pub named_as : List ℕ → List ℕ → Option Place → Bool
+named_as h asked None = false
+named_as h asked (Some place) = name_matches (take place.size (drop place.start h)) asked
 
 -- ContentName's data as a part of the header, or nothing where the header has none; a refused header has none
-abbrev pub data_as : List ℕ → Name → List ℕ
-data_as header Absent = []
-data_as header (Data start size) = take size (drop start header)
+abbrev pub data_as : List ℕ → Option Place → List ℕ
+data_as header None = []
+data_as header (Some place) = take place.size (drop place.start header)
 
 unfoldable pub name_data : List ℕ → List ℕ
 name_data header = data_as header (name_in (read_header header))

@@ -1,17 +1,11 @@
 -- Document 01, "Parameters and names": the parameters of a header, and what reading it gives.
-use Rattle.std.specs.Prelude.{Bool, true, false, List, [], ◌∷◌, ℕ, zero, suc, ◌+◌, ◌*◌, ◌/◌, ◌%◌, leb, ltb, eqb, length, get_or}
+use Rattle.std.specs.Prelude.{Bool, true, false, List, [], ◌∷◌, Option, Some, None, Result, Ok, Err, ℕ, zero, suc, ◌+◌, ◌*◌, ◌/◌, ◌%◌, leb, ltb, eqb, length, get_or}
 use Rattle.cut.specs.Requirement.{body_size, header_size, content_type, content_sub_type}
 use Rattle.header.specs.declared.Parameter.{Parameter}
-use Rattle.header.specs.declared.Found.{Found}
-use Rattle.header.specs.declared.Found.TheVariants.{Nothing, One}
-use Rattle.header.specs.declared.Priority.{Priority}
-use Rattle.header.specs.declared.Priority.TheVariants.{Absent as NoPriority, Byte}
-use Rattle.header.specs.declared.Name.{Name}
-use Rattle.header.specs.declared.Name.TheVariants.{Absent as NoName, Data}
+use Rattle.header.specs.declared.Place.{Place}
 use Rattle.header.specs.declared.Fields.{Fields}
+use Rattle.header.specs.declared.Refusal.{Refusal}
 use Rattle.header.specs.declared.Refusal.TheVariants.{Header, Duplicate}
-use Rattle.header.specs.declared.Reading.{Reading}
-use Rattle.header.specs.declared.Reading.TheVariants.{Refused, Read}
 
 abbrev pub pick : {A : Type 0} → Bool → A → A → A
 pick true a b = a
@@ -38,10 +32,10 @@ unfoldable pub parameter_at : List ℕ → ℕ → Parameter
 parameter_at h at = by_code h at (get_or h at 0 / 64) (get_or h at 0 % 64)
 
 -- it must not run past the header's end
-unfoldable pub within : ℕ → Parameter → Found
-within end p = pick (leb (p.start + p.size) end) (One p) Nothing
+unfoldable pub within : ℕ → Parameter → Option Parameter
+within end p = pick (leb (p.start + p.size) end) (Some p) None
 
-unfoldable pub found_at : List ℕ → ℕ → Found
+unfoldable pub found_at : List ℕ → ℕ → Option Parameter
 found_at h at = within (length h) (parameter_at h at)
 
 -- ---- the list
@@ -54,9 +48,9 @@ abbrev pub put : Parameter → Listed → Listed
 put p broken = broken
 put p (listed ps) = listed (p ∷ ps)
 
-abbrev pub follow : Found → (Parameter → Listed) → Listed
-follow Nothing rest = broken
-follow (One p) rest = put p (rest p)
+abbrev pub follow : Option Parameter → (Parameter → Listed) → Listed
+follow None rest = broken
+follow (Some p) rest = put p (rest p)
 
 -- the parameters from `at` on, or that one runs past the end. Each takes a byte at least, so that as many turns as the
 -- header has bytes reach its end
@@ -104,26 +98,26 @@ twice (i ∷ is) ps = pick (ltb 1 (count i ps)) true (twice is ps)
 
 -- ---- what is read
 
-abbrev pub or_else : Found → Found → Found
-or_else Nothing g = g
-or_else (One q) g = One q
+abbrev pub or_else : Option Parameter → Option Parameter → Option Parameter
+or_else None g = g
+or_else (Some q) g = Some q
 
 -- the last parameter with the identifier; where none comes twice it is the only one
-unfoldable pub find : ℕ → List Parameter → Found
-find i [] = Nothing
-find i (p ∷ ps) = or_else (find i ps) (pick (eqb p.identifier i) (One p) Nothing)
+unfoldable pub find : ℕ → List Parameter → Option Parameter
+find i [] = None
+find i (p ∷ ps) = or_else (find i ps) (pick (eqb p.identifier i) (Some p) None)
 
 -- Priority's byte, or that it is absent
-abbrev pub priority_of : List ℕ → Found → Priority
-priority_of h Nothing = NoPriority
-priority_of h (One p) = Byte (get_or h p.start 0)
+abbrev pub priority_of : List ℕ → Option Parameter → Option ℕ
+priority_of h None = None
+priority_of h (Some p) = Some (get_or h p.start 0)
 
 -- where ContentName's data stands, or that it is absent
-abbrev pub name_of : Found → Name
-name_of Nothing = NoName
-name_of (One p) = Data p.start p.size
+abbrev pub name_of : Option Parameter → Option Place
+name_of None = None
+name_of (Some p) = Some (record { start = p.start; size = p.size })
 
-unfoldable pub fields_of : List ℕ → Found → Found → Fields
+unfoldable pub fields_of : List ℕ → Option Parameter → Option Parameter → Fields
 fields_of h priority name =
     record {
       body_size = body_size h;
@@ -135,17 +129,17 @@ fields_of h priority name =
     }
 
 -- HEADER over the whole list, and only then DUPLICATE
-unfoldable pub judged : List ℕ → Listed → Reading
-judged h broken = Refused Header
+unfoldable pub judged : List ℕ → Listed → Result Fields Refusal
+judged h broken = Err Header
 judged h (listed ps) =
-    pick (all_fit ps) (pick (twice singles ps) (Refused Duplicate) (Read (fields_of h (find 0x0A ps) (find 0x0C ps))))
-    (Refused Header)
+    pick (all_fit ps) (pick (twice singles ps) (Err Duplicate) (Ok (fields_of h (find 0x0A ps) (find 0x0C ps))))
+    (Err Header)
 
 -- what a finished header, which has its core, reads as
-unfoldable pub read_header : List ℕ → Reading
+unfoldable pub read_header : List ℕ → Result Fields Refusal
 read_header h = judged h (parameters h)
 
 -- the name's data of a header that reads; a refused one has none
-abbrev pub name_in : Reading → Name
-name_in (Refused why) = NoName
-name_in (Read f) = f.name
+abbrev pub name_in : Result Fields Refusal → Option Place
+name_in (Err why) = None
+name_in (Ok f) = f.name

@@ -6,12 +6,11 @@
 // and no byte past the header is looked at.
 #![tactic(auto)]
 
-ghost use Rattle.std.specs.Prelude.{◌≡◌, ◌≤◌, ◌<◌, length, eqb};
-ghost use Rattle.octets.specs.Octets.{both};
+ghost use Rattle.std.specs.Prelude.{◌≡◌, ◌≤◌, ◌<◌, length};
 ghost use Rattle.cut.specs.Requirement.{header_least};
 ghost use Rattle.header.specs.Parameters.{length_at, within, found_at, width_fits, single, priority_of, name_of, fields_of, read_header, name_in};
 ghost use Rattle.header.specs.Names.{unslashed, name_matches};
-ghost use Rattle.header.specs.laws.Scan.{either, note, scan_header, Inside};
+ghost use Rattle.header.specs.laws.Scan.{note, scan_header, Inside};
 
 // Bytes of the core, before the first parameter: the shortest header is its core.
 pub const CORE: usize = cut::HEADER_LEAST;
@@ -27,36 +26,22 @@ pub struct Parameter {
     pub size: usize,
 }
 
-// A parameter, or none.
+// Where ContentName's data stands: where it starts in the header, and how many bytes it has.
 #[derive(Clone, Copy)]
-pub enum Found {
-    Nothing,
-    One(Parameter),
+pub struct Place {
+    pub start: usize,
+    pub size: usize,
 }
 
-// Priority's byte.
-#[derive(Clone, Copy)]
-pub enum Priority {
-    Absent,
-    Byte(u8),
-}
-
-// ContentName's data: where it starts in the header, and how many bytes it has.
-#[derive(Clone, Copy)]
-pub enum Name {
-    Absent,
-    Data(usize, usize),
-}
-
-// What a header says.
+// What a header says: the core's fields, Priority's byte, and where its name stands.
 #[derive(Clone, Copy)]
 pub struct Fields {
     pub body_size: u32,
     pub header_size: u16,
     pub content_type: u8,
     pub content_sub_type: u16,
-    pub priority: Priority,
-    pub name: Name,
+    pub priority: Option<u8>,
+    pub name: Option<Place>,
 }
 
 // Why a header is refused: its list is broken; a single parameter comes twice.
@@ -66,39 +51,24 @@ pub enum Refusal {
     Duplicate,
 }
 
-// What reading a header gives.
-#[derive(Clone, Copy)]
-pub enum Reading {
-    Refused(Refusal),
-    Read(Fields),
-}
-
 // What one pass over the list has noted so far.
-#[derive(Clone, Copy)]
+#[derive(Clone, Copy, Default)]
 struct Notes {
     repeated: bool,
-    priority: Found,
-    name: Found,
-}
-
-// What one pass comes to.
-#[derive(Clone, Copy)]
-enum Scan {
-    Broken,
-    Whole(Notes),
+    priority: Option<Parameter>,
+    name: Option<Parameter>,
 }
 
 // A parameter, if its data ends by `end`.
-fn whole(end: usize, identifier: u8, start: usize, size: usize) -> Found
+#[tactic(auto, unfolding(crate::specs::Parameters::within))]
+fn whole(end: usize, identifier: u8, start: usize, size: usize) -> Option<Parameter>
     ensures { result ≡ within end (record { identifier = identifier; start = start; size = size }) }
 {
-    if end < start {
-        return Found::Nothing;
+    let room = end.checked_sub(start)?;
+    if room < size {
+        return None;
     }
-    if end - start < size {
-        return Found::Nothing;
-    }
-    Found::One(Parameter {
+    Some(Parameter {
         identifier,
         start,
         size,
@@ -106,33 +76,26 @@ fn whole(end: usize, identifier: u8, start: usize, size: usize) -> Found
 }
 
 // A parameter whose length, of one byte or two, stands at `at`.
-fn measured_at(header: &[u8], identifier: u8, at: usize) -> Found
+#[tactic(auto, unfolding(crate::specs::Parameters::within, crate::specs::Parameters::length_at))]
+fn measured_at(header: &[u8], identifier: u8, at: usize) -> Option<Parameter>
     ensures { result ≡ within (length header.now) (length_at header.now identifier at) }
 {
     let end = header.len();
-    if end <= at {
-        return Found::Nothing;
-    }
-    let short = header[at] as usize;
+    let short = usize::from(*header.get(at)?);
     if short < 128 {
         return whole(end, identifier, at + 1, short);
     }
-    if end - at < 2 {
-        return Found::Nothing;
-    }
-    let low = header[at + 1] as usize;
+    let low = usize::from(*header.get(at + 1)?);
     whole(end, identifier, at + 2, short % 128 * 256 + low)
 }
 
-// The parameter that begins at `at`, or nothing where it runs past the header's end.
-pub fn parameter_at(header: &[u8], at: usize) -> Found
+// The parameter that begins at `at`, or none where it runs past the header's end.
+#[tactic(auto, unfolding(crate::specs::Parameters::found_at, crate::specs::Parameters::parameter_at))]
+pub fn parameter_at(header: &[u8], at: usize) -> Option<Parameter>
     ensures { result ≡ found_at header.now at }
 {
     let end = header.len();
-    if end <= at {
-        return Found::Nothing;
-    }
-    let first = header[at];
+    let first = *header.get(at)?;
     let identifier = first % 64;
     match first / 64 {
         0 => whole(end, identifier, at + 1, 0),
@@ -143,6 +106,7 @@ pub fn parameter_at(header: &[u8], at: usize) -> Found
 }
 
 // Whether a parameter with this identifier may come only once.
+#[tactic(auto, unfolding(crate::specs::Parameters::single))]
 fn is_single(identifier: u8) -> bool
     ensures { result ≡ single identifier }
 {
@@ -154,6 +118,7 @@ fn is_single(identifier: u8) -> bool
 }
 
 // Whether a parameter with this identifier may have so many bytes of data.
+#[tactic(auto, unfolding(crate::specs::Parameters::width_fits))]
 fn width_fits(identifier: u8, size: usize) -> bool
     ensures { result ≡ width_fits identifier size }
 {
@@ -164,156 +129,116 @@ fn width_fits(identifier: u8, size: usize) -> bool
     }
 }
 
-// Whether a single parameter was repeated before, or is now: `mark` is 1 where its identifier has come already.
-fn repeats(before: bool, identifier: u8, mark: u8) -> bool
-    ensures { result ≡ either before (both (eqb mark 1) (single identifier)) }
+// One more parameter noted, whose identifier has come before or not.
+#[tactic(auto, unfolding(crate::specs::laws::Scan::note))]
+fn noted(notes: Notes, parameter: Parameter, before: bool) -> Notes
+    ensures { result ≡ note notes parameter before }
 {
-    if before {
-        return true;
-    }
-    if mark == 1 {
-        return is_single(identifier);
-    }
-    false
-}
-
-// One more parameter noted.
-fn noted(notes: Notes, parameter: Parameter, mark: u8) -> Notes
-    ensures { result ≡ note notes parameter mark }
-{
-    let identifier = parameter.identifier;
-    let repeated = repeats(notes.repeated, identifier, mark);
-    let priority = notes.priority;
-    let name = notes.name;
-    match identifier {
+    let noted = Notes {
+        repeated: notes.repeated || before && is_single(parameter.identifier),
+        ..notes
+    };
+    match parameter.identifier {
         0x0A => Notes {
-            repeated,
-            priority: Found::One(parameter),
-            name,
+            priority: Some(parameter),
+            ..noted
         },
         0x0C => Notes {
-            repeated,
-            priority,
-            name: Found::One(parameter),
+            name: Some(parameter),
+            ..noted
         },
-        _ => Notes {
-            repeated,
-            priority,
-            name,
-        },
+        _ => noted,
     }
 }
 
 // One pass over the list.
-fn note_all(header: &[u8]) -> Scan
+fn note_all(header: &[u8]) -> Result<Notes, Refusal>
     ensures { result ≡ scan_header header.now }
 {
-    let mut seen = [0u8; IDENTIFIERS];
-    let mut notes = Notes {
-        repeated: false,
-        priority: Found::Nothing,
-        name: Found::Nothing,
-    };
+    let mut seen = [false; IDENTIFIERS];
+    let mut notes = Notes::default();
     let mut at = CORE;
+    // From parameter to parameter: no range and no iterator of the library steps so.
     while at < header.len() {
-        let Found::One(parameter) = parameter_at(header, at) else {
-            return Scan::Broken;
-        };
+        let parameter = parameter_at(header, at).ok_or(Refusal::Header)?;
         if !width_fits(parameter.identifier, parameter.size) {
-            return Scan::Broken;
+            return Err(Refusal::Header);
         }
-        let identifier = parameter.identifier as usize;
+        let identifier = usize::from(parameter.identifier);
         notes = noted(notes, parameter, seen[identifier]);
-        seen[identifier] = 1;
+        seen[identifier] = true;
         at = parameter.start + parameter.size;
     }
-    Scan::Whole(notes)
+    Ok(notes)
 }
 
 // Priority's byte: its data is one byte, which lies inside the header.
-fn priority_of(header: &[u8], found: Found) -> Priority
+fn priority_of(header: &[u8], found: Option<Parameter>) -> Option<u8>
     requires { Inside (length header.now) found }
     ensures { result ≡ priority_of header.now found }
 {
-    match found {
-        Found::Nothing => Priority::Absent,
-        Found::One(parameter) => {
-            let start = parameter.start;
-            Priority::Byte(header[start])
-        }
-    }
+    Some(header[found?.start])
 }
 
 // Where ContentName's data stands.
-fn name_from(found: Found) -> Name
+fn name_from(found: Option<Parameter>) -> Option<Place>
     ensures { result ≡ name_of found }
 {
-    match found {
-        Found::Nothing => Name::Absent,
-        Found::One(parameter) => Name::Data(parameter.start, parameter.size),
-    }
+    let Parameter { start, size, .. } = found?;
+    Some(Place { start, size })
 }
 
+#[tactic(auto, unfolding(crate::specs::Parameters::fields_of))]
 fn fields_of(header: &[u8], notes: Notes) -> Fields
     requires { (header_least ≤ length header.now) × Inside (length header.now) notes.priority }
     ensures { result ≡ fields_of header.now notes.priority notes.name }
 {
-    let priority = notes.priority;
-    let name = notes.name;
     Fields {
         body_size: core_fields::body_size(header),
         header_size: core_fields::header_size(header),
         content_type: core_fields::content_type(header),
         content_sub_type: core_fields::content_sub_type(header),
-        priority: priority_of(header, priority),
-        name: name_from(name),
+        priority: priority_of(header, notes.priority),
+        name: name_from(notes.name),
     }
 }
 
 // What a whole header says, or why it is refused.
-pub fn read(header: &[u8]) -> Reading
+pub fn read(header: &[u8]) -> Result<Fields, Refusal>
     requires { header_least ≤ length header.now }
     ensures { result ≡ read_header header.now }
 {
-    let Scan::Whole(notes) = note_all(header) else {
-        return Reading::Refused(Refusal::Header);
-    };
+    let notes = note_all(header)?;
     if notes.repeated {
-        return Reading::Refused(Refusal::Duplicate);
+        return Err(Refusal::Duplicate);
     }
-    Reading::Read(fields_of(header, notes))
+    Ok(fields_of(header, notes))
 }
 
 // Where the name's data stands in a header that reads; a refused header has no name.
-pub fn name_of(header: &[u8]) -> Name
+pub fn name_of(header: &[u8]) -> Option<Place>
     requires { header_least ≤ length header.now }
     ensures { result ≡ name_in (read_header header.now) }
 {
-    match read(header) {
-        Reading::Refused(_) => Name::Absent,
-        Reading::Read(fields) => fields.name,
-    }
+    read(header).ok()?.name
 }
 
 // A name without one leading slash.
+#[tactic(auto, unfolding(crate::specs::Names::unslashed))]
 fn without_slash(name: &[u8]) -> &[u8]
     ensures { result.now ≡ unslashed name.now }
 {
-    if name.len() == 0 {
-        return name;
+    match name {
+        [b'/', rest @ ..] => rest,
+        _ => name,
     }
-    if name[0] == b'/' {
-        return &name[1..];
-    }
-    name
 }
 
 // Whether ContentName's data has the name that is asked for, which comes without the character set byte.
+#[tactic(auto, unfolding(crate::specs::Names::name_matches, crate::specs::Names::unslashed))]
 pub fn name_matches(name_data: &[u8], asked: &[u8]) -> bool
     ensures { result ≡ name_matches name_data.now asked.now }
 {
-    if name_data.len() == 0 {
-        return octets::same(name_data, without_slash(asked));
-    }
-    octets::same(without_slash(&name_data[1..]), without_slash(asked))
+    let name = name_data.get(1..).unwrap_or_default();
+    octets::same(without_slash(name), without_slash(asked))
 }

@@ -1,10 +1,9 @@
 -- What is handed in: a group, or a segment by itself. What it brings is the segment that arrives, or why a group is not
 -- read.
-use Rattle.std.specs.Prelude.{Bool, List, ℕ, ◌<◌}
+use Rattle.std.specs.Prelude.{Bool, Result, Ok, Err, List, ℕ, ◌<◌}
 use Rattle.answer.specs.declared.Heard.{Heard}
 use Rattle.answer.specs.declared.Refusal.{Refusal}
-use Rattle.wire.specs.declared.Reading.{Reading}
-use Rattle.wire.specs.declared.Reading.TheVariants.{Read, Refused}
+use Rattle.wire.specs.declared.Carried.{Carried}
 use Rattle.wire.specs.Reading.{reading_of}
 use Rattle.cut.specs.Lists.{Bytes}
 use Rattle.collector.specs.Arrival.{Arrival, no_repetition, arrival, arrival_in}
@@ -22,9 +21,9 @@ pub data Brought : Type 0 where
   arrives : (arrived : Arrival) → Brought
   refused : (why : Refusal) → Brought
 
-abbrev pub brought_in : Reading → List ℕ → Brought
-brought_in (Read carried) bytes = arrives (arrival_in bytes carried)
-brought_in (Refused why) bytes = refused why
+abbrev pub brought_in : Result Carried Refusal → List ℕ → Brought
+brought_in (Ok carried) bytes = arrives (arrival_in bytes carried)
+brought_in (Err why) bytes = refused why
 
 -- a segment that came without a group: its sender said nothing of repeats
 abbrev pub by_itself : Heard → Bool → List ℕ → Arrival

@@ -1,19 +1,17 @@
 -- A history: any calls, each handed the state and the lent memory just as the one before left them; and what was stored
 -- under a number, read off the calls and their answers alone. The latest call comes first.
-use Rattle.std.specs.Prelude.{◌≡◌, ◌≢◌, Bool, List, [], ◌∷◌, ℕ, leb, eqb, length}
+use Rattle.std.specs.Prelude.{◌≡◌, ◌≢◌, Bool, List, [], ◌∷◌, ℕ, leb, eqb, length, Result, Option}
 use Rattle.answer.specs.declared.Answer.{Answer}
 use Rattle.answer.specs.declared.Part.{Part}
 use Rattle.answer.specs.declared.Part.TheVariants.{Header, Body}
+use Rattle.answer.specs.declared.Reason.{Reason}
 use Rattle.answer.specs.Table.{number_of}
 use Rattle.cut.specs.Lists.{pick}
 use Rattle.cut.specs.Requirement.{Segment}
 use Rattle.cut.specs.Parts.{headers_with, bodies_with}
-use Rattle.collector.specs.declared.Located.{Located}
+use Rattle.header.specs.declared.Fields.{Fields}
 use Rattle.collector.specs.State.{Start, Opened, Reply, State}
 use Rattle.collector.specs.Arrival.{Arrival}
-use Rattle.queries.specs.declared.Asked.{Asked}
-use Rattle.queries.specs.declared.Awaited.{Awaited}
-use Rattle.queries.specs.declared.Sought.{Sought}
 use Rattle.history.specs.State.{OfBytes}
 use Rattle.slots.specs.Stores.{Limits}
 use Rattle.history.specs.Handed.{Handed, HandedBytes, Brought, arrives, refused, brought_by}
@@ -55,11 +53,11 @@ Elsewhere number (ask question) = Unit {0}
 -- what comes back of a question: where the object is, with the part itself; what its header says; that, with the data
 -- of its name; whose the name is; how many bytes are still to come; or the address
 pub data Said : Type 0 where
-  shown : (located : Located) (bytes : List ℕ) → Said
-  read : (fields : Asked) → Said
-  named : (fields : Asked) (bytes : List ℕ) → Said
-  found : (whose : Sought) → Said
-  awaited : (bytes : Awaited) → Said
+  shown : (located : Result ℕ Reason) (bytes : List ℕ) → Said
+  read : (fields : Result Fields Reason) → Said
+  named : (fields : Result Fields Reason) (bytes : List ℕ) → Said
+  found : (whose : Result ℕ Reason) → Said
+  awaited : (bytes : Result (Option ℕ) Reason) → Said
   addressed : (bytes : List ℕ) → Said
 
 -- a call with what came back
@@ -86,12 +84,12 @@ pub record Collecting : Type 0 where
   pub opens : Start → Opened
   pub takes : Handed → State → Reply
   pub drops : ℕ → State → Reply
-  pub locates : ℕ → State → Located
+  pub locates : ℕ → State → Result ℕ Reason
   pub shows : ℕ → Part → State → List ℕ
-  pub tells : ℕ → State → Asked
+  pub tells : ℕ → State → Result Fields Reason
   pub names : ℕ → State → List ℕ
-  pub finds : List ℕ → State → Sought
-  pub awaits : ℕ → State → Awaited
+  pub finds : List ℕ → State → Result ℕ Reason
+  pub awaits : ℕ → State → Result (Option ℕ) Reason
   pub addresses : List ℕ → State → List ℕ
   pub asks : Question → State → State
 

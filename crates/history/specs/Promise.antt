@@ -1,6 +1,6 @@
 -- What is promised of a collector: document 01's demands, each with a name of its own, over any run of it, an
 -- opening within the limits and any calls after it. What was stored under a number is read off the answers.
-use Rattle.std.specs.Prelude.{◌≡◌, ◌≢◌, ◌⊎◌, ◌↔◌, Bool, true, false, List, [], ◌∷◌, ℕ, suc, ◌≤◌, ◌<◌, min, leb, eqb, length}
+use Rattle.std.specs.Prelude.{◌≡◌, ◌≢◌, ◌⊎◌, ◌↔◌, None, Bool, true, false, Ok, Err, List, [], ◌∷◌, ℕ, suc, ◌≤◌, ◌<◌, min, leb, eqb, length, Result, Some}
 use Rattle.octets.specs.Octets.{zeros, part}
 use Rattle.answer.specs.declared.Answer.{Answer}
 use Rattle.answer.specs.declared.Answer.TheVariants as Answer
@@ -14,30 +14,23 @@ use Rattle.answer.specs.Table.{number_of}
 use Rattle.counts.specs.declared.Counts.{Counts}
 use Rattle.counts.specs.Counted.{ceiling, none_yet, one_repeated, one_refused}
 use Rattle.wire.specs.declared.Carried.{Carried}
-use Rattle.wire.specs.declared.Reading.TheVariants.{Read, Refused}
 use Rattle.wire.specs.Wire.{end_user_address, end_user_address_length}
 use Rattle.wire.specs.Reading.{repetition_in, check_holds, reading_of}
 use Rattle.wire.specs.Ignored.{SameButIgnored}
 use Rattle.cut.specs.Lists.{pick, Each, Among, Bytes, both}
 use Rattle.cut.specs.Requirement.{header_least, header_numbers, body_numbers, Segment, empty, Fits, Finished, joined}
-use Rattle.cut.specs.declared.Amount.TheVariants.{Known}
 use Rattle.cut.specs.Missing.{missing_of, outside_of}
 use Rattle.cut.specs.Parts.{headers_with, bodies_with}
-use Rattle.header.specs.declared.Reading.{Reading}
+use Rattle.header.specs.declared.Fields.{Fields}
+use Rattle.header.specs.declared.Refusal.{Refusal as HeaderRefusal}
 use Rattle.header.specs.Parameters.{read_header}
 use Rattle.header.specs.Names.{name_data}
 use Rattle.object.specs.declared.Stage.TheVariants as Stage
 use Rattle.object.specs.Source.{Source, SegmentOf, SentBy}
-use Rattle.slots.specs.declared.Found.TheVariants.{Nothing, At}
 use Rattle.slots.specs.Find.{is_free}
 use Rattle.name_search.specs.Requirement.{Named}
-use Rattle.collector.specs.declared.Located.TheVariants as Located
-use Rattle.collector.specs.declared.Opening.TheVariants as Opening
 use Rattle.collector.specs.State.{Start, State, find, free, all_free}
 use Rattle.collector.specs.Arrival.{Arrival, heard_as, segment_in, heard_in}
-use Rattle.queries.specs.declared.Asked.TheVariants as Asked
-use Rattle.queries.specs.declared.Awaited.TheVariants as Awaited
-use Rattle.queries.specs.declared.Sought.TheVariants as Sought
 use Rattle.queries.specs.Said.{asked_as}
 use Rattle.history.specs.Held.{Same, SlotFor, limit_of, slot_of, stage_for, marked_under}
 use Rattle.history.specs.History.{Question, Call, CallBytes, Keeps, Elsewhere, shown, read, named, found, awaited, addressed, Event, handed, dropped, asked, Within, Allowed, Collecting, after, reached, told, under, stored_under}
@@ -119,11 +112,11 @@ Missing v number = (f : FitsStored v number) → ¬ (Finished f)
 abbrev pub NotState : Event → Type 0
 NotState (handed given answer) = answer ≢ Answer.Denied Reason.State
 NotState (dropped number answer) = answer ≢ Answer.Denied Reason.State
-NotState (asked question (shown located bytes)) = located ≢ Located.Denied Reason.State
-NotState (asked question (read fields)) = fields ≢ Asked.Denied Reason.State
-NotState (asked question (named fields bytes)) = fields ≢ Asked.Denied Reason.State
-NotState (asked question (found whose)) = whose ≢ Sought.Denied Reason.State
-NotState (asked question (awaited bytes)) = bytes ≢ Awaited.Denied Reason.State
+NotState (asked question (shown located bytes)) = located ≢ Err Reason.State
+NotState (asked question (read fields)) = fields ≢ Err Reason.State
+NotState (asked question (named fields bytes)) = fields ≢ Err Reason.State
+NotState (asked question (found whose)) = whose ≢ Err Reason.State
+NotState (asked question (awaited bytes)) = bytes ≢ Err Reason.State
 NotState (asked question (addressed bytes)) = Unit {0}
 
 -- ---- the five counts
@@ -181,7 +174,7 @@ module _ (k : Collecting) (v : View) where
   -- FULL exactly when it is no conflict, its number holds no slot and none is free.
   abbrev pub FullBy : Type 0
   FullBy = (g : Passing) → (answer_to k v g ≡ Answer.Full (heard_of g))
-      ↔ (FitsWith v g × (find g.arrived.number v.state ≡ Nothing) × (free v.state ≡ Nothing))
+      ↔ (FitsWith v g × (find g.arrived.number v.state ≡ None) × (free v.state ≡ None))
 
   -- REPEAT exactly when the same segment is stored.
   abbrev pub RepeatBy : Type 0
@@ -191,8 +184,8 @@ module _ (k : Collecting) (v : View) where
   -- A group is a REPEAT, with numbers of its own, where it differs from one whose segment is stored only in what its
   -- sender meant by a repeat, in its end user address, in what else plays no part, and in its check word.
   abbrev pub ResentBy : Type 0
-  ResentBy = (bytes again : List ℕ) (carried : Carried) → Bytes again → reading_of bytes ≡ Read carried
-      → Among (segment_in bytes carried) (v.kept carried.part carried.number)
+  ResentBy = (bytes again : List ℕ) (carried : Carried) → Bytes again → reading_of bytes ≡ Ok carried
+      → Among (segment_in bytes carried) (v.kept carried.heard.part carried.heard.number)
       → SameButIgnored bytes again → check_holds again ≡ true
       → (k.takes (group again) v.state).answer ≡ Answer.Repeat (heard_in carried) (repetition_in again)
 
@@ -220,61 +213,61 @@ module _ (k : Collecting) (v : View) where
   -- A number that holds no slot takes the lowest free one: with STORED or COMPLETE it holds slot i, which was free,
   -- and no slot below i was.
   abbrev pub LowestFreeBy : Type 0
-  LowestFreeBy = (g : Passing) → find g.arrived.number v.state ≡ Nothing → number_of (answer_to k v g) ≤ 1
-      → (i : ℕ) × (find g.arrived.number (k.takes g.given v.state).left ≡ At i)
+  LowestFreeBy = (g : Passing) → find g.arrived.number v.state ≡ None → number_of (answer_to k v g) ≤ 1
+      → (i : ℕ) × (find g.arrived.number (k.takes g.given v.state).left ≡ Some i)
       × (is_free (slot_of i v.state) ≡ true) × ((j : ℕ) → j < i → is_free (slot_of j v.state) ≡ false)
 
   -- A group that does not pass the reading checks is answered with the first that it fails.
   abbrev pub UnreadBy : Type 0
-  UnreadBy = (bytes : List ℕ) (why : Refusal) → reading_of bytes ≡ Refused why
+  UnreadBy = (bytes : List ℕ) (why : Refusal) → reading_of bytes ≡ Err why
       → (k.takes (group bytes) v.state).answer ≡ Answer.Refused why
 
   -- A drop: DROPPED exactly when the number holds a slot, NOTHELD exactly when not.
   abbrev pub DropBy : Type 0
   DropBy = (number : ℕ)
-      → (((k.drops number v.state).answer ≡ Answer.Dropped number) ↔ (find number v.state ≢ Nothing))
-      × (((k.drops number v.state).answer ≡ Answer.Denied Reason.NotHeld) ↔ (find number v.state ≡ Nothing))
+      → (((k.drops number v.state).answer ≡ Answer.Dropped number) ↔ (find number v.state ≢ None))
+      × (((k.drops number v.state).answer ≡ Answer.Denied Reason.NotHeld) ↔ (find number v.state ≡ None))
 
   -- A number holds no slot exactly when nothing is stored under it.
   abbrev pub UnheldBy : Type 0
-  UnheldBy = (number : ℕ) → (find number v.state ≡ Nothing)
+  UnheldBy = (number : ℕ) → (find number v.state ≡ None)
       ↔ ((v.kept Header number ≡ []) × (v.kept Body number ≡ []))
 
   -- An object that is asked for, its parameters, or how much of it is missing: NOTHELD exactly when its number holds no
   -- slot.
   abbrev pub NotHeldBy : Type 0
   NotHeldBy = (number : ℕ)
-      → ((k.locates number v.state ≡ Located.Denied Reason.NotHeld) ↔ (find number v.state ≡ Nothing))
-      × ((k.tells number v.state ≡ Asked.Denied Reason.NotHeld) ↔ (find number v.state ≡ Nothing))
-      × ((k.awaits number v.state ≡ Awaited.Denied Reason.NotHeld) ↔ (find number v.state ≡ Nothing))
+      → ((k.locates number v.state ≡ Err Reason.NotHeld) ↔ (find number v.state ≡ None))
+      × ((k.tells number v.state ≡ Err Reason.NotHeld) ↔ (find number v.state ≡ None))
+      × ((k.awaits number v.state ≡ Err Reason.NotHeld) ↔ (find number v.state ≡ None))
 
   -- How many bytes are still to come, of a number that holds a slot: what the stored segments give.
   abbrev pub AwaitedBy : Type 0
-  AwaitedBy = (number : ℕ) → find number v.state ≢ Nothing
-      → k.awaits number v.state ≡ Awaited.Bytes (missing_of (v.kept Header number) (v.kept Body number))
+  AwaitedBy = (number : ℕ) → find number v.state ≢ None
+      → k.awaits number v.state ≡ Ok (missing_of (v.kept Header number) (v.kept Body number))
 
   -- None exactly when every segment is in.
   abbrev pub NoneAwaitedBy : Type 0
-  NoneAwaitedBy = (number : ℕ) → (k.awaits number v.state ≡ Awaited.Bytes (Known 0))
+  NoneAwaitedBy = (number : ℕ) → (k.awaits number v.state ≡ Ok (Some 0))
       ↔ ((f : FitsStored v number) × Finished f)
 
   -- Every object and cut that fits has exactly that many bytes outside the stored segments.
   abbrev pub OutsideBy : Type 0
-  OutsideBy = (number bytes : ℕ) → k.awaits number v.state ≡ Awaited.Bytes (Known bytes)
+  OutsideBy = (number bytes : ℕ) → k.awaits number v.state ≡ Ok (Some bytes)
       → (f : FitsStored v number) → outside_of f ≡ bytes
 
   -- UNFINISHED exactly when it holds one and some segment is missing.
   abbrev pub UnfinishedBy : Type 0
   UnfinishedBy = (number : ℕ)
-      → ((k.locates number v.state ≡ Located.Denied Reason.Unfinished)
-      ↔ ((find number v.state ≢ Nothing) × Missing v number))
-      × ((k.tells number v.state ≡ Asked.Denied Reason.Unfinished)
-      ↔ ((find number v.state ≢ Nothing) × Missing v number))
+      → ((k.locates number v.state ≡ Err Reason.Unfinished)
+      ↔ ((find number v.state ≢ None) × Missing v number))
+      × ((k.tells number v.state ≡ Err Reason.Unfinished)
+      ↔ ((find number v.state ≢ None) × Missing v number))
 
   -- It is located exactly when every segment is in, in the slot that holds its number.
   abbrev pub LocatedBy : Type 0
-  LocatedBy = (number i : ℕ) → (k.locates number v.state ≡ Located.At i)
-      ↔ ((find number v.state ≡ At i) × (f : FitsStored v number) × Finished f)
+  LocatedBy = (number i : ℕ) → (k.locates number v.state ≡ Ok i)
+      ↔ ((find number v.state ≡ Some i) × (f : FitsStored v number) × Finished f)
 
   -- What is shown of a finished object: the header and the body of every object and cut that fits, which are the stored
   -- segments joined by number.
@@ -286,7 +279,7 @@ module _ (k : Collecting) (v : View) where
 
   -- The header of a finished object has its 7 bytes at least, and so has whatever a question reads.
   abbrev pub CoreBy : Type 0
-  CoreBy = (number i : ℕ) → k.locates number v.state ≡ Located.At i
+  CoreBy = (number i : ℕ) → k.locates number v.state ≡ Ok i
       → header_least ≤ length (k.shows number Header v.state)
 
   -- Of any other number, nothing.
@@ -295,7 +288,7 @@ module _ (k : Collecting) (v : View) where
 
   -- What is read off a header, or why it is not, HEADER and DUPLICATE: what the header of the finished object reads as.
   abbrev pub ReadBy : Type 0
-  ReadBy = (number : ℕ) (reading : Reading) → (k.tells number v.state ≡ asked_as reading)
+  ReadBy = (number : ℕ) (reading : Result Fields HeaderRefusal) → (k.tells number v.state ≡ asked_as reading)
       ↔ ((f : FitsStored v number) × Finished f × (read_header f.header ≡ reading))
 
   -- The data of its name, a part of that header; of any other number nothing.
@@ -306,12 +299,12 @@ module _ (k : Collecting) (v : View) where
 
   -- A number is found by a name exactly when its finished object has the name and none of a lower number does.
   abbrev pub FoundBy : Type 0
-  FoundBy = (sought : List ℕ) (number : ℕ) → (k.finds sought v.state ≡ Sought.Number number)
+  FoundBy = (sought : List ℕ) (number : ℕ) → (k.finds sought v.state ≡ Ok number)
       ↔ Lowest v sought number
 
   -- NOTFOUND exactly when no finished object has it.
   abbrev pub NotFoundBy : Type 0
-  NotFoundBy = (sought : List ℕ) → (k.finds sought v.state ≡ Sought.Denied Reason.NotFound)
+  NotFoundBy = (sought : List ℕ) → (k.finds sought v.state ≡ Err Reason.NotFound)
       ↔ ((number : ℕ) (f : FitsStored v number) → Finished f → ¬ (Named sought f.header))
 
 -- all of it
@@ -378,8 +371,8 @@ module _ (k : Collecting) where
   -- An opening is LIMITS exactly when it is outside the bounds or a lent length is wrong, and else the collector is
   -- open.
   abbrev pub LimitsExactly : Type 0
-  LimitsExactly = (start : Start) → (((k.opens start).opening ≡ Opening.Denied Reason.Limits) ↔ (¬ (Within start)))
-      × (((k.opens start).opening ≡ Opening.Open) ↔ Within start)
+  LimitsExactly = (start : Start) → (((k.opens start).opening ≡ Err Reason.Limits) ↔ (¬ (Within start)))
+      × (((k.opens start).opening ≡ Ok tt) ↔ Within start)
 
   -- Then all slots are free, all marks and counts are 0, and no store is touched.
   abbrev pub OpenedLeaves : Type 0
@@ -422,11 +415,11 @@ module _ (k : Collecting) where
   -- A question is answered STATE exactly when the state is damaged, and then nothing is shown and no name is given.
   abbrev pub StateAskExactly : Type 0
   StateAskExactly = (s : State) → OfBytes s.stores
-      → ((number : ℕ) → (k.locates number s ≡ Located.Denied Reason.State) ↔ (¬ (InOrder s)))
-      × ((number : ℕ) → (k.tells number s ≡ Asked.Denied Reason.State) ↔ (¬ (InOrder s)))
-      × ((sought : List ℕ) → (k.finds sought s ≡ Sought.Denied Reason.State) ↔ (¬ (InOrder s)))
+      → ((number : ℕ) → (k.locates number s ≡ Err Reason.State) ↔ (¬ (InOrder s)))
+      × ((number : ℕ) → (k.tells number s ≡ Err Reason.State) ↔ (¬ (InOrder s)))
+      × ((sought : List ℕ) → (k.finds sought s ≡ Err Reason.State) ↔ (¬ (InOrder s)))
       × (¬ (InOrder s) → (number : ℕ) → ((part : Part) → k.shows number part s ≡ []) × (k.names number s ≡ []))
-      × ((number : ℕ) → (k.awaits number s ≡ Awaited.Denied Reason.State) ↔ (¬ (InOrder s)))
+      × ((number : ℕ) → (k.awaits number s ≡ Err Reason.State) ↔ (¬ (InOrder s)))
 
   -- A question changes nothing, in any state.
   abbrev pub AskedLeaves : Type 0
@@ -436,9 +429,9 @@ module _ (k : Collecting) where
   -- none where there are none; a group that is not read has none.
   abbrev pub AddressExactly : Type 0
   AddressExactly = (bytes : List ℕ) (s : State)
-      → ((carried : Carried) → reading_of bytes ≡ Read carried
+      → ((carried : Carried) → reading_of bytes ≡ Ok carried
       → k.addresses bytes s ≡ part bytes (end_user_address bytes) (end_user_address_length bytes))
-      × ((why : Refusal) → reading_of bytes ≡ Refused why → k.addresses bytes s ≡ [])
+      × ((why : Refusal) → reading_of bytes ≡ Err why → k.addresses bytes s ≡ [])
 
   -- Calls under other numbers change nothing that is held for a number, nor what is shown of it.
   abbrev pub OthersLeave : Type 0
@@ -511,8 +504,8 @@ module _ (k : Collecting) where
   -- number leave it known, and no larger.
   abbrev pub NeverRises : Type 0
   NeverRises = (r : Run) (number bytes : ℕ) (more : List Call) → Each CallBytes more → Each (Keeps number) more
-      → k.awaits number (reached_by k r) ≡ Awaited.Bytes (Known bytes)
-      → (fewer : ℕ) × (k.awaits number (after k more (reached_by k r)) ≡ Awaited.Bytes (Known fewer))
+      → k.awaits number (reached_by k r) ≡ Ok (Some bytes)
+      → (fewer : ℕ) × (k.awaits number (after k more (reached_by k r)) ≡ Ok (Some fewer))
       × (fewer ≤ bytes)
 
   abbrev pub UnfinishedExactly : Type 0
@@ -535,8 +528,8 @@ module _ (k : Collecting) where
 
   -- None is free exactly when each slot holds a number.
   abbrev pub NoneFreeExactly : Type 0
-  NoneFreeExactly = (r : Run) → (free (reached_by k r) ≡ Nothing)
-      ↔ ((i : ℕ) → i < r.start.count → (number : ℕ) × (find number (reached_by k r) ≡ At i))
+  NoneFreeExactly = (r : Run) → (free (reached_by k r) ≡ None)
+      ↔ ((i : ℕ) → i < r.start.count → (number : ℕ) × (find number (reached_by k r) ≡ Some i))
 
   -- The stage is finished exactly when every segment is in.
   abbrev pub FinishedExactly : Type 0

@@ -5,15 +5,16 @@
 // a collector that is written reads back as it was.
 #![tactic(auto)]
 
-ghost use Rattle.std.specs.Prelude.{◌≡◌, ◌++◌, ◌+◌, ◌*◌, ◌≤◌, length, take};
+ghost use Rattle.std.specs.Prelude.{◌≡◌, ◌+◌, ◌*◌, ◌≤◌, length};
 ghost use Rattle.slots.specs.Stores.{slots_most};
-ghost use Rattle.layout.specs.Layout.{stage_tag, header_word, body_word, five, slot_words, slots_words, words_of, count_words, stage_from, stage_at, number_from, missing_from, record_at, slot_in, slots_from, collector_from, counts_from, slot_readable, readable_from, readable};
+ghost use Rattle.layout.specs.Layout.{stage_tag, header_word, body_word, slot_words, words_of, count_words, stage_from, record_at, slot_in, slots_from, collector_from, counts_from, slot_readable, readable_from, readable};
 
 use collector::Collector;
 use counts::Counts;
 use cut::Record;
 use object::{Slot, Stage};
 use slots::SLOTS_MOST;
+use std::array;
 
 // Words before those of the slots: the limit and the number of slots.
 const BEFORE_SLOTS: usize = 2;
@@ -42,8 +43,7 @@ pub fn header_word(stage: Stage) -> u64
     ensures { result ≡ header_word stage }
 {
     match stage {
-        Stage::Free => 0,
-        Stage::Gathering => 0,
+        Stage::Free | Stage::Gathering => 0,
         Stage::Finished(header, _) => header as u64,
     }
 }
@@ -53,8 +53,7 @@ pub fn body_word(stage: Stage) -> u64
     ensures { result ≡ body_word stage }
 {
     match stage {
-        Stage::Free => 0,
-        Stage::Gathering => 0,
+        Stage::Free | Stage::Gathering => 0,
         Stage::Finished(_, body) => body as u64,
     }
 }
@@ -62,42 +61,15 @@ pub fn body_word(stage: Stage) -> u64
 fn stage_from(tag: u64, header: u64, body: u64) -> Stage
     ensures { result ≡ stage_from tag header body }
 {
-    if tag == 0 {
-        return Stage::Free;
+    match tag {
+        0 => Stage::Free,
+        1 => Stage::Gathering,
+        _ => Stage::Finished(header as usize, body as usize),
     }
-    if tag == 1 {
-        return Stage::Gathering;
-    }
-    Stage::Finished(header as usize, body as usize)
-}
-
-fn number_from(word: u64) -> u16
-    ensures { result ≡ number_from word }
-{
-    if word < 65536 {
-        return word as u16;
-    }
-    0
-}
-
-fn missing_from(word: u64) -> u32
-    ensures { result ≡ missing_from word }
-{
-    if word < 4294967296 {
-        return word as u32;
-    }
-    0
-}
-
-// A stage, from three words.
-fn stage_at(words: &[u64], at: usize) -> Stage
-    requires { at + 3 ≤ length words.now }
-    ensures { result ≡ stage_at words.now at }
-{
-    stage_from(words[at], words[at + 1], words[at + 2])
 }
 
 // A record, from three words.
+#[tactic(auto, unfolding(crate::specs::Layout::record_at))]
 fn record_at(words: &[u64], at: usize) -> Record
     requires { at + 3 ≤ length words.now }
     ensures { result ≡ record_at words.now at }
@@ -110,37 +82,31 @@ fn record_at(words: &[u64], at: usize) -> Record
 }
 
 // A slot, from the words that begin at `at`.
+#[tactic(auto, unfolding(crate::specs::Layout::slot_in, crate::specs::Layout::stage_at))]
 fn slot_at(words: &[u64], at: usize) -> Slot
     requires { at + 11 ≤ length words.now }
     ensures { result ≡ slot_in words.now at }
 {
-    let number = words[at];
-    let missing = words[at + 10];
     Slot {
-        number: number_from(number),
-        stage: stage_at(words, at + 1),
+        number: u16::try_from(words[at]).unwrap_or(0),
+        stage: stage_from(words[at + 1], words[at + 2], words[at + 3]),
         header: record_at(words, at + 4),
         body: record_at(words, at + 7),
-        missing: missing_from(missing),
+        missing: u32::try_from(words[at + 10]).unwrap_or(0),
     }
 }
 
 // Whether the words that begin at `at` hold a slot.
+#[tactic(auto, unfolding(crate::specs::Layout::slot_readable))]
 fn slot_readable(words: &[u64], at: usize) -> bool
     requires { at + 11 ≤ length words.now }
     ensures { result ≡ slot_readable words.now at }
 {
-    let tag = words[at + 1];
-    if tag == 0 {
-        return true;
+    match words[at + 1] {
+        0 => true,
+        1 | 2 => u16::try_from(words[at]).is_ok() && u32::try_from(words[at + 10]).is_ok(),
+        _ => false,
     }
-    if 2 < tag {
-        return false;
-    }
-    if 65536 <= words[at] {
-        return false;
-    }
-    words[at + 10] < 4294967296
 }
 
 // Whether the words of the first `count` slots hold slots.
@@ -148,19 +114,11 @@ fn all_readable(words: &[u64], count: usize) -> bool
     requires { 2 + count * 11 ≤ length words.now }
     ensures { result ≡ readable_from words.now count 2 }
 {
-    let mut i = 0;
-    let mut at = BEFORE_SLOTS;
-    while i < count {
-        if !slot_readable(words, at) {
-            return false;
-        }
-        at += SLOT;
-        i += 1;
-    }
-    true
+    (0..count).all(|i| slot_readable(words, BEFORE_SLOTS + i * SLOT))
 }
 
 // Whether words hold a state, sound or not.
+#[tactic(auto, unfolding(crate::specs::Layout::readable))]
 pub fn readable(words: &[u64]) -> bool
     ensures { result ≡ readable words.now }
 {
@@ -168,10 +126,7 @@ pub fn readable(words: &[u64]) -> bool
         return false;
     }
     let count = words[1] as usize;
-    if SLOTS_MOST < count {
-        return false;
-    }
-    all_readable(words, count)
+    count <= SLOTS_MOST && all_readable(words, count)
 }
 
 // The slots that the words of a state hold. Not inlined: what it needs of the stack is free again behind it.
@@ -180,83 +135,39 @@ fn slots_from(words: &[u64]) -> [Slot; SLOTS_MOST]
     requires { length words.now ≡ 178 }
     ensures { result ≡ slots_from words.now slots_most 2 }
 {
-    let free = slots::free_slot();
-    let mut slots = [free; SLOTS_MOST];
-    let mut i = 0;
-    let mut at = BEFORE_SLOTS;
-    while i < SLOTS_MOST {
-        let slot = slot_at(words, at);
-        slots[i] = slot;
-        at += SLOT;
-        i += 1;
-    }
-    slots
+    array::from_fn(|i| slot_at(words, BEFORE_SLOTS + i * SLOT))
 }
 
 // The collector whose state the words hold.
+#[tactic(auto, unfolding(crate::specs::Layout::collector_from))]
 pub fn collector_from(words: &[u64]) -> Collector
     requires { length words.now ≡ 178 }
     ensures { result ≡ collector_from words.now }
 {
-    let slots = slots_from(words);
     Collector {
         limit: words[0] as usize,
         count: words[1] as usize,
-        slots,
+        slots: slots_from(words),
     }
 }
 
-// Five words, one after another.
-fn put_five(words: &mut [u64], a: u64, b: u64, c: u64, d: u64, e: u64)
-    requires { length words.old ≡ 5 }
-    ensures { words.new ≡ five a b c d e }
+// The words that hold a slot.
+fn slot_words(slot: Slot) -> [u64; SLOT]
+    ensures { result ≡ slot_words slot }
 {
-    words[0] = a;
-    words[1] = b;
-    words[2] = c;
-    words[3] = d;
-    words[4] = e;
-}
-
-fn put_slot(words: &mut [u64], slot: Slot)
-    requires { length words.old ≡ 11 }
-    ensures { words.new ≡ slot_words slot }
-{
-    let stage = slot.stage;
-    let header = slot.header;
-    let body = slot.body;
-    let missing = slot.missing;
-    put_five(
-        &mut words[0..5],
+    [
         slot.number as u64,
-        stage_tag(stage),
-        header_word(stage),
-        body_word(stage),
-        header.size as u64,
-    );
-    put_five(
-        &mut words[5..10],
-        header.end as u64,
-        header.tail as u64,
-        body.size as u64,
-        body.end as u64,
-        body.tail as u64,
-    );
-    words[10] = missing as u64;
-}
-
-fn put_slots(words: &mut [u64], slots: [Slot; SLOTS_MOST])
-    requires { length words.old ≡ 178 }
-    ensures { words.new ≡ take 2 words.old ++ slots_words slots }
-{
-    let mut i = 0;
-    let mut at = BEFORE_SLOTS;
-    while i < SLOTS_MOST {
-        let end = at + SLOT;
-        put_slot(&mut words[at..end], slots[i]);
-        at = end;
-        i += 1;
-    }
+        stage_tag(slot.stage),
+        header_word(slot.stage),
+        body_word(slot.stage),
+        slot.header.size as u64,
+        slot.header.end as u64,
+        slot.header.tail as u64,
+        slot.body.size as u64,
+        slot.body.end as u64,
+        slot.body.tail as u64,
+        slot.missing as u64,
+    ]
 }
 
 // The collector's state, into the words.
@@ -264,10 +175,12 @@ pub fn put_collector(words: &mut [u64], collector: Collector)
     requires { length words.old ≡ 178 }
     ensures { words.new ≡ words_of collector }
 {
-    let slots = collector.slots;
     words[0] = collector.limit as u64;
     words[1] = collector.count as u64;
-    put_slots(words, slots);
+    for (i, slot) in collector.slots.iter().enumerate() {
+        let at = BEFORE_SLOTS + i * SLOT;
+        words[at..at + SLOT].copy_from_slice(&slot_words(*slot));
+    }
 }
 
 // The counts that the words hold.
@@ -289,9 +202,11 @@ pub fn put_counts(words: &mut [u32], counts: Counts)
     requires { length words.old ≡ 5 }
     ensures { words.new ≡ count_words counts }
 {
-    words[0] = counts.taken;
-    words[1] = counts.repeated;
-    words[2] = counts.refused;
-    words[3] = counts.completed;
-    words[4] = counts.dropped;
+    words.copy_from_slice(&[
+        counts.taken,
+        counts.repeated,
+        counts.refused,
+        counts.completed,
+        counts.dropped,
+    ]);
 }

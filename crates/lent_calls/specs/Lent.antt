@@ -1,4 +1,4 @@
--- What a call answers and leaves, as a contract has it where the counts are lent, or handed back beside the rest.
+-- What a call answers and leaves, as a contract has it where the counts are lent.
 use Rattle.counts.specs.declared.Counts.{Counts}
 use Rattle.slots.specs.Stores.{Stores}
 use Rattle.collector.specs.State.{Reply, Opened, state}

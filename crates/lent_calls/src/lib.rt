@@ -8,12 +8,12 @@
 
 ghost use Rattle.std.specs.Prelude.{◌≡◌};
 ghost use Rattle.slots.specs.Stores.{stores};
-ghost use Rattle.collector.specs.State.{state, start};
+ghost use Rattle.collector.specs.State.{state, reply, start, opened};
 ghost use Rattle.collector.specs.Calls.{take_group, drop_number, open_with};
 ghost use Rattle.lent_calls.specs.Lent.{answered, begun};
 
-use answer::Answer;
-use collector::{Collector, Opening};
+use answer::{Answer, Reason};
+use collector::{Collector, Opened, Reply};
 use counts::Counts;
 
 // What a call answers, and the collector afterwards.
@@ -23,83 +23,11 @@ pub struct Answered {
     pub collector: Collector,
 }
 
-// Whether a collector is open, and the collector.
+// Whether a collector is open, or why it is not, and the collector.
 #[derive(Clone, Copy)]
 pub struct Begun {
-    pub opening: Opening,
+    pub opening: Result<(), Reason>,
     pub collector: Collector,
-}
-
-// A call by value: the counts that it leaves beside it.
-#[derive(Clone, Copy)]
-pub struct CountedAnswer {
-    pub counts: Counts,
-    pub answered: Answered,
-}
-
-// An opening by value: the counts that it leaves beside it.
-#[derive(Clone, Copy)]
-pub struct CountedOpening {
-    pub counts: Counts,
-    pub begun: Begun,
-}
-
-fn open_counted(
-    limit: usize,
-    count: usize,
-    counts: Counts,
-    header: &[u8],
-    body: &[u8],
-    marks: &mut [u8],
-) -> CountedOpening
-    ensures { begun result.begun result.counts (stores header.now body.now marks.new)
-        ≡ open_with (start limit count counts (stores header.now body.now marks.old)) }
-{
-    let opened = Collector::opened(limit, count, counts, header, body, marks);
-    let opening = opened.opening;
-    let collector = opened.collector;
-    let counts = opened.counts;
-    let begun = Begun { opening, collector };
-    CountedOpening { counts, begun }
-}
-
-fn take_counted(
-    collector: Collector,
-    counts: Counts,
-    group: &[u8],
-    header: &mut [u8],
-    body: &mut [u8],
-    marks: &mut [u8],
-) -> CountedAnswer
-    ensures { answered result.answered result.counts (stores header.new body.new marks.new)
-        ≡ take_group group.now
-        (state collector counts (stores header.old body.old marks.old)) }
-{
-    let reply = collector.taken(counts, group, header, body, marks);
-    let answer = reply.answer;
-    let collector = reply.collector;
-    let counts = reply.counts;
-    let answered = Answered { answer, collector };
-    CountedAnswer { counts, answered }
-}
-
-fn drop_counted(
-    collector: Collector,
-    counts: Counts,
-    number: u16,
-    header: &[u8],
-    body: &[u8],
-    marks: &mut [u8],
-) -> CountedAnswer
-    ensures { answered result.answered result.counts (stores header.now body.now marks.new)
-        ≡ drop_number number (state collector counts (stores header.now body.now marks.old)) }
-{
-    let reply = collector.dropped(counts, number, header, body, marks);
-    let answer = reply.answer;
-    let collector = reply.collector;
-    let counts = reply.counts;
-    let answered = Answered { answer, collector };
-    CountedAnswer { counts, answered }
 }
 
 // Opens a collector, and sets the counts to 0 where they stand; LIMITS leaves them as they are.
@@ -114,9 +42,12 @@ pub fn open(
     ensures { begun result counts.new (stores header.now body.now marks.new)
         ≡ open_with (start limit count counts.old (stores header.now body.now marks.old)) }
 {
-    let opened = open_counted(limit, count, *counts, header, body, marks);
+    let opened = Collector::opened(limit, count, *counts, header, body, marks);
     *counts = opened.counts;
-    opened.begun
+    Begun {
+        opening: opened.opening,
+        collector: opened.collector,
+    }
 }
 
 // Takes a group: what comes of it is answered, and counted where the counts stand.
@@ -132,9 +63,12 @@ pub fn take(
         ≡ take_group group.now
         (state collector counts.old (stores header.old body.old marks.old)) }
 {
-    let taken = take_counted(collector, *counts, group, header, body, marks);
+    let taken = collector.taken(*counts, group, header, body, marks);
     *counts = taken.counts;
-    taken.answered
+    Answered {
+        answer: taken.answer,
+        collector: taken.collector,
+    }
 }
 
 // Drops a number: what comes of it is answered, and counted where the counts stand.
@@ -150,9 +84,12 @@ pub fn drop(
         ≡ drop_number number
         (state collector counts.old (stores header.now body.now marks.old)) }
 {
-    let dropped = drop_counted(collector, *counts, number, header, body, marks);
+    let dropped = collector.dropped(*counts, number, header, body, marks);
     *counts = dropped.counts;
-    dropped.answered
+    Answered {
+        answer: dropped.answer,
+        collector: dropped.collector,
+    }
 }
 
 // Opens a collector over a record of counts that is lent for the call.
@@ -163,15 +100,16 @@ pub fn opened(
     header: &[u8],
     body: &[u8],
     marks: &mut [u8],
-) -> CountedOpening
-    ensures { begun result.begun result.counts (stores header.now body.now marks.new)
+) -> Opened
+    ensures { opened result (stores header.now body.now marks.new)
         ≡ open_with (start limit count counts (stores header.now body.now marks.old)) }
 {
     let mut kept = counts;
     let begun = open(limit, count, &mut kept, header, body, marks);
-    CountedOpening {
+    Opened {
+        opening: begun.opening,
+        collector: begun.collector,
         counts: kept,
-        begun,
     }
 }
 
@@ -183,16 +121,17 @@ pub fn taken(
     header: &mut [u8],
     body: &mut [u8],
     marks: &mut [u8],
-) -> CountedAnswer
-    ensures { answered result.answered result.counts (stores header.new body.new marks.new)
+) -> Reply
+    ensures { reply result (stores header.new body.new marks.new)
         ≡ take_group group.now
         (state collector counts (stores header.old body.old marks.old)) }
 {
     let mut kept = counts;
     let answered = take(collector, &mut kept, group, header, body, marks);
-    CountedAnswer {
+    Reply {
+        answer: answered.answer,
+        collector: answered.collector,
         counts: kept,
-        answered,
     }
 }
 
@@ -204,14 +143,15 @@ pub fn dropped(
     header: &[u8],
     body: &[u8],
     marks: &mut [u8],
-) -> CountedAnswer
-    ensures { answered result.answered result.counts (stores header.now body.now marks.new)
+) -> Reply
+    ensures { reply result (stores header.now body.now marks.new)
         ≡ drop_number number (state collector counts (stores header.now body.now marks.old)) }
 {
     let mut kept = counts;
     let answered = drop(collector, &mut kept, number, header, body, marks);
-    CountedAnswer {
+    Reply {
+        answer: answered.answer,
+        collector: answered.collector,
         counts: kept,
-        answered,
     }
 }

@@ -1,14 +1,16 @@
 -- Document 01, "The listing program": what the input's characters leave, one after the other, of what is held and of
 -- all the memory that is lent.
-use Rattle.std.specs.Prelude.{cond, ◌≡◌, List, [], ◌∷◌, ℕ, ◌+◌, eqb, ltb, length, take}
+use Rattle.std.specs.Prelude.{cond, Option, Some, None, ◌≡◌, List, [], ◌∷◌, ℕ, ◌+◌, eqb, ltb, length, take}
 use Rattle.octets.specs.Octets.{over}
-use Rattle.slots.specs.Stores.{Stores}
+use Rattle.answer.specs.declared.Answer.{Answer}
+use Rattle.slots.specs.Stores.{Stores, stores}
 use Rattle.collector.specs.State.{State, Reply, state}
 use Rattle.collector.specs.Calls.{take_group, drop_number}
 use Rattle.listing_input.specs.Split.{newline}
 use Rattle.listing_input.specs.Gather.{most, room_for}
 use Rattle.listing_input.specs.Line.{Asked, taking, dropping, neither, asked_of}
 use Rattle.listing.specs.declared.Held.{Held}
+use Rattle.listing.specs.declared.Lister.{Lister}
 use Rattle.listing.specs.declared.Listing.{Listing}
 
 -- ---- one line
@@ -37,10 +39,19 @@ state_of held stores = state held.collector held.counts stores
 abbrev pub served_as : Asked → Held → List ℕ → Stores → Served
 served_as (taking bytes) held group stores = served_by (take_group bytes (state_of held stores)) (over group 0 bytes)
 served_as (dropping number) held group stores = served_by (drop_number number (state_of held stores)) group
-served_as neither held group stores = record { held = held; group = group; stores = stores }
+served_as neither held group stores = leaving held group stores
 
 unfoldable pub served : List ℕ → Held → List ℕ → Stores → Served
 served line held group stores = served_as (asked_of line) held group stores
+
+-- what is answered; to LINE nothing is
+abbrev pub answer_as : Asked → Held → Stores → Option Answer
+answer_as (taking bytes) held stores = Some (take_group bytes (state_of held stores)).answer
+answer_as (dropping number) held stores = Some (drop_number number (state_of held stores)).answer
+answer_as neither held stores = None
+
+unfoldable pub answer_to : List ℕ → Held → Stores → Option Answer
+answer_to line held stores = answer_as (asked_of line) held stores
 
 -- ---- the input
 
@@ -54,6 +65,17 @@ pub record Listed : Type 0 where
 abbrev pub listed_as : Listing → List ℕ → List ℕ → Stores → Listed
 listed_as listing line group stores = record { listing = listing; line = line; group = group; stores = stores }
 
+-- what the program has
+abbrev pub listed : Lister → Listed
+listed l = listed_as l.listing l.line l.group (stores l.header l.body l.marks)
+
+-- what the line leaves that is kept, and what is answered to it
+abbrev pub served_line : Listed → Served
+served_line l = served (take l.listing.kept l.line) l.listing.held l.group l.stores
+
+abbrev pub line_answer : Listed → Option Answer
+line_answer l = answer_to (take l.listing.kept l.line) l.listing.held l.stores
+
 -- the number of the next line, as far as numbers go
 abbrev pub next_of : ℕ → ℕ
 next_of number = cond (ltb number 18446744073709551615) (number + 1) number
@@ -64,8 +86,7 @@ numbered number line left = listed_as (record { lines = number; kept = 0; held =
 
 -- a line ends: it is numbered, what it asks for is done, and nothing is kept of it
 unfoldable pub line_listed : Listed → Listed
-line_listed l = numbered (next_of l.listing.lines) l.line
-    (served (take l.listing.kept l.line) l.listing.held l.group l.stores)
+line_listed l = numbered (next_of l.listing.lines) l.line (served_line l)
 
 -- a piece of a line is kept behind what is kept of it, as far as there is room
 unfoldable pub piece_listed : List ℕ → Listed → Listed
@@ -99,7 +120,7 @@ pub record Reads (l m : Listed) : Type 0 where
 
 -- what is held, the memory that a group is laid in, and the stores
 abbrev pub left_of : Listed → Served
-left_of l = record { held = l.listing.held; group = l.group; stores = l.stores }
+left_of l = leaving l.listing.held l.group l.stores
 
 -- each line in turn
 unfoldable pub lines_served : List (List ℕ) → Served → Served

@@ -1,10 +1,11 @@
 -- What a line asks for, case by case.
 -- Assumes nothing.
-use mathlib.Core.Path.{◌≡◌}
-use mathlib.Core.Bool.{true, false}
+use mathlib.Core.Path.{◌≡◌, refl}
+use mathlib.Core.Bool.{Bool, true, false, cond, ◌&&◌}
 use mathlib.Core.List.{List, ◌++◌}
 use Prim.Native.Nat.{ℕ, ◌≤◌, ◌<◌}
 use native.Mathlib.Omega.{arith}
+use lib.Dec.{leb}
 use borrow.Author.Tests.{ne_eqb, le-leb}
 use lib.ListN.{length, drop, get_or, get_or-eq_default}
 use Rattle.listing_input.specs.Hex.{is_hex, bytes_of}
@@ -33,13 +34,18 @@ module _ (letter : ℕ) (digits : List ℕ) where
   asks-other-letter g b d = rw (ne_eqb letter 0x47 g, ne_eqb letter 0x42 b, ne_eqb letter 0x44 d)
 
 module _ (line : List ℕ) where
-  pub no-tab : length line ≤ 16432 → (get_or line 1 0 ≡ 0x09 → ⊥) → asked_of line ≡ neither
+  pub untabbed : (get_or line 1 0 ≡ 0x09 → ⊥) → asked_of line ≡ neither
   unfolding asked_of
-  no-tab h t = rw (le-leb (length line) 16432 h, ne_eqb (get_or line 1 0) 0x09 t)
+  untabbed t = rw (ne_eqb (get_or line 1 0) 0x09 t) (none (leb (length line) 16432))
+    where
+      none : (short : Bool) → cond (short && false && is_hex (drop 2 line)) (asked_by (get_or line 0 0) (drop 2 line))
+          neither ≡ neither
+      none true = refl
+      none false = refl
 
   pub too_short : length line < 2 → asked_of line ≡ neither
-  too_short h = no-tab (omega arith)
-      (λ t. let none : get_or line 1 0 ≡ 0 = get_or-eq_default line 0 (omega arith) in omega arith)
+  too_short h =
+      untabbed (λ t. let none : get_or line 1 0 ≡ 0 = get_or-eq_default line 0 (omega arith) in omega arith)
 
   pub no-hex : length line ≤ 16432 → get_or line 1 0 ≡ 0x09 → is_hex (drop 2 line) ≡ false → asked_of line ≡ neither
   unfolding asked_of

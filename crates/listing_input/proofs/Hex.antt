@@ -1,49 +1,48 @@
 -- Laws of hex digits, one digit and one byte further on.
 -- Assumes nothing.
-use mathlib.Core.Path.{◌≡◌, refl, sym, ap₂, ◌∙◌}
-use mathlib.Core.Bool.{Bool, true, false, ◌&&◌}
-use mathlib.Core.List.{List, [], ◌∷◌}
-use Prim.Native.Nat.{ℕ, zero, suc, ◌+◌, ◌*◌, ◌%◌, ◌<◌}
-use native.Mathlib.Numerals.{add-one}
+use mathlib.Core.Path.{◌≡◌, refl, sym}
+use mathlib.Core.List.{List, [], ◌∷◌, ◌++◌}
+use Prim.Native.Nat.{ℕ, ◌+◌, ◌*◌, ◌≤◌, ◌<◌}
+use Rattle.std.specs.Prelude.{unwrap_or}
+use Rattle.std.proofs.lemmas.Bool.Decides.{nat_tests}
 use native.Mathlib.Omega.{arith}
-use borrow.Author.Tests.{ltb-true}
-use lib.Dec.{eqb, ltb}
-use lib.ListN.{length, drop, get_or}
-use lib.Seq.{drop-cons}
-use Rattle.listing_input.specs.Hex.{digit_of, all_digits, is_hex, bytes_of}
+use lib.ListN.{length, get_or, set}
+use Rattle.octets.specs.Octets.{over}
+use Rattle.octets.specs.laws.Over.{over-one}
+use Rattle.listing_input.specs.Line.{word_of}
+use Rattle.listing_input.specs.laws.Run.{over_nothing, over-joined}
+use Rattle.listing_input.specs.Hex.{digit_of, byte_of, bytes_of}
 
-pub both_true : (a b : Bool) → (a && b) ≡ true → (a ≡ true) × (b ≡ true)
-both_true true b e = (refl, e)
-both_true false b e = let z : ◌≡◌ {A = ℕ} 0 1 = cc in absurd (omega arith)
+-- what a digit stands for fits four bits
+pub digit_bound : (character : ℕ) → unwrap_or (digit_of character) 0 ≤ 15
+unfolding digit_of
+digit_bound character = grind (arith, nat_tests)
 
--- the digits from a place on: the one there, and the rest
-pub digits-on : (text : List ℕ) (i : ℕ) → i < length text
-    → all_digits (drop i text) ≡ (ltb (digit_of (get_or text i 0)) 16 && all_digits (drop (i + 1) text))
-unfolding all_digits
-digits-on text i h = rw (add-one, drop-cons text i 0)
-
-digit_at : (text : List ℕ) (i : ℕ) → all_digits text ≡ true → i < length text → digit_of (get_or text i 0) < 16
-unfolding all_digits
-digit_at [] i e h = absurd (omega arith)
-digit_at (character ∷ text) zero e h =
-    ltb-true (digit_of character) 16 (both_true (ltb (digit_of character) 16) (all_digits text) e).0
-digit_at (character ∷ text) (suc i) e h =
-    digit_at text i (both_true (ltb (digit_of character) 16) (all_digits text) e).1 (omega arith)
-
-pub hex-digit : (text : List ℕ) (i : ℕ) → is_hex text ≡ true → i < length text → digit_of (get_or text i 0) < 16
-unfolding is_hex
-hex-digit text i e h = digit_at text i (both_true (eqb (length text % 2) 0) (all_digits text) e).1 h
-
--- each byte, by the two digits that stand for it
-pub byte_at : (text : List ℕ) (i : ℕ) → i * 2 + 1 < length text
-    → get_or (bytes_of text) i 0 ≡ digit_of (get_or text (i * 2) 0) * 16 + digit_of (get_or text (i * 2 + 1) 0)
+-- a pair of digits more is decoded
+pub decoded : (pair rest group : List ℕ) (i : ℕ) → length pair ≡ 2 → i < length group
+    → over (set group i (byte_of (get_or pair 0 0) (get_or pair 1 0))) (i + 1) (bytes_of rest)
+    ≡ over group i (bytes_of (pair ++ rest))
 unfolding bytes_of
-byte_at [] i h = absurd (omega arith)
-byte_at (alone ∷ []) i h = absurd (omega arith)
-byte_at (high ∷ low ∷ text) zero h = refl
-byte_at (high ∷ low ∷ text) (suc i) h =
-    let two : suc i * 2 ≡ suc (suc (i * 2)) = omega arith in
-    let three : suc i * 2 + 1 ≡ suc (suc (i * 2 + 1)) = omega arith in
-    byte_at text i (omega arith)
-    ∙ ap₂ (λ (a b : ℕ). digit_of (get_or (high ∷ low ∷ text) a 0) * 16 + digit_of (get_or (high ∷ low ∷ text) b 0))
-    (sym two) (sym three)
+decoded [] rest group i h k = absurd (omega arith)
+decoded (alone ∷ []) rest group i h k = absurd (omega arith)
+decoded (high ∷ low ∷ []) rest group i h k =
+    rw (over-one group i (byte_of high low) k)
+    (over-joined group i (byte_of high low ∷ []) (omega arith) (bytes_of rest))
+decoded (high ∷ low ∷ next ∷ more) rest group i h k = absurd (omega arith)
+
+pub none-decoded : (rest group : List ℕ) (i : ℕ) → length rest < 2 → over group i (bytes_of rest) ≡ group
+unfolding bytes_of
+none-decoded [] group i h = sym (over_nothing group i)
+none-decoded (alone ∷ []) group i h = sym (over_nothing group i)
+none-decoded (high ∷ low ∷ rest) group i h = absurd (omega arith)
+
+pub word-decoded : (digits : List ℕ) → length digits ≡ 4
+    → word_of (bytes_of digits)
+    ≡ byte_of (get_or digits 0 0) (get_or digits 1 0) * 256 + byte_of (get_or digits 2 0) (get_or digits 3 0)
+unfolding bytes_of
+word-decoded [] h = absurd (omega arith)
+word-decoded (a ∷ []) h = absurd (omega arith)
+word-decoded (a ∷ b ∷ []) h = absurd (omega arith)
+word-decoded (a ∷ b ∷ c ∷ []) h = absurd (omega arith)
+word-decoded (a ∷ b ∷ c ∷ d ∷ []) h = refl
+word-decoded (a ∷ b ∷ c ∷ d ∷ e ∷ more) h = absurd (omega arith)

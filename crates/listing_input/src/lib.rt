@@ -4,10 +4,11 @@
 // malformed line leaves that memory as it was.
 #![tactic(auto)]
 
-ghost use Rattle.std.specs.Prelude.{true, ◌≡◌, ◌+◌, ◌≤◌, length, take};
+ghost use Rattle.std.specs.Prelude.{position, ◌==◌, ◌≡◌, ◌+◌, ◌≤◌, length, take};
 ghost use Rattle.octets.specs.Octets.{over};
-ghost use Rattle.listing_input.specs.Hex.{digit_of, is_hex, bytes_of};
-ghost use Rattle.listing_input.specs.Gather.{room_for, line_end, gathered, line_after};
+ghost use Rattle.listing_input.specs.Hex.{digit_of, all_digits, is_hex, byte_of, bytes_of};
+ghost use Rattle.listing_input.specs.Split.{newline};
+ghost use Rattle.listing_input.specs.Gather.{room_for, gathered, line_after};
 ghost use Rattle.listing_input.specs.Line.{asked_by, asked_of, told, left, word_of, check_of};
 
 // Characters of a line; a longer one is malformed.
@@ -37,46 +38,49 @@ pub struct Gathered {
     pub whole: bool,
 }
 
-fn digit(character: u8) -> u8
+#[tactic(auto, unfolding(crate::specs::Hex::digit_of))]
+fn digit(character: u8) -> Option<u8>
     ensures { result ≡ digit_of «character» }
 {
     match character {
-        b'0'..=b'9' => character - b'0',
-        b'a'..=b'f' => character - b'a' + 10,
-        _ => 16,
+        b'0'..=b'9' => Some(character - b'0'),
+        b'a'..=b'f' => Some(character - b'a' + 10),
+        _ => None,
     }
 }
 
+#[tactic(auto, unfolding(crate::specs::Hex::all_digits))]
+fn all_digits(text: &[u8]) -> bool
+    ensures { result ≡ all_digits text.now }
+{
+    text.iter().all(|character| digit(*character).is_some())
+}
+
+#[tactic(auto, unfolding(crate::specs::Hex::is_hex))]
 fn is_hex(text: &[u8]) -> bool
     ensures { result ≡ is_hex text.now }
 {
-    if text.len() % 2 != 0 {
-        return false;
-    }
-    let mut i = 0;
-    while i < text.len() {
-        if 15 < digit(text[i]) {
-            return false;
-        }
-        i += 1;
-    }
-    true
+    text.len() % 2 == 0 && all_digits(text)
+}
+
+// The byte that two hex digits stand for, the high one first.
+#[tactic(auto, unfolding(crate::specs::Hex::byte_of))]
+fn byte(high: u8, low: u8) -> u8
+    ensures { result ≡ byte_of high low }
+{
+    digit(high).unwrap_or(0) * 16 + digit(low).unwrap_or(0)
 }
 
 // The bytes that hex digits stand for, at the front of the group; and how many they are.
 fn decode(digits: &[u8], group: &mut [u8]) -> usize
-    requires digits_value { is_hex digits.now ≡ true }
-    requires digits_in_bounds { length digits.now ≤ length group.old + length group.old }
+    requires { length digits.now ≤ length group.old + length group.old }
     ensures value { result ≡ length (bytes_of digits.now) }
     ensures group_after { group.new ≡ over group.old 0 (bytes_of digits.now) }
 {
-    let count = digits.len() / 2;
-    let mut i = 0;
-    while i < count {
-        group[i] = digit(digits[i * 2]) * 16 + digit(digits[i * 2 + 1]);
-        i += 1;
+    for (i, pair) in digits.chunks_exact(2).enumerate() {
+        group[i] = byte(pair[0], pair[1]);
     }
-    count
+    digits.len() / 2
 }
 
 // The CRC of the first bytes of the group, behind them; and how many bytes it then has.
@@ -85,44 +89,28 @@ fn add_check(group: &mut [u8], count: usize) -> usize
     ensures value { result ≡ count + 2 }
     ensures group_after { group.new ≡ over group.old count (check_of (take count group.old)) }
 {
-    let check = crc::check_word(&group[..count]);
-    group[count] = (check / 256) as u8;
-    group[count + 1] = (check % 256) as u8;
-    count + 2
-}
-
-// The number that four hex digits stand for.
-fn number(digits: &[u8]) -> u16
-    requires digits_value { is_hex digits.now ≡ true }
-    requires digits_len { length digits.now ≡ 4 }
-    ensures { result ≡ word_of (bytes_of digits.now) }
-{
-    let high = digit(digits[0]) * 16 + digit(digits[1]);
-    let low = digit(digits[2]) * 16 + digit(digits[3]);
-    (high as u16) * 256 + (low as u16)
+    let check = crc::check_word(&group[..count]).to_be_bytes();
+    octets::copy_in(&mut group[count..], &check);
+    count + check.len()
 }
 
 fn asked(letter: u8, digits: &[u8], group: &mut [u8]) -> Line
-    requires digits_value { is_hex digits.now ≡ true }
     requires digits_len_bound { length digits.now ≤ 16430 }
     requires group_len { length group.old ≡ 8217 }
     ensures value { result ≡ told (asked_by «letter» digits.now) }
     ensures group_after { group.new ≡ over group.old 0 (left (asked_by «letter» digits.now)) }
 {
-    if letter == b'G' {
-        return Line::Group(decode(digits, group));
+    match (letter, digits) {
+        (b'G', _) => Line::Group(decode(digits, group)),
+        (b'B', _) => {
+            let count = decode(digits, group);
+            Line::Group(add_check(group, count))
+        }
+        (b'D', &[first, second, third, last]) => {
+            Line::Drop(u16::from_be_bytes([byte(first, second), byte(third, last)]))
+        }
+        _ => Line::Malformed,
     }
-    if letter == b'B' {
-        let count = decode(digits, group);
-        return Line::Group(add_check(group, count));
-    }
-    if letter != b'D' {
-        return Line::Malformed;
-    }
-    if digits.len() != 4 {
-        return Line::Malformed;
-    }
-    Line::Drop(number(digits))
 }
 
 // What a line asks for; the group's bytes stand in the lent memory afterwards.
@@ -130,36 +118,23 @@ pub fn read(line: &[u8], group: &mut [u8; GROUP_MOST]) -> Line
     ensures value { result ≡ told (asked_of line.now) }
     ensures group_after { group.new ≡ over group.old 0 (left (asked_of line.now)) }
 {
-    if LINE_MOST < line.len() {
-        return Line::Malformed;
+    match line {
+        [letter, b'\t', digits @ ..] if line.len() <= LINE_MOST && is_hex(digits) => {
+            asked(*letter, digits, group)
+        }
+        _ => Line::Malformed,
     }
-    if line.len() < 2 {
-        return Line::Malformed;
-    }
-    if line[1] != b'\t' {
-        return Line::Malformed;
-    }
-    let digits = &line[2..];
-    if !is_hex(digits) {
-        return Line::Malformed;
-    }
-    asked(line[0], digits, group)
 }
 
-fn line_end(chunk: &[u8], from: usize) -> usize
-    ensures { result ≡ line_end chunk.now from }
+// How many characters come before the first newline, if there is one.
+fn newline_in(input: &[u8]) -> Option<usize>
+    ensures { result ≡ position (λ character. character == newline) input.now }
 {
-    let mut i = from;
-    while i < chunk.len() {
-        if chunk[i] == b'\n' {
-            return i;
-        }
-        i += 1;
-    }
-    i
+    input.iter().position(|character| *character == b'\n')
 }
 
 // A piece of a line behind what is kept of it, as far as there is room; and how much is then kept.
+#[tactic(auto, unfolding(crate::specs::Gather::room_for))]
 fn keep(line: &mut [u8], kept: usize, piece: &[u8]) -> usize
     ensures value { result ≡ kept + length (room_for (length line.old) kept piece.now) }
     ensures line_after { line.new
@@ -168,13 +143,9 @@ fn keep(line: &mut [u8], kept: usize, piece: &[u8]) -> usize
     if line.len() <= kept {
         return kept;
     }
-    let room = line.len() - kept;
-    if piece.len() < room {
-        octets::copy_in(&mut line[kept..], piece);
-        return kept + piece.len();
-    }
-    octets::copy_in(&mut line[kept..], &piece[..room]);
-    kept + room
+    let count = (line.len() - kept).min(piece.len());
+    octets::copy_in(&mut line[kept..], &piece[..count]);
+    kept + count
 }
 
 // The characters of a line that a chunk has from `from` on, up to a newline or the chunk's end,
@@ -183,25 +154,17 @@ pub fn gather(chunk: &[u8], from: usize, line: &mut [u8; LINE_ROOM], kept: usize
     ensures value { result ≡ gathered chunk.now from kept }
     ensures line_after { line.new ≡ line_after chunk.now from line.old kept }
 {
-    if chunk.len() <= from {
-        return Gathered {
-            next: from,
-            kept,
-            whole: false,
-        };
-    }
-    let end = line_end(chunk, from);
-    let kept = keep(line, kept, &chunk[from..end]);
-    if end < chunk.len() {
-        return Gathered {
-            next: end + 1,
-            kept,
+    let rest = &chunk[from.min(chunk.len())..];
+    match newline_in(rest) {
+        Some(length) => Gathered {
+            next: from + length + 1,
+            kept: keep(line, kept, &rest[..length]),
             whole: true,
-        };
-    }
-    Gathered {
-        next: end,
-        kept,
-        whole: false,
+        },
+        None => Gathered {
+            next: from + rest.len(),
+            kept: keep(line, kept, rest),
+            whole: false,
+        },
     }
 }

@@ -9,6 +9,7 @@ use Rattle.answer.specs.declared.Returned.{Returned}
 use Rattle.answer.specs.declared.Returned.TheVariants.{Sent, Segment, Number, Nothing}
 use Rattle.answer.specs.Letters.{letters}
 use Rattle.answer.specs.Table.{name_of, returned_with}
+use Rattle.counts.specs.declared.Counts.{Counts}
 use Rattle.listing_output.specs.Number.{decimal, four_digits}
 
 abbrev pub space : ℕ
@@ -58,6 +59,8 @@ unfoldable pub malformed_text : ℕ → List ℕ
 malformed_text line = text_of (decimal line ∷ letters "LINE" ∷ dash ∷ dash ∷ dash ∷ dash ∷ dash ∷ dash ∷ [])
 
 -- the last line: taken, repeated, refused, completed, dropped
-unfoldable pub counts_text : ℕ → ℕ → ℕ → ℕ → ℕ → List ℕ
-counts_text taken repeated refused completed dropped =
-    text_of (letters "T" ∷ decimal taken ∷ decimal repeated ∷ decimal refused ∷ decimal completed ∷ decimal dropped ∷ [])
+unfoldable pub counts_text : Counts → List ℕ
+counts_text counts =
+    text_of
+    (letters "T" ∷ decimal counts.taken ∷ decimal counts.repeated ∷ decimal counts.refused ∷ decimal counts.completed
+    ∷ decimal counts.dropped ∷ [])

@@ -1,5 +1,5 @@
 -- Document 01, "Parameters and names": which finished object has a name.
-use Rattle.std.specs.Prelude.{◌≡◌, Bool, false, List, [], ◌∷◌, ℕ, suc, min, ◌≤◌, ◌<◌, length, take}
+use Rattle.std.specs.Prelude.{◌≡◌, Bool, false, List, [], ◌∷◌, Option, Some, None, ℕ, suc, min, ◌≤◌, ◌<◌, length, take}
 use Rattle.cut.specs.Requirement.{header_least, header_most}
 use Rattle.cut.specs.Lists.{pick}
 use Rattle.object.specs.declared.Slot.{Slot}
@@ -8,8 +8,6 @@ use Rattle.object.specs.declared.Stage.TheVariants.{Free, Gathering, Finished}
 use Rattle.header.specs.Names.{has_name}
 use Rattle.slots.specs.Stores.{slots_most, slot_at}
 use Rattle.slots.specs.Show.{start_of}
-use Rattle.name_search.specs.declared.Holder.{Holder}
-use Rattle.name_search.specs.declared.Holder.TheVariants.{Nobody, Number}
 
 -- ---- one slot
 
@@ -25,22 +23,22 @@ holds_name asked i slot store = named_at slot.stage asked i store
 -- ---- all slots
 
 -- of two the lower number
-abbrev pub lower : Holder → Holder → Holder
-lower Nobody other = other
-lower (Number n) Nobody = Number n
-lower (Number n) (Number m) = Number (min n m)
+abbrev pub lower : Option ℕ → Option ℕ → Option ℕ
+lower None other = other
+lower (Some n) None = Some n
+lower (Some n) (Some m) = Some (min n m)
 
 -- the number of slot i, where it holds a finished object with the name
-unfoldable pub holder_in : List ℕ → ℕ → Slot → List ℕ → Holder
-holder_in asked i slot store = pick (holds_name asked i slot store) (Number slot.number) Nobody
+unfoldable pub holder_in : List ℕ → ℕ → Slot → List ℕ → Option ℕ
+holder_in asked i slot store = pick (holds_name asked i slot store) (Some slot.number) None
 
 -- the lowest of the slots, the first of the list being number i
-unfoldable pub lowest_from : List ℕ → ℕ → List Slot → List ℕ → Holder
-lowest_from asked i [] store = Nobody
+unfoldable pub lowest_from : List ℕ → ℕ → List Slot → List ℕ → Option ℕ
+lowest_from asked i [] store = None
 lowest_from asked i (slot ∷ slots) store = lower (holder_in asked i slot store) (lowest_from asked (suc i) slots store)
 
 -- of the finished objects in the first count slots that have the name, the lowest transport number
-unfoldable pub found_by_name : List ℕ → ℕ → List Slot → List ℕ → Holder
+unfoldable pub found_by_name : List ℕ → ℕ → List Slot → List ℕ → Option ℕ
 found_by_name asked count slots store = lowest_from asked 0 (take count slots) store
 
 -- ---- what the search asks

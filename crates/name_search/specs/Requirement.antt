@@ -1,12 +1,11 @@
 -- What finding by name is asked for, in document 01's words: which finished objects there are, which of them have the
 -- name, and which number is the lowest.
-use Rattle.std.specs.Prelude.{◌≡◌, List, ℕ, ◌≤◌, ◌<◌, take, drop}
+use Rattle.std.specs.Prelude.{◌≡◌, List, Some, Ok, ℕ, ◌≤◌, ◌<◌, take, drop}
 use Rattle.cut.specs.Requirement.{header_most}
 use Rattle.object.specs.declared.Slot.{Slot}
 use Rattle.object.specs.declared.Stage.TheVariants.{Finished}
 use Rattle.header.specs.declared.Fields.{Fields}
-use Rattle.header.specs.declared.Name.TheVariants.{Data}
-use Rattle.header.specs.declared.Reading.TheVariants.{Read}
+use Rattle.header.specs.declared.Place.{Place}
 use Rattle.header.specs.Parameters.{read_header}
 use Rattle.header.specs.Names.{unslashed}
 use Rattle.slots.specs.Stores.{slot_at}
@@ -26,11 +25,10 @@ pub record Object (count : ℕ) (slots : List Slot) (store : List ℕ) (number :
 -- and one leading slash dropped on each side, it is the name that is asked for
 pub record Named (asked header : List ℕ) : Type 0 where
   pub fields : Fields
-  pub reads : read_header header ≡ Read fields
-  pub start : ℕ
-  pub size : ℕ
-  pub name : fields.name ≡ Data start size
-  pub same : unslashed (drop 1 (take size (drop start header))) ≡ unslashed asked
+  pub reads : read_header header ≡ Ok fields
+  pub place : Place
+  pub name : fields.name ≡ Some place
+  pub same : unslashed (drop 1 (take place.size (drop place.start header))) ≡ unslashed asked
 
 -- of several matches the lowest transport number
 pub record Lowest (asked : List ℕ) (count : ℕ) (slots : List Slot) (store : List ℕ) (number : ℕ) : Type 0 where

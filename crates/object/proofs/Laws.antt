@@ -1,10 +1,11 @@
 -- Laws that the proofs of the code share.
 -- Assumes nothing.
+use Rattle.std.specs.Prelude.{Option}
 use mathlib.Core.Path.{◌≡◌, refl, sym, ap, ◌∙◌}
 use mathlib.Core.Bool.{Bool, true}
 use mathlib.Core.List.{List, [], ◌∷◌, ◌++◌, append-nil}
 use Prim.Native.Nat.{ℕ, ◌+◌, ◌-◌, ◌≤◌}
-use native.Mathlib.Decide.{ℕ_discrete}
+use native.Mathlib.Decide.{ℕ_discrete, dec_le}
 use native.Mathlib.Omega.{arith}
 use lib.ListN.{length, take, drop, length-drop, drop_of_length-le}
 use borrow.Rule.Slice.PartMut.{put_mid}
@@ -12,7 +13,7 @@ use lib.Dec.{leb, eqb}
 use borrow.Author.Tests.{le-leb, lt-leb, leb-true, eq-eqb, ne_eqb}
 use Rattle.octets.specs.Octets.{sum_of, largest_of}
 use Rattle.answer.specs.declared.Part.{Part}
-use Rattle.cut.specs.declared.Core.{Core}
+use Rattle.cut.specs.declared.Sizes.{Sizes}
 use Rattle.cut.specs.Requirement.{header_numbers, body_numbers}
 use Rattle.cut.specs.Kept.{bounds_of}
 use Rattle.part.specs.Asked.{Counted}
@@ -23,7 +24,8 @@ use Rattle.object.specs.Parts.{marks_of}
 
 -- ---- a part's marks
 
-pub counted : (part : Part) (limit : ℕ) (core : Core) (marks : List ℕ) → length marks ≡ header_numbers + body_numbers
+pub counted : (part : Part) (limit : ℕ) (core : Option Sizes) (marks : List ℕ)
+    → length marks ≡ header_numbers + body_numbers
     → largest_of marks ≤ 1 → Counted (bounds_of part limit core) (sum_of (marks_of part marks)) (marks_of part marks)
 counted part limit core marks h bits = record {
   numbers = marks-length part marks h ∙ sym (bounds-numbers part limit core);
@@ -56,13 +58,19 @@ unfolding largest_of
 largest-none [] h = refl
 largest-none (b ∷ marks) h = omega (arith, largest-none marks (omega (arith, h)), h)
 
-pub some-largest : (marks : List ℕ) → largest_of marks ≤ 1 → eqb (largest_of marks) 1 ≡ leb 1 (sum_of marks)
-some-largest marks h = go (ℕ_discrete (largest_of marks) 1)
+pub right-largest : (marks : List ℕ) → eqb (largest_of marks) 1 ≡ marks_right marks
+right-largest marks = go (dec_le (largest_of marks) 1)
   where
-    go : Dec (largest_of marks ≡ 1) → eqb (largest_of marks) 1 ≡ leb 1 (sum_of marks)
-    go (yes d) = rw (eq-eqb (largest_of marks) 1 d, le-leb 1 (sum_of marks) (omega (arith, largest-sum marks, d))) refl
-    go (no d) = rw (
+    some : largest_of marks ≤ 1 → Dec (largest_of marks ≡ 1) → eqb (largest_of marks) 1 ≡ leb 1 (sum_of marks)
+    some h (yes d) =
+        rw (eq-eqb (largest_of marks) 1 d, le-leb 1 (sum_of marks) (omega (arith, largest-sum marks, d))) refl
+    some h (no d) = rw (
       ne_eqb (largest_of marks) 1 d,
       lt-leb 1 (sum_of marks) (omega (arith, largest-none marks (omega (arith, h, d)))),
     )
         refl
+
+    go : Dec (largest_of marks ≤ 1) → eqb (largest_of marks) 1 ≡ marks_right marks
+    go (yes h) = rw (le-leb (largest_of marks) 1 h) (some h (ℕ_discrete (largest_of marks) 1))
+    go (no h) =
+        rw (ne_eqb (largest_of marks) 1 (λ d. h (omega arith)), lt-leb (largest_of marks) 1 (omega arith)) refl

@@ -1,18 +1,16 @@
 -- What the code of a slot asks, and what the marks of one come to.
-use Rattle.std.specs.Prelude.{◌≡◌, true, List, ℕ, ◌+◌, ◌≤◌, ◌<◌, length, get_or}
+use Rattle.std.specs.Prelude.{◌≡◌, Option, None, Some, true, List, ℕ, ◌+◌, ◌≤◌, ◌<◌, length, get_or}
 use Rattle.octets.specs.Octets.{sum_of, largest_of}
 use Rattle.answer.specs.declared.Part.{Part}
 use Rattle.answer.specs.declared.Part.TheVariants.{Header, Body}
 use Rattle.cut.specs.Requirement.{header_most, header_numbers, body_numbers, Segment}
-use Rattle.cut.specs.declared.Core.{Core}
+use Rattle.cut.specs.declared.Sizes.{Sizes}
 use Rattle.cut.specs.Parts.{other_part}
 use Rattle.cut.specs.Kept.{core_with}
 use Rattle.cut.specs.Lists.{pick}
 use Rattle.part.specs.Asked.{Held}
 use Rattle.object.specs.declared.Slot.{Slot}
 use Rattle.object.specs.declared.Tally.{Tally}
-use Rattle.object.specs.declared.Soundness.{Soundness}
-use Rattle.object.specs.declared.Soundness.TheVariants.{Damaged, Sound}
 use Rattle.object.specs.Take.{takes_in}
 use Rattle.object.specs.Sound.{sound_parts, sound_slot}
 use Rattle.object.specs.Parts.{Lent, parts_of, kept_of, marks_of, share_of}
@@ -31,9 +29,9 @@ abbrev pub total_in : Part → Tally → ℕ
 total_in Header tally = tally.headers
 total_in Body tally = tally.bodies
 
--- a slot is damaged, or it is sound, and its marks come to this
-unfoldable pub soundness : ℕ → Slot → Lent → Soundness
-soundness limit slot lent = pick (sound_slot limit slot lent) (Sound (tally_of lent.header lent.marks)) Damaged
+-- what the marks of a sound slot come to; a damaged one has none
+unfoldable pub soundness : ℕ → Slot → Lent → Option Tally
+soundness limit slot lent = pick (sound_slot limit slot lent) (Some (tally_of lent.header lent.marks)) None
 
 -- ---- what is asked
 
@@ -60,7 +58,8 @@ pub record Offered (limit : ℕ) (slot : Slot) (lent : Lent) : Type 0 where
   pub sound : sound_parts limit slot.stage (parts_of slot lent) ≡ true
 
 -- a segment that fits can be stored
-pub record Fitting (tally : Tally) (part : Part) (limit : ℕ) (core : Core) (s : Segment) (slot : Slot) (lent : Lent)
+pub record Fitting (tally : Tally) (part : Part) (limit : ℕ) (core : Option Sizes) (s : Segment) (slot : Slot)
+    (lent : Lent)
     : Type 0 where
   pub header : length lent.header ≡ header_most
   pub body : length lent.body ≡ limit

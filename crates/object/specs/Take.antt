@@ -1,10 +1,10 @@
 -- A segment is offered to a slot: what comes of it, and the slot and what is lent for it afterwards.
-use Rattle.std.specs.Prelude.{Bool, true, false, ℕ, zero, suc, length, get_or}
+use Rattle.std.specs.Prelude.{Bool, true, false, Option, ℕ, zero, suc, length, get_or}
 use Rattle.answer.specs.declared.Part.{Part}
 use Rattle.answer.specs.declared.Part.TheVariants.{Header, Body}
 use Rattle.cut.specs.Requirement.{Segment}
 use Rattle.cut.specs.declared.Record.{Record}
-use Rattle.cut.specs.declared.Core.{Core}
+use Rattle.cut.specs.declared.Sizes.{Sizes}
 use Rattle.cut.specs.Parts.{other_part}
 use Rattle.cut.specs.Kept.{bounds_of, core_with}
 use Rattle.cut.specs.Sums.{takes}
@@ -39,7 +39,7 @@ decided_held true = Repeat
 decided_held false = Conflict
 
 -- of another, by whether it fits, core being what header segment 0 says then
-abbrev pub decided_new : Bool → Core → Decided
+abbrev pub decided_new : Bool → Option Sizes → Decided
 decided_new true core = Fits core
 decided_new false core = Conflict
 

@@ -8,33 +8,27 @@ pub mod record;
 
 ghost use Rattle.std.specs.Prelude.{◌≡◌, suc, ◌*◌, ◌≤◌, ◌<◌, eqb, length, drop};
 ghost use Rattle.octets.specs.Octets.{largest_of, sum_of};
-ghost use Rattle.cut.specs.Requirement.{body_numbers, segment};
+ghost use Rattle.cut.specs.Requirement.{body_numbers, sent};
 ghost use Rattle.cut.specs.Sums.{ended, full_by, possible_in, accepts_in, fits_in};
 ghost use Rattle.part.specs.Memory.{memory, place_of, length_of};
 ghost use Rattle.part.specs.Moves.{moved_as, settled, put};
-ghost use Rattle.part.specs.Asked.{mark_of, held_at, same_flag, same_segment, record_adding, record_settled, end_right, record_right, sound_part, Counted, Held, CanMove, CanPut};
+ghost use Rattle.part.specs.Asked.{mark_of, held_at, same_segment, record_adding, record_settled, end_right, record_right, sound_part, Counted, Held, CanMove, CanPut};
 
-use cut::{Bounds, Record};
+use cut::{Bounds, Record, Segment};
 
 // ---- what is in
 
 pub fn holds(number: usize, marks: &[u8]) -> bool
     ensures { result ≡ mark_of marks.now number }
 {
-    if marks.len() <= number {
-        return false;
-    }
-    0 < marks[number]
+    marks.get(number).is_some_and(|mark| 0 < *mark)
 }
 
 // Whether a segment that is held is the last one.
 pub fn is_last(kept: Record, number: usize) -> bool
     ensures { result ≡ eqb (suc number) kept.end }
 {
-    if kept.end == 0 {
-        return false;
-    }
-    kept.end - 1 == number
+    kept.end != 0 && kept.end - 1 == number
 }
 
 fn length_of(last: bool, kept: Record) -> usize
@@ -47,16 +41,11 @@ fn place_of(last: bool, size: usize, width: usize, number: usize, count: usize) 
     requires { (number * size ≤ width) × (count ≤ width) }
     ensures { result ≡ place_of last size width number count }
 {
-    if !last {
-        return number * size;
+    if last && size == 0 && number != 0 {
+        width - count
+    } else {
+        number * size
     }
-    if size != 0 {
-        return number * size;
-    }
-    if number == 0 {
-        return 0;
-    }
-    width - count
 }
 
 // The bytes of a segment that is held, read back out of the share.
@@ -70,21 +59,14 @@ pub fn segment_at(kept: Record, number: usize, share: &[u8]) -> &[u8]
     &share[at..at + count]
 }
 
-fn same_flag(a: bool, b: bool) -> bool
-    ensures { result ≡ same_flag a b }
-{
-    if a { b } else { !b }
-}
-
 // Whether a segment is the one that is held under its number.
-pub fn same(kept: Record, last: bool, number: usize, bytes: &[u8], share: &[u8]) -> bool
-    requires { Held kept number share.now }
-    ensures { result ≡ same_segment (segment number last bytes.now) (held_at kept share.now number) }
+#[tactic(auto, unfolding(crate::specs::Asked::same_segment, crate::specs::Memory::segment_at))]
+pub fn same(kept: Record, segment: &Segment<'_>, share: &[u8]) -> bool
+    requires { Held kept segment.now.number share.now }
+    ensures { result ≡ same_segment (sent segment.now) (held_at kept share.now segment.now.number) }
 {
-    if !same_flag(last, is_last(kept, number)) {
-        return false;
-    }
-    octets::same(bytes, segment_at(kept, number, share))
+    segment.last == is_last(kept, segment.number)
+        && octets::same(segment.bytes, segment_at(kept, segment.number, share))
 }
 
 // ---- whether it can be
@@ -128,72 +110,47 @@ pub fn possible(bounds: Bounds, kept: Record, total: u32, marks: &[u8]) -> bool
 }
 
 // The same of a part with one segment more, whose record is that with it and whose mark is not set yet.
-fn accepts(
-    last: bool,
-    number: usize,
-    bounds: Bounds,
-    kept: Record,
-    total: u32,
-    marks: &[u8],
-) -> bool
+#[tactic(auto, using(cut::specs::laws::Sums::room_within))]
+fn accepts(segment: &Segment<'_>, bounds: Bounds, kept: Record, total: u32, marks: &[u8]) -> bool
     requires { Counted bounds total marks.now }
-    ensures { result ≡ accepts_in last number bounds kept marks.now }
+    ensures { result ≡ accepts_in segment.now.last segment.now.number bounds kept marks.now }
 {
     let room = bounds::room(bounds, kept);
-    if last {
+    if segment.last {
         if total == 0 {
             return bounds::alone(bounds, kept);
         }
         return total_from(total, room, marks) == 0;
     }
-    if number < room {
-        return total_from(total, room, marks) == ended(kept);
-    }
-    false
+    segment.number < room && total_from(total, room, marks) == ended(kept)
 }
 
 // Whether a segment of a number that is not in fits, with those that are.
-pub fn fits(
-    bounds: Bounds,
-    kept: Record,
-    total: u32,
-    marks: &[u8],
-    last: bool,
-    number: usize,
-    count: usize,
-) -> bool
+#[tactic(auto, unfolding(cut::specs::Sums::fits_in))]
+pub fn fits(bounds: Bounds, kept: Record, total: u32, marks: &[u8], segment: &Segment<'_>) -> bool
     requires { Counted bounds total marks.now }
-    ensures { result ≡ fits_in bounds kept marks.now last number count }
+    ensures { result
+        ≡ fits_in bounds kept marks.now segment.now.last segment.now.number (length segment.now.bytes.now) }
 {
-    if bounds.numbers <= number {
+    if bounds.numbers <= segment.number {
         return false;
     }
-    if !record::joins(full(kept, total), last, count, kept) {
-        return false;
-    }
-    let with = record::add(last, number, count, kept);
-    accepts(last, number, bounds, with, total, marks)
+    let count = segment.bytes.len();
+    let with = record::add(segment.last, segment.number, count, kept);
+    record::joins(full(kept, total), segment.last, count, kept)
+        && accepts(segment, bounds, with, total, marks)
 }
 
 // ---- one segment more
 
 // The record with it.
-pub fn with(
-    bounds: Bounds,
-    kept: Record,
-    total: u32,
-    last: bool,
-    number: usize,
-    count: usize,
-) -> Record
-    requires { number < 32768 }
-    ensures { result ≡ record_adding bounds kept total last number count }
+pub fn with(bounds: Bounds, kept: Record, total: u32, segment: &Segment<'_>) -> Record
+    requires { segment.now.number < 32768 }
+    ensures { result ≡ record_adding bounds kept total segment.now.last segment.now.number
+        (length segment.now.bytes.now) }
 {
-    let with = record::add(last, number, count, kept);
-    if last {
-        return record::settle(bounds, full(kept, total), with);
-    }
-    record::settle(bounds, true, with)
+    let with = record::add(segment.last, segment.number, segment.bytes.len(), kept);
+    record::settle(bounds, !segment.last || full(kept, total), with)
 }
 
 // The record of a part that gets none, within bounds that may have met.
@@ -208,13 +165,7 @@ pub fn settle(old: Record, new: Record, share: &mut [u8])
     requires { CanMove old new share.old }
     ensures { share.new ≡ moved_as old.size new.size old.end old.tail share.old }
 {
-    if old.size != 0 {
-        return;
-    }
-    if new.size == 0 {
-        return;
-    }
-    if old.end < 2 {
+    if old.size != 0 || new.size == 0 || old.end < 2 {
         return;
     }
     let from = share.len() - old.tail;
@@ -222,26 +173,17 @@ pub fn settle(old: Record, new: Record, share: &mut [u8])
 }
 
 // A segment is written straight into its place in the share, which is lent to the copier, and marked.
-pub fn put(
-    old: Record,
-    new: Record,
-    last: bool,
-    number: usize,
-    bytes: &[u8],
-    share: &mut [u8],
-    marks: &mut [u8],
-)
+pub fn put(old: Record, new: Record, segment: &Segment<'_>, share: &mut [u8], marks: &mut [u8])
     requires can_move { CanMove old new share.old }
-    requires can_put { CanPut new number (length bytes.now) share.old marks.old }
+    requires can_put { CanPut new segment.now.number (length segment.now.bytes.now) share.old marks.old }
     ensures { memory new marks.new share.new
-        ≡ put (segment number last bytes.now)
-        (settled new (memory old marks.old share.old)) }
+        ≡ put (sent segment.now) (settled new (memory old marks.old share.old)) }
 {
     settle(old, new, share);
-    let count = bytes.len();
-    let at = place_of(last, new.size, share.len(), number, count);
-    octets::copy_in(&mut share[at..at + count], bytes);
-    marks[number] = 1;
+    let count = segment.bytes.len();
+    let at = place_of(segment.last, new.size, share.len(), segment.number, count);
+    octets::copy_in(&mut share[at..at + count], segment.bytes);
+    marks[segment.number] = 1;
 }
 
 // ---- whether it is sound
@@ -251,23 +193,18 @@ fn end_right(end: usize, tail: usize, marks: &[u8]) -> bool
     ensures { result ≡ end_right end tail marks.now }
 {
     if end == 0 {
-        return tail == 0;
+        tail == 0
+    } else {
+        holds(end - 1, marks)
     }
-    holds(end - 1, marks)
 }
 
 fn record_right(bounds: Bounds, kept: Record, total: u32, marks: &[u8]) -> bool
     requires { Counted bounds total marks.now }
     ensures { result ≡ record_right bounds kept marks.now }
 {
-    if !end_right(kept.end, kept.tail, marks) {
-        return false;
-    }
-    if full(kept, total) {
-        return true;
-    }
-    let settled = record::settle(bounds, false, kept);
-    kept.size == settled.size
+    end_right(kept.end, kept.tail, marks)
+        && (full(kept, total) || kept.size == record::settle(bounds, false, kept).size)
 }
 
 // Whether a part's record is the one that its marked segments give, and these can be.
@@ -275,8 +212,5 @@ pub fn sound(bounds: Bounds, kept: Record, total: u32, marks: &[u8]) -> bool
     requires { Counted bounds total marks.now }
     ensures { result ≡ sound_part bounds kept marks.now }
 {
-    if !record_right(bounds, kept, total, marks) {
-        return false;
-    }
-    possible(bounds, kept, total, marks)
+    record_right(bounds, kept, total, marks) && possible(bounds, kept, total, marks)
 }

@@ -7,7 +7,7 @@
 
 ghost use Rattle.std.specs.Prelude.{◌≡◌, ◌+◌, ◌*◌, ◌≤◌, ◌<◌, leb, length, take, drop, set};
 ghost use Rattle.octets.specs.Octets.{zeros};
-ghost use Rattle.cut.specs.Requirement.{header_most, segment};
+ghost use Rattle.cut.specs.Requirement.{header_most, sent};
 ghost use Rattle.object.specs.Take.{take_into};
 ghost use Rattle.object.specs.Asked.{Offered};
 ghost use Rattle.slots.specs.Stores.{slots_most, slot_marks, no_record, free_slot, fresh_slot, stores, lent_at};
@@ -19,7 +19,7 @@ ghost use Rattle.slots.specs.Show.{start_of, shown_of};
 ghost use Rattle.slots.specs.Take.{placed, placed_at, drop_at, Inside};
 
 use answer::Part;
-use cut::{Core, Record};
+use cut::{Record, Segment};
 use object::{Decided, Slot, Stage, Tally, Took};
 
 // How many slots a collector may have.
@@ -29,13 +29,6 @@ pub const SLOTS_MOST: usize = 16;
 
 // Marks of a slot: one for each number of the header and of the body.
 pub const SLOT_MARKS: usize = cut::HEADER_NUMBERS + cut::BODY_NUMBERS;
-
-// Where a slot is found, or that none is.
-#[derive(Clone, Copy)]
-pub enum Found {
-    Nothing,
-    At(usize),
-}
 
 // What is kept of a part that has no segment yet.
 fn no_record() -> Record
@@ -60,16 +53,6 @@ pub fn free_slot() -> Slot
     }
 }
 
-// All the slots, with another one in the place of slot i.
-fn with_slot(i: usize, slot: Slot, slots: [Slot; SLOTS_MOST]) -> [Slot; SLOTS_MOST]
-    requires { i < slots_most }
-    ensures { result ≡ set slots i slot }
-{
-    let mut all = slots;
-    all[i] = slot;
-    all
-}
-
 // A slot that a transport number has just taken.
 pub fn fresh_slot(transport: u16) -> Slot
     ensures { result ≡ fresh_slot transport }
@@ -77,183 +60,111 @@ pub fn fresh_slot(transport: u16) -> Slot
     Slot {
         number: transport,
         stage: Stage::Gathering,
-        header: no_record(),
-        body: no_record(),
-        missing: 0,
+        ..free_slot()
     }
 }
 
-fn is_free(slot: Slot) -> bool
-    ensures { result ≡ is_free slot }
+fn is_free(slot: &Slot) -> bool
+    ensures { result ≡ is_free slot.now }
 {
-    let stage = slot.stage;
-    match stage {
-        Stage::Free => true,
-        Stage::Gathering => false,
-        Stage::Finished(_, _) => false,
-    }
+    slot.stage == Stage::Free
 }
 
-fn holds(number: u16, slot: Slot) -> bool
-    ensures { result ≡ holds number slot }
+fn holds(number: u16, slot: &Slot) -> bool
+    ensures { result ≡ holds number slot.now }
 {
-    if is_free(slot) {
-        return false;
-    }
-    slot.number == number
+    !is_free(slot) && slot.number == number
 }
 
 // The lowest of the first count slots that holds a number.
-pub fn find(number: u16, count: usize, slots: [Slot; SLOTS_MOST]) -> Found
+pub fn find(number: u16, count: usize, slots: [Slot; SLOTS_MOST]) -> Option<usize>
     ensures { result ≡ find_in number count slots }
 {
-    let mut at = 0;
-    while at < count {
-        if SLOTS_MOST <= at {
-            return Found::Nothing;
-        }
-        let slot = slots[at];
-        if holds(number, slot) {
-            return Found::At(at);
-        }
-        at += 1;
-    }
-    Found::Nothing
+    slots
+        .iter()
+        .take(count)
+        .position(|slot| holds(number, slot))
 }
 
-// The lowest of the first count slots that is free.
-pub fn free(count: usize, slots: [Slot; SLOTS_MOST]) -> Found
+// The lowest of the first count slots that is free. Not inlined: it puts no copy of the slots on its caller's stack.
+#[inline(never)]
+pub fn free(count: usize, slots: [Slot; SLOTS_MOST]) -> Option<usize>
     ensures { result ≡ free_in count slots }
 {
-    let mut i = 0;
-    while i < count {
-        if SLOTS_MOST <= i {
-            return Found::Nothing;
-        }
-        let slot = slots[i];
-        if is_free(slot) {
-            return Found::At(i);
-        }
-        i += 1;
-    }
-    Found::Nothing
-}
-
-// The marks of a slot that holds nothing.
-fn no_marks() -> [u8; SLOT_MARKS]
-    ensures { result ≡ zeros slot_marks }
-{
-    [0; SLOT_MARKS]
+    slots.iter().take(count).position(|slot| is_free(slot))
 }
 
 // Whether a segment fits some object and cut by itself: what comes of it where nothing is in yet.
-pub fn fits_alone(part: Part, limit: usize, last: bool, number: usize, bytes: &[u8]) -> bool
-    ensures { result ≡ fits_alone part limit (segment number last bytes.now) }
+pub fn fits_alone(part: Part, limit: usize, segment: &Segment<'_>) -> bool
+    ensures { result ≡ fits_alone part limit (sent segment.now) }
 {
-    let marks = no_marks();
+    let marks = [0; SLOT_MARKS];
     let fresh = fresh_slot(0);
     let nothing = Tally {
-        core: Core::Unseen,
+        core: None,
         headers: 0,
         bodies: 0,
     };
-    let decided = object::decide(
-        fresh, nothing, limit, part, last, number, bytes, bytes, bytes, &marks,
-    );
-    match decided {
-        Decided::Repeat => false,
-        Decided::Conflict => false,
-        Decided::Fits(_) => true,
-    }
+    let bytes = segment.bytes;
+    let decided = object::decide(fresh, nothing, limit, part, segment, bytes, bytes, &marks);
+    matches!(decided, Decided::Fits(_))
 }
 
 // Whether the limit and the number of slots are within their bounds, and each lent length is the one that they give.
 pub fn within_limits(limit: usize, count: usize, header: usize, body: usize, marks: usize) -> bool
     ensures { result ≡ within_limits limit count header body marks }
 {
-    if limit < cut::LIMIT_LEAST {
-        return false;
-    }
-    if cut::LIMIT_MOST < limit {
-        return false;
-    }
-    if count < SLOTS_LEAST {
-        return false;
-    }
-    if SLOTS_MOST < count {
-        return false;
-    }
-    if header != count * cut::HEADER_MOST {
-        return false;
-    }
-    if body != count * limit {
-        return false;
-    }
-    marks == count * SLOT_MARKS
+    (cut::LIMIT_LEAST..=cut::LIMIT_MOST).contains(&limit)
+        && (SLOTS_LEAST..=SLOTS_MOST).contains(&count)
+        && header == count * cut::HEADER_MOST
+        && body == count * limit
+        && marks == count * SLOT_MARKS
 }
 
 // A slot's number and 1, or 0 where it is free: two slots hold one number just where their keys are one and not 0.
-fn key_of(slot: Slot) -> u32
-    ensures { result ≡ key_of slot }
+fn key_of(slot: &Slot) -> u32
+    ensures { result ≡ key_of slot.now }
 {
     if is_free(slot) {
-        return 0;
+        0
+    } else {
+        slot.number as u32 + 1
     }
-    slot.number as u32 + 1
 }
 
-// The keys of all slots: a search among these copies 64 bytes, and not the slots.
-fn keys_of(slots: [Slot; SLOTS_MOST]) -> [u32; SLOTS_MOST]
-    ensures { result ≡ keys_of slots }
+// The keys of all slots: a search among these reads 64 bytes, and not the slots.
+fn keys_of(slots: &[Slot; SLOTS_MOST]) -> [u32; SLOTS_MOST]
+    ensures { result ≡ keys_of slots.now }
 {
-    let mut keys: [u32; SLOTS_MOST] = [0; SLOTS_MOST];
-    let mut i = 0;
-    while i < SLOTS_MOST {
-        let slot = slots[i];
-        keys[i] = key_of(slot);
-        i += 1;
-    }
-    keys
+    slots.each_ref().map(key_of)
 }
 
-// Whether a key is 0, or none of the first count keys, from one on, is this one.
-fn is_unlike(key: u32, from: usize, count: usize, keys: [u32; SLOTS_MOST]) -> bool
-    requires { count ≤ slots_most }
-    ensures { result ≡ unlike_key key (drop from (take count keys)) }
+// Whether a key is 0, or none of the others.
+fn is_unlike(key: u32, others: &[u32]) -> bool
+    ensures { result ≡ unlike_key key others.now }
 {
-    if key == 0 {
-        return true;
-    }
-    let mut i = from;
-    while i < count {
-        if keys[i] == key {
+    key == 0 || !others.contains(&key)
+}
+
+// Whether no two of the keys are one, but for 0.
+fn all_distinct(keys: &[u32]) -> bool
+    ensures { result ≡ distinct_keys keys.now }
+{
+    let mut rest = keys;
+    while let Some((key, others)) = rest.split_first() {
+        if !is_unlike(*key, others) {
             return false;
         }
-        i += 1;
-    }
-    true
-}
-
-// Whether no two of the first count keys are one, but for 0.
-fn all_distinct(count: usize, keys: [u32; SLOTS_MOST]) -> bool
-    requires { count ≤ slots_most }
-    ensures { result ≡ distinct_keys (take count keys) }
-{
-    let mut i = 0;
-    while i < count {
-        if !is_unlike(keys[i], i + 1, count, keys) {
-            return false;
-        }
-        i += 1;
+        rest = others;
     }
     true
 }
 
 // Whether a free slot has no mark set, or a held one is sound.
-fn right_at(limit: usize, i: usize, slot: Slot, header: &[u8], marks: &[u8]) -> bool
+fn right_at(limit: usize, i: usize, slot: &Slot, header: &[u8], marks: &[u8]) -> bool
     requires header_most_in_bounds { i * header_most + header_most ≤ length header.now }
     requires slot_marks_in_bounds { i * slot_marks + slot_marks ≤ length marks.now }
-    ensures { result ≡ right_by limit i slot header.now marks.now }
+    ensures { result ≡ right_by limit i slot.now header.now marks.now }
 {
     let first = i * SLOT_MARKS;
     let end = first + SLOT_MARKS;
@@ -262,7 +173,7 @@ fn right_at(limit: usize, i: usize, slot: Slot, header: &[u8], marks: &[u8]) -> 
     }
     let start = i * cut::HEADER_MOST;
     let stop = start + cut::HEADER_MOST;
-    object::is_sound(slot, limit, &header[start..stop], &marks[first..end])
+    object::is_sound(*slot, limit, &header[start..stop], &marks[first..end])
 }
 
 // Whether a state is not damaged, the counts left aside: document 01's list for STATE.
@@ -279,16 +190,13 @@ pub fn sound(
     if !within_limits(limit, count, header.len(), body.len(), marks.len()) {
         return false;
     }
-    if !all_distinct(count, keys_of(slots)) {
+    if !all_distinct(&keys_of(&slots)[..count]) {
         return false;
     }
-    let mut i = 0;
-    while i < count {
-        let slot = slots[i];
-        if !right_at(limit, i, slot, header, marks) {
+    for i in 0..count {
+        if !right_at(limit, i, &slots[i], header, marks) {
             return false;
         }
-        i += 1;
     }
     true
 }
@@ -299,9 +207,7 @@ pub fn take_into(
     part: Part,
     limit: usize,
     i: usize,
-    last: bool,
-    number: usize,
-    bytes: &[u8],
+    segment: &Segment<'_>,
     header: &mut [u8],
     body: &mut [u8],
     marks: &mut [u8],
@@ -310,7 +216,7 @@ pub fn take_into(
     requires offered { Offered limit slot (lent_at limit i (stores header.old body.old marks.old)) }
     ensures { placed result (stores header.new body.new marks.new)
         ≡ placed_at limit i (stores header.old body.old marks.old)
-        (take_into part limit (segment number last bytes.now) slot
+        (take_into part limit (sent segment.now) slot
         (lent_at limit i (stores header.old body.old marks.old))) }
 {
     let header_start = i * cut::HEADER_MOST;
@@ -323,9 +229,7 @@ pub fn take_into(
         slot,
         limit,
         part,
-        last,
-        number,
-        bytes,
+        segment,
         &mut header[header_start..header_end],
         &mut body[body_start..body_end],
         &mut marks[marks_start..marks_end],
@@ -333,39 +237,27 @@ pub fn take_into(
 }
 
 // Slot i is dropped: its marks are 0 and it is free; its store bytes stay.
-pub fn drop_at(i: usize, slots: [Slot; SLOTS_MOST], marks: &mut [u8]) -> [Slot; SLOTS_MOST]
+pub fn drop_at(i: usize, mut slots: [Slot; SLOTS_MOST], marks: &mut [u8]) -> [Slot; SLOTS_MOST]
     requires { (i < slots_most) × (i * slot_marks + slot_marks ≤ length marks.old) }
     ensures { record { slots = result; marks = marks.new } ≡ drop_at i slots marks.old }
 {
     let start = i * SLOT_MARKS;
     let end = start + SLOT_MARKS;
     octets::clear(&mut marks[start..end]);
-    with_slot(i, free_slot(), slots)
-}
-
-// Whether share i starts inside a store of that length, by division: the product could wrap.
-fn starts_inside(width: usize, i: usize, length: usize) -> bool
-    ensures { result ≡ leb (i * width) length }
-{
-    if width == 0 {
-        return true;
-    }
-    i <= length / width
+    slots[i] = free_slot();
+    slots
 }
 
 // The first bytes of share i of a store, or nothing where the store ends before them.
 pub fn start_of(store: &[u8], width: usize, i: usize, count: usize) -> &[u8]
     ensures { result.now ≡ start_of width i count store.now }
 {
-    if !starts_inside(width, i, store.len()) {
-        return &store[..0];
+    match i.checked_mul(width) {
+        Some(start) if start <= store.len() && count <= store.len() - start => {
+            &store[start..start + count]
+        }
+        _ => &store[..0],
     }
-    let start = i * width;
-    if store.len() - start < count {
-        return &store[..0];
-    }
-    let end = start + count;
-    &store[start..end]
 }
 
 // A finished object's header or body, as the part of the one of the two stores that has it; nothing where the slot is
@@ -380,8 +272,7 @@ pub fn shown<'a>(
 ) -> &'a [u8]
     ensures { result.now ≡ shown_of part i limit slot header.now body.now }
 {
-    let stage = slot.stage;
-    let Stage::Finished(header_length, body_length) = stage else {
+    let Stage::Finished(header_length, body_length) = slot.stage else {
         return &header[..0];
     };
     match part {

@@ -19,10 +19,8 @@ pub record SameButIgnored (group other : List ℕ) : Type 0 where
       ≡ take (segment_size group) (drop (segment_start group) group)
   pub long : length other + length_indicator group ≡ length group + length_indicator other
 
--- two groups carry the same segment: the same transport and segment number, part, last flag and bytes
+-- two groups carry the same segment: the same transport number, part, segment number, last flag and bytes
 pub record SameSegment (group : List ℕ) (carried : Carried) (other : List ℕ) (again : Carried) : Type 0 where
-  pub number : again.number ≡ carried.number
-  pub part : again.part ≡ carried.part
-  pub segment : again.segment ≡ carried.segment
+  pub heard : again.heard ≡ carried.heard
   pub last : again.last ≡ carried.last
   pub bytes : bytes_in other again ≡ bytes_in group carried

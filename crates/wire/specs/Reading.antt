@@ -1,27 +1,23 @@
 -- How a group is read: document 01's checks in document 01's order, and what is read off a group that passes them all.
-use Rattle.std.specs.Prelude.{List, [], Bool, true, false, not, cond, ◌||◌, ℕ, zero, suc, ◌+◌, ◌-◌, length, take, drop, eqb, ltb}
+use Rattle.std.specs.Prelude.{List, [], Bool, true, false, not, cond, ◌||◌, Option, Some, None, Result, Ok, Err, ℕ, zero, suc, ◌+◌, ◌-◌, length, take, drop, eqb, ltb}
 use Rattle.crc.specs.CheckWord.{check_word}
 use Rattle.answer.specs.declared.Part.{Part}
 use Rattle.answer.specs.declared.Part.TheVariants.{Header, Body}
 use Rattle.answer.specs.declared.Refusal.{Refusal}
-use Rattle.answer.specs.declared.Refusal.TheVariants as Refusal
 use Rattle.answer.specs.declared.Repetition.{Repetition}
-use Rattle.wire.specs.declared.Kind.{Kind}
-use Rattle.wire.specs.declared.Kind.TheVariants.{Carries, Other}
+use Rattle.wire.specs.declared.Place.{Place}
 use Rattle.wire.specs.declared.Carried.{Carried}
-use Rattle.wire.specs.declared.Reading.{Reading}
-use Rattle.wire.specs.declared.Reading.TheVariants.{Read, Refused}
 use Rattle.wire.specs.Wire.{group_least, group_most, segment_least, segment_most, full_least, crc_flag, segment_flag, user_access_flag, type_number, last_flag, segment_number, user_access, transport_flag, length_indicator, transport_number, segment_size, segment_start, check_start, check_field, check_covers, repetition_index, continuity_index, repetition_count, end_user_address, end_user_address_length}
 
 infixr 1 ◌if◌otherwise◌
 -- the refusal where the test holds, and otherwise what follows
-abbrev pub ◌if◌otherwise◌ : Refusal → Bool → Reading → Reading
-refusal if true otherwise next = Refused refusal
+abbrev pub ◌if◌otherwise◌ : Refusal → Bool → Result Carried Refusal → Result Carried Refusal
+refusal if true otherwise next = Err refusal
 refusal if false otherwise next = next
 
 -- type 3 is a header segment, type 4 a body segment, and every other type is another kind
-unfoldable pub kind_of : ℕ → Kind
-kind_of number = cond (eqb number 3) (Carries Header) (cond (eqb number 4) (Carries Body) Other)
+unfoldable pub kind_of : ℕ → Option Part
+kind_of number = cond (eqb number 3) (Some Header) (cond (eqb number 4) (Some Body) None)
 
 -- the check word that the group carries is the one of everything before it
 unfoldable pub check_holds : List ℕ → Bool
@@ -49,29 +45,29 @@ repetition_in group = record {
 -- what a group carries, once it has passed the checks
 unfoldable pub segment_of : List ℕ → Part → Carried
 segment_of group part = record {
-  number = transport_number group;
-  part = part;
-  segment = segment_number group;
+  heard = record { number = transport_number group; part = part; segment = segment_number group };
   last = last_flag group;
-  start = segment_start group;
-  length = segment_size group;
+  bytes = record { start = segment_start group; length = segment_size group };
   repetition = repetition_in group;
-  address_start = end_user_address group;
-  address_length = end_user_address_length group;
+  address = record { start = end_user_address group; length = end_user_address_length group };
 }
+
+-- the bytes at a place in a group
+abbrev pub bytes_at : List ℕ → Place → List ℕ
+bytes_at group place = take place.length (drop place.start group)
 
 -- the bytes that a segment has in its group
 abbrev pub bytes_in : List ℕ → Carried → List ℕ
-bytes_in group carried = take carried.length (drop carried.start group)
+bytes_in group carried = bytes_at group carried.bytes
 
 -- what follows for the part that a group carries; a group of another kind is refused
-abbrev pub carried_by : Kind → (Part → Reading) → Reading
-carried_by (Carries part) next = next part
-carried_by Other next = Refused Refusal.Kind
+abbrev pub carried_by : Option Part → (Part → Result Carried Refusal) → Result Carried Refusal
+carried_by (Some part) next = next part
+carried_by None next = Err Refusal.Kind
 
 -- LENGTH (under 2 or over 8,215); NOCHECK; LENGTH (under 4); BADCHECK; KIND; NOSEGMENT; LENGTH (up to the user access
 -- byte); ADDRESS; LENGTH (up to the segmentation header); SIZE
-unfoldable pub reading_of : List ℕ → Reading
+unfoldable pub reading_of : List ℕ → Result Carried Refusal
 reading_of group =
     Refusal.Length if ltb (length group) group_least || ltb group_most (length group) otherwise
     Refusal.NoCheck if eqb (crc_flag group) 0 otherwise
@@ -84,12 +80,12 @@ reading_of group =
     Refusal.Length if ltb (check_start group) (segment_start group) otherwise
     Refusal.Size if size_wrong (least_size part (segment_number group) (last_flag group)) (segment_size group)
     (check_start group - segment_start group) otherwise
-    Read (segment_of group part)
+    Ok (segment_of group part)
 
 -- the end user address; a group that is not read has none
-abbrev pub address_in : Reading → List ℕ → List ℕ
-address_in (Read carried) group = take carried.address_length (drop carried.address_start group)
-address_in (Refused why) group = []
+abbrev pub address_in : Result Carried Refusal → List ℕ → List ℕ
+address_in (Ok carried) group = bytes_at group carried.address
+address_in (Err why) group = []
 
 unfoldable pub address_of : List ℕ → List ℕ
 address_of group = address_in (reading_of group) group

@@ -1,43 +1,31 @@
 -- What each exported call returns, and all that it leaves: the collector's own definitions, over the words that hold
 -- the state and the counts.
-use Rattle.std.specs.Prelude.{Bool, true, false, List, [], ◌∷◌, ℕ, ◌+◌, ◌*◌, ◌%◌, eqb, length}
+use Rattle.std.specs.Prelude.{Bool, true, false, Result, Ok, Err, List, [], ◌∷◌, ℕ, ◌+◌, ◌*◌, ◌%◌, eqb, length, ⊤, Option, Some, None, is_ok}
 use Rattle.answer.specs.Table.{number_of, returned_with}
 use Rattle.answer.specs.declared.Answer.{Answer}
 use Rattle.answer.specs.declared.Answer.TheVariants.{Stored, Complete, Repeat, Dropped, Refused, Conflict, Full, Denied}
-use Rattle.answer.specs.declared.Reason.TheVariants as Reason
+use Rattle.answer.specs.declared.Reason.{Reason}
+use Rattle.answer.specs.declared.Refusal.{Refusal}
 use Rattle.answer.specs.declared.Heard.{Heard}
 use Rattle.answer.specs.declared.Part.{Part}
 use Rattle.answer.specs.declared.Part.TheVariants as Part
 use Rattle.answer.specs.declared.Repetition.{Repetition}
 use Rattle.answer.specs.declared.Returned.{Returned}
 use Rattle.answer.specs.declared.Returned.TheVariants.{Sent, Segment, Number, Nothing}
-use Rattle.wire.specs.declared.Reading.{Reading}
-use Rattle.wire.specs.declared.Reading.TheVariants as Reading
+use Rattle.wire.specs.declared.Carried.{Carried}
 use Rattle.wire.specs.Reading.{reading_of}
 use Rattle.cut.specs.Lists.{both, pick}
 use Rattle.cut.specs.Missing.{amount_kept}
 use Rattle.object.specs.declared.Stage.{Stage}
 use Rattle.slots.specs.Stores.{Stores, slot_at}
+use Rattle.counts.specs.declared.Counts.{Counts}
 use Rattle.collector.specs.declared.Collector.{Collector}
-use Rattle.collector.specs.declared.Located.{Located}
-use Rattle.collector.specs.declared.Located.TheVariants as Located
-use Rattle.collector.specs.declared.Opening.{Opening}
-use Rattle.collector.specs.declared.Opening.TheVariants as Opening
 use Rattle.collector.specs.State.{State, Reply, Opened, state, start}
 use Rattle.collector.specs.Calls.{take_group, drop_number, open_with, locate}
-use Rattle.queries.specs.declared.Asked.{Asked}
-use Rattle.queries.specs.declared.Asked.TheVariants as Asked
-use Rattle.queries.specs.declared.Sought.{Sought}
-use Rattle.queries.specs.declared.Sought.TheVariants as Sought
-use Rattle.queries.specs.declared.Awaited.{Awaited}
-use Rattle.queries.specs.declared.Awaited.TheVariants as Awaited
 use Rattle.queries.specs.Questions.{parameters, find}
 use Rattle.queries.specs.Missing.{missing}
 use Rattle.header.specs.declared.Fields.{Fields}
-use Rattle.header.specs.declared.Name.{Name}
-use Rattle.header.specs.declared.Name.TheVariants as Name
-use Rattle.header.specs.declared.Priority.{Priority}
-use Rattle.header.specs.declared.Priority.TheVariants as Priority
+use Rattle.header.specs.declared.Place.{Place}
 use Rattle.layout.specs.Layout.{header_word, body_word, words_of, count_words, collector_from, counts_from, readable}
 
 -- ---- an answer in one word: its number, then the part, the transport number and the segment's number, and what the
@@ -95,6 +83,10 @@ changes (Denied reason) = false
 abbrev pub lent_right : List ℕ → List ℕ → Bool
 lent_right words counts = both (eqb (length counts) 5) (readable words)
 
+-- what they hold then
+abbrev pub held_in : List ℕ → List ℕ → Option (Collector × Counts)
+held_in words counts = pick (lent_right words counts) (Some (collector_from words, counts_from counts)) None
+
 -- a call that is answered: the state's words stay where it did not change
 unfoldable pub left : Reply → List ℕ → Called
 left r words =
@@ -118,13 +110,12 @@ drop_call number words counts stores =
 -- ---- an opening
 
 -- 0 where the collector is open
-abbrev pub opening_word : Opening → ℕ
-opening_word Opening.Open = 0
-opening_word (Opening.Denied why) = number_of (Denied why)
+abbrev pub opening_word : Result ⊤ Reason → ℕ
+opening_word (Ok unit) = 0
+opening_word (Err why) = number_of (Denied why)
 
-abbrev pub is_open : Opening → Bool
-is_open Opening.Open = true
-is_open (Opening.Denied why) = false
+abbrev pub is_open : Result ⊤ Reason → Bool
+is_open opening = is_ok opening
 
 unfoldable pub left_open : Opened → List ℕ → Called
 left_open o words =
@@ -149,13 +140,9 @@ pub record Told : Type 0 where
 abbrev pub place_words : ℕ → Stage → List ℕ
 place_words i stage = i ∷ header_word stage ∷ body_word stage ∷ []
 
-abbrev pub refused_word : Located → ℕ
-refused_word (Located.Denied why) = number_of (Denied why)
-refused_word (Located.At i) = 0
-
-abbrev pub place_told : Located → Collector → List ℕ → Told
-place_told (Located.Denied why) c place = record { result = number_of (Denied why); told = place }
-place_told (Located.At i) c place = record { result = 0; told = place_words i (slot_at i c.slots).stage }
+abbrev pub place_told : Result ℕ Reason → Collector → List ℕ → Told
+place_told (Err why) c place = record { result = number_of (Denied why); told = place }
+place_told (Ok i) c place = record { result = 0; told = place_words i (slot_at i c.slots).stage }
 
 unfoldable pub finished_call : ℕ → List ℕ → List ℕ → Stores → List ℕ → Told
 finished_call number words counts stores place =
@@ -166,31 +153,27 @@ finished_call number words counts stores place =
 -- ---- what its header says
 
 -- Priority's byte, or 256 where there is none
-abbrev pub priority_word : Priority → ℕ
-priority_word Priority.Absent = 256
-priority_word (Priority.Byte byte) = byte
+abbrev pub priority_word : Option ℕ → ℕ
+priority_word None = 256
+priority_word (Some byte) = byte
 
 -- where ContentName's data starts in the header, and how long it is: 0 where there is none, as a name has a byte at
 -- least
-abbrev pub name_start : Name → ℕ
-name_start Name.Absent = 0
-name_start (Name.Data start length) = start
+abbrev pub name_start : Option Place → ℕ
+name_start None = 0
+name_start (Some place) = place.start
 
-abbrev pub name_length : Name → ℕ
-name_length Name.Absent = 0
-name_length (Name.Data start length) = length
+abbrev pub name_length : Option Place → ℕ
+name_length None = 0
+name_length (Some place) = place.size
 
 abbrev pub field_words : Fields → List ℕ
 field_words f = f.body_size ∷ f.header_size ∷ f.content_type ∷ f.content_sub_type ∷ priority_word
     f.priority ∷ name_start f.name ∷ name_length f.name ∷ []
 
-abbrev pub unread_word : Asked → ℕ
-unread_word (Asked.Denied why) = number_of (Denied why)
-unread_word (Asked.Fields fields) = 0
-
-abbrev pub fields_told : Asked → List ℕ → Told
-fields_told (Asked.Denied why) told = record { result = number_of (Denied why); told = told }
-fields_told (Asked.Fields fields) told = record { result = 0; told = field_words fields }
+abbrev pub fields_told : Result Fields Reason → List ℕ → Told
+fields_told (Err why) told = record { result = number_of (Denied why); told = told }
+fields_told (Ok fields) told = record { result = 0; told = field_words fields }
 
 unfoldable pub read_call : ℕ → List ℕ → List ℕ → Stores → List ℕ → Told
 read_call number words counts stores told =
@@ -201,9 +184,9 @@ read_call number words counts stores told =
 -- ---- whose a name is
 
 -- its transport number, where an answer has it
-abbrev pub sought_word : Sought → ℕ
-sought_word (Sought.Number number) = number * 65536
-sought_word (Sought.Denied why) = number_of (Denied why)
+abbrev pub sought_word : Result ℕ Reason → ℕ
+sought_word (Ok number) = number * 65536
+sought_word (Err why) = number_of (Denied why)
 
 unfoldable pub find_call : List ℕ → List ℕ → List ℕ → Stores → ℕ
 find_call name words counts stores =
@@ -212,9 +195,9 @@ find_call name words counts stores =
 -- ---- how many bytes are still to come
 
 -- as a slot keeps it: 1 more, or 0 while it is not known
-abbrev pub awaited_word : Awaited → ℕ
-awaited_word (Awaited.Bytes amount) = amount_kept amount * 65536
-awaited_word (Awaited.Denied why) = number_of (Denied why)
+abbrev pub awaited_word : Result (Option ℕ) Reason → ℕ
+awaited_word (Ok amount) = amount_kept amount * 65536
+awaited_word (Err why) = number_of (Denied why)
 
 unfoldable pub missing_call : ℕ → List ℕ → List ℕ → Stores → ℕ
 missing_call number words counts stores =
@@ -223,15 +206,10 @@ missing_call number words counts stores =
 
 -- ---- where the end user address of a group stands
 
--- why a group is not read, or 0
-abbrev pub refusal_word : Reading → ℕ
-refusal_word (Reading.Refused why) = number_of (Refused why)
-refusal_word (Reading.Read carried) = 0
-
--- where it starts, and how many bytes it has
-abbrev pub address_word : Reading → ℕ
-address_word (Reading.Refused why) = number_of (Refused why)
-address_word (Reading.Read carried) = carried.address_start * 65536 + carried.address_length * 4294967296
+-- where it starts, and how many bytes it has; or why the group is not read
+abbrev pub address_word : Result Carried Refusal → ℕ
+address_word (Err why) = number_of (Refused why)
+address_word (Ok carried) = carried.address.start * 65536 + carried.address.length * 4294967296
 
 unfoldable pub address_call : List ℕ → ℕ
 address_call group = address_word (reading_of group)

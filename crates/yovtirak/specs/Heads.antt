@@ -1,10 +1,11 @@
 -- A head's own calls: any calls of the exported functions after an opening, each handed the words and the lent memory
 -- just as the one before left them. The latest call comes first, as in a history of the collector.
-use Rattle.std.specs.Prelude.{◌≡◌, List, [], ◌∷◌, ℕ, ◌*◌, ◌/◌, ◌%◌, length}
+use Rattle.std.specs.Prelude.{◌≡◌, List, [], ◌∷◌, ℕ, ◌*◌, ◌/◌, ◌%◌, length, Result, Ok, Err, Option}
 use Rattle.answer.specs.declared.Answer.{Answer}
 use Rattle.answer.specs.declared.Answer.TheVariants as Answer
 use Rattle.answer.specs.declared.Heard.{Heard}
 use Rattle.answer.specs.declared.Part.TheVariants.{Header, Body}
+use Rattle.answer.specs.declared.Reason.{Reason}
 use Rattle.answer.specs.declared.Repetition.{Repetition}
 use Rattle.answer.specs.Table.{number_of}
 use Rattle.slots.specs.Stores.{Stores}
@@ -12,8 +13,6 @@ use Rattle.collector.specs.State.{State, Start}
 use Rattle.history.specs.Handed.{Handed}
 use Rattle.history.specs.History.{Question, Call, hand, ask, reached}
 use Rattle.history.specs.Ours.{ours}
-use Rattle.queries.specs.declared.Awaited.{Awaited}
-use Rattle.queries.specs.declared.Awaited.TheVariants as Awaited
 use Rattle.layout.specs.Layout.{counts_from, collector_from, words_of, count_words}
 use Rattle.yovtirak.specs.Exports.{Called, held, part_word, answer_word, open_call, take_call, drop_call, Told, place_told, finished_call, fields_told, read_call, sought_word, find_call, awaited_word, missing_call, address_word, address_call}
 use Rattle.octets.specs.Octets.{part}
@@ -149,16 +148,16 @@ pub record Words (l : Lent) (s : State) : Type 0 where
   pub counts : l.counts ≡ count_words s.counts
   pub stores : l.stores ≡ s.stores
 
-abbrev pub denial_in : Awaited → ℕ
-denial_in (Awaited.Bytes amount) = 0
-denial_in (Awaited.Denied why) = number_of (Answer.Denied why)
+abbrev pub denial_in : Result (Option ℕ) Reason → ℕ
+denial_in (Ok amount) = 0
+denial_in (Err why) = number_of (Answer.Denied why)
 
-abbrev pub amount_in : Awaited → ℕ
-amount_in (Awaited.Bytes amount) = amount_kept amount
-amount_in (Awaited.Denied why) = 0
+abbrev pub amount_in : Result (Option ℕ) Reason → ℕ
+amount_in (Ok amount) = amount_kept amount
+amount_in (Err why) = 0
 
 -- what the shift and the mask of `yovtirak_tell_missing` take out of a word: the answer's number, 0 where the number
 -- of bytes is told, and 1 more than that number, or 0 while it is not known
-pub record TellsMissing (word : ℕ) (awaited : Awaited) : Type 0 where
+pub record TellsMissing (word : ℕ) (awaited : Result (Option ℕ) Reason) : Type 0 where
   pub answered : word % 256 ≡ denial_in awaited
   pub amount : word / 65536 ≡ amount_in awaited

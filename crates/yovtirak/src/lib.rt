@@ -5,19 +5,19 @@
 #![tactic(auto)]
 
 ghost use Rattle.std.specs.Prelude.{◌≡◌, ◌<◌, length};
+ghost use Rattle.answer.specs.Table.{number_of};
+ghost use Rattle.answer.specs.declared.Answer.TheVariants.{Denied};
 ghost use Rattle.slots.specs.Stores.{stores, slot_at};
 ghost use Rattle.layout.specs.Layout.{words_of, count_words};
-ghost use Rattle.yovtirak.specs.Exports.{called, opening_word, is_open, open_call, part_word, heard_word, repetition_word, returned_word, answer_word, changes, take_call, drop_call, refused_word, place_words, finished_call, priority_word, name_start, name_length, field_words, unread_word, read_call, sought_word, find_call, awaited_word, missing_call, refusal_word, address_call};
+ghost use Rattle.yovtirak.specs.Exports.{called, opening_word, open_call, part_word, heard_word, repetition_word, returned_word, answer_word, changes, take_call, drop_call, place_words, finished_call, priority_word, name_start, name_length, field_words, read_call, sought_word, find_call, awaited_word, missing_call, address_call, held_in};
 ghost use Rattle.cut.specs.Lists.{pick};
 ghost use Rattle.cut.specs.Missing.{amount_kept};
 
-use answer::{Answer, Heard, Part, Repetition, Returned};
-use collector::{Collector, Located, Opening, Reply};
-use cut::Amount;
-use header::{Fields, Name, Priority};
+use answer::{Answer, Heard, Part, Reason, Repetition, Returned};
+use collector::{Collector, Reply};
+use counts::Counts;
+use header::{Fields, Place};
 use object::{Slot, Stage};
-use queries::{Asked, Awaited, Sought};
-use wire::Reading;
 
 // The answers that are given of wrong words, before there is a collector.
 const LIMITS: u64 = answer::LIMITS as u64;
@@ -72,31 +72,34 @@ fn answer_word(answer: Answer) -> u64
     number + returned_word(returned)
 }
 
+// The collector and the counts that lent words hold, where they hold a state and five counts.
+fn held_in(state: &[u64], counts: &[u32]) -> Option<(Collector, Counts)>
+    ensures { result ≡ held_in state.now counts.now }
+{
+    if counts.len() != layout::COUNTS || !layout::readable(state) {
+        return None;
+    }
+    Some((layout::collector_from(state), layout::counts_from(counts)))
+}
+
 // Whether an answer says that an object's record is another one now.
 fn changes(answer: Answer) -> bool
     ensures { result ≡ changes answer }
 {
-    match answer {
-        Answer::Stored(_, _) => true,
-        Answer::Complete(_, _) => true,
-        Answer::Dropped(_) => true,
-        Answer::Repeat(_, _) => false,
-        Answer::Refused(_) => false,
-        Answer::Conflict(_) => false,
-        Answer::Full(_) => false,
-        Answer::Denied(_) => false,
-    }
+    matches!(
+        answer,
+        Answer::Stored(_, _) | Answer::Complete(_, _) | Answer::Dropped(_)
+    )
 }
 
-// The state's words are written only where the answer says that it changed.
-fn keep(state: &mut [u64], answer: Answer, next: Collector)
+// The state's words are written only where it is another one now.
+fn keep(state: &mut [u64], changed: bool, next: Collector)
     requires { length state.old ≡ 178 }
-    ensures { state.new ≡ pick (changes answer) (words_of next) state.old }
+    ensures { state.new ≡ pick changed (words_of next) state.old }
 {
-    if !changes(answer) {
-        return;
+    if changed {
+        layout::put_collector(state, next);
     }
-    layout::put_collector(state, next);
 }
 
 // What a call leaves in words, and its answer's word. Inlined, it puts no copy of the reply on the stack.
@@ -107,50 +110,22 @@ fn leave(state: &mut [u64], counts: &mut [u32], after: Reply) -> u64
         × (state.new ≡ pick (changes after.answer) (words_of after.collector) state.old)
         × (counts.new ≡ count_words after.counts) }
 {
-    let answer = after.answer;
-    let next = after.collector;
     layout::put_counts(counts, after.counts);
-    keep(state, answer, next);
-    answer_word(answer)
+    keep(state, changes(after.answer), after.collector);
+    answer_word(after.answer)
 }
 
-// Why an object can't be shown.
-fn refused_word(located: Located) -> u64
-    ensures { result ≡ refused_word located }
+// Why a call is refused.
+fn reason_word(why: Reason) -> u64
+    ensures { result ≡ number_of (Denied why) }
 {
-    match located {
-        Located::Denied(why) => answer::number_of(Answer::Denied(why)) as u64,
-        Located::At(_) => 0,
-    }
+    answer::number_of(Answer::Denied(why)) as u64
 }
 
-fn opening_word(opening: Opening) -> u64
+fn opening_word(opening: Result<(), Reason>) -> u64
     ensures { result ≡ opening_word opening }
 {
-    match opening {
-        Opening::Open => 0,
-        Opening::Denied(why) => answer::number_of(Answer::Denied(why)) as u64,
-    }
-}
-
-fn is_open(opening: Opening) -> bool
-    ensures { result ≡ is_open opening }
-{
-    match opening {
-        Opening::Open => true,
-        Opening::Denied(_) => false,
-    }
-}
-
-// The state's words are written only where the collector is open.
-fn keep_opened(state: &mut [u64], opening: Opening, fresh: Collector)
-    requires { length state.old ≡ 178 }
-    ensures { state.new ≡ pick (is_open opening) (words_of fresh) state.old }
-{
-    if !is_open(opening) {
-        return;
-    }
-    layout::put_collector(state, fresh);
+    opening.map_or_else(reason_word, |()| 0)
 }
 
 // Opens a collector over lent memory. A refusal, LIMITS, changes nothing.
@@ -169,19 +144,14 @@ pub extern "C" fn yovtirak_open(
         ≡ open_call limit slots state.old counts.old
         (stores header.now body.now marks.old) }
 {
-    if state.len() != layout::STATE {
-        return LIMITS;
-    }
-    if counts.len() != layout::COUNTS {
+    if state.len() != layout::STATE || counts.len() != layout::COUNTS {
         return LIMITS;
     }
     let before = layout::counts_from(counts);
     let opened = Collector::opened(limit, slots, before, header, body, marks);
-    let opening = opened.opening;
-    let fresh = opened.collector;
     layout::put_counts(counts, opened.counts);
-    keep_opened(state, opening, fresh);
-    opening_word(opening)
+    keep(state, opened.opening.is_ok(), opened.collector);
+    opening_word(opened.opening)
 }
 
 // Takes a group.
@@ -199,14 +169,9 @@ pub extern "C" fn yovtirak_take(
         ≡ take_call group.now state.old counts.old
         (stores header.old body.old marks.old) }
 {
-    if counts.len() != layout::COUNTS {
+    let Some((collector, before)) = held_in(state, counts) else {
         return STATE;
-    }
-    if !layout::readable(state) {
-        return STATE;
-    }
-    let collector = layout::collector_from(state);
-    let before = layout::counts_from(counts);
+    };
     let after = collector.taken(before, group, header, body, marks);
     leave(state, counts, after)
 }
@@ -226,14 +191,9 @@ pub extern "C" fn yovtirak_drop(
         ≡ drop_call number state.old counts.old
         (stores header.now body.now marks.old) }
 {
-    if counts.len() != layout::COUNTS {
+    let Some((collector, before)) = held_in(state, counts) else {
         return STATE;
-    }
-    if !layout::readable(state) {
-        return STATE;
-    }
-    let collector = layout::collector_from(state);
-    let before = layout::counts_from(counts);
+    };
     let after = collector.dropped(before, number, header, body, marks);
     leave(state, counts, after)
 }
@@ -276,72 +236,49 @@ pub extern "C" fn yovtirak_finished(
     if place.len() != 3 {
         return STATE;
     }
-    if counts.len() != layout::COUNTS {
+    let Some((collector, counted)) = held_in(state, counts) else {
         return STATE;
-    }
-    if !layout::readable(state) {
-        return STATE;
-    }
-    let collector = layout::collector_from(state);
-    let counted = layout::counts_from(counts);
-    let located = collector.locate(counted, number, header, body, marks);
-    let Located::At(i) = located else {
-        return refused_word(located);
     };
-    let slots = collector.slots;
-    put_place(place, i, stage_at(slots, i));
-    0
+    match collector.locate(counted, number, header, body, marks) {
+        Ok(i) => {
+            put_place(place, i, stage_at(collector.slots, i));
+            0
+        }
+        Err(why) => reason_word(why),
+    }
 }
 
-fn priority_word(priority: Priority) -> u64
+fn priority_word(priority: Option<u8>) -> u64
     ensures { result ≡ priority_word priority }
 {
-    match priority {
-        Priority::Absent => 256,
-        Priority::Byte(byte) => byte as u64,
-    }
+    priority.map_or(256, |byte| u64::from(byte))
 }
 
-fn name_start(name: Name) -> u64
+fn name_start(name: Option<Place>) -> u64
     ensures { result ≡ name_start name }
 {
-    match name {
-        Name::Absent => 0,
-        Name::Data(start, _) => start as u64,
-    }
+    name.map_or(0, |place| place.start as u64)
 }
 
-fn name_length(name: Name) -> u64
+fn name_length(name: Option<Place>) -> u64
     ensures { result ≡ name_length name }
 {
-    match name {
-        Name::Absent => 0,
-        Name::Data(_, length) => length as u64,
-    }
+    name.map_or(0, |place| place.size as u64)
 }
 
 fn put_fields(told: &mut [u64], fields: Fields)
     requires { length told.old ≡ 7 }
     ensures { told.new ≡ field_words fields }
 {
-    let priority = fields.priority;
-    let name = fields.name;
-    told[0] = fields.body_size as u64;
-    told[1] = fields.header_size as u64;
-    told[2] = fields.content_type as u64;
-    told[3] = fields.content_sub_type as u64;
-    told[4] = priority_word(priority);
-    told[5] = name_start(name);
-    told[6] = name_length(name);
-}
-
-fn unread_word(asked: Asked) -> u64
-    ensures { result ≡ unread_word asked }
-{
-    match asked {
-        Asked::Denied(why) => answer::number_of(Answer::Denied(why)) as u64,
-        Asked::Fields(_) => 0,
-    }
+    told.copy_from_slice(&[
+        u64::from(fields.body_size),
+        u64::from(fields.header_size),
+        u64::from(fields.content_type),
+        u64::from(fields.content_sub_type),
+        priority_word(fields.priority),
+        name_start(fields.name),
+        name_length(fields.name),
+    ]);
 }
 
 // What a finished object's header says.
@@ -362,29 +299,22 @@ pub extern "C" fn yovtirak_read<'a>(
     if told.len() != 7 {
         return STATE;
     }
-    if counts.len() != layout::COUNTS {
+    let Some((collector, counted)) = held_in(state, counts) else {
         return STATE;
-    }
-    if !layout::readable(state) {
-        return STATE;
-    }
-    let collector = layout::collector_from(state);
-    let counted = layout::counts_from(counts);
-    let asked = queries::parameters(collector, counted, number, header, body, marks);
-    let Asked::Fields(fields) = asked else {
-        return unread_word(asked);
     };
-    put_fields(told, fields);
-    0
+    match queries::parameters(collector, counted, number, header, body, marks) {
+        Ok(fields) => {
+            put_fields(told, fields);
+            0
+        }
+        Err(why) => reason_word(why),
+    }
 }
 
-fn sought_word(sought: Sought) -> u64
+fn sought_word(sought: Result<u16, Reason>) -> u64
     ensures { result ≡ sought_word sought }
 {
-    match sought {
-        Sought::Number(number) => number as u64 * 65536,
-        Sought::Denied(why) => answer::number_of(Answer::Denied(why)) as u64,
-    }
+    sought.map_or_else(reason_word, |number| number as u64 * 65536)
 }
 
 // The finished object that has a name.
@@ -400,34 +330,23 @@ pub extern "C" fn yovtirak_find(
     ensures { result ≡ find_call name.now state.now counts.now
         (stores header.now body.now marks.now) }
 {
-    if counts.len() != layout::COUNTS {
+    let Some((collector, counted)) = held_in(state, counts) else {
         return STATE;
-    }
-    if !layout::readable(state) {
-        return STATE;
-    }
-    let collector = layout::collector_from(state);
-    let counted = layout::counts_from(counts);
+    };
     sought_word(queries::find(collector, counted, name, header, body, marks))
 }
 
 // 1 more than a number of bytes, or 0 while it isn't known.
-fn amount_word(amount: Amount) -> u64
+fn amount_word(amount: Option<u32>) -> u64
     ensures { (result ≡ amount_kept amount) × (result < 8589934592) }
 {
-    match amount {
-        Amount::Unknown => 0,
-        Amount::Known(bytes) => bytes as u64 + 1,
-    }
+    amount.map_or(0, |bytes| bytes as u64 + 1)
 }
 
-fn awaited_word(awaited: Awaited) -> u64
+fn awaited_word(awaited: Result<Option<u32>, Reason>) -> u64
     ensures { result ≡ awaited_word awaited }
 {
-    match awaited {
-        Awaited::Bytes(amount) => amount_word(amount) * 65536,
-        Awaited::Denied(why) => answer::number_of(Answer::Denied(why)) as u64,
-    }
+    awaited.map_or_else(reason_word, |amount| amount_word(amount) * 65536)
 }
 
 // How many bytes of a number's object are still to come.
@@ -443,36 +362,24 @@ pub extern "C" fn yovtirak_missing(
     ensures { result ≡ missing_call number state.now counts.now
         (stores header.now body.now marks.now) }
 {
-    if counts.len() != layout::COUNTS {
+    let Some((collector, counted)) = held_in(state, counts) else {
         return STATE;
-    }
-    if !layout::readable(state) {
-        return STATE;
-    }
-    let collector = layout::collector_from(state);
-    let counted = layout::counts_from(counts);
+    };
     awaited_word(queries::missing(collector, counted, number, header, body, marks))
 }
 
-fn refusal_word(reading: Reading) -> u64
-    ensures { result ≡ refusal_word reading }
-{
-    match reading {
-        Reading::Refused(why) => answer::number_of(Answer::Refused(why)) as u64,
-        Reading::Read(_) => 0,
-    }
-}
-
-// Where the end user address of a group stands.
+// Where the end user address of a group stands, or why the group is not read.
+#[tactic(auto, using(wire::specs::laws::Theorems::inside), unfolding(crate::specs::Exports::address_call))]
 #[unsafe(no_mangle)]
 pub extern "C" fn yovtirak_address(group: &[u8]) -> u64
     ensures { result ≡ address_call group.now }
 {
-    let reading = wire::read(group);
-    let Reading::Read(carried) = reading else {
-        return refusal_word(reading);
-    };
-    let start = carried.address_start as u64;
-    let count = carried.address_length as u64;
-    start * 65536 + count * 4294967296
+    match wire::read(group) {
+        Ok(carried) => {
+            let start = carried.address.start as u64;
+            let count = carried.address.length as u64;
+            start * 65536 + count * 4294967296
+        }
+        Err(why) => answer::number_of(Answer::Refused(why)) as u64,
+    }
 }

@@ -1,8 +1,8 @@
 -- How much is missing, by what is kept of each part: its record and how many of its marks are set. It is what the
 -- stored segments give.
-use Rattle.std.specs.Prelude.{◌≡◌, ◌≢◌, Bool, List, [], ◌∷◌, take, eqb, leb}
+use Rattle.std.specs.Prelude.{◌≡◌, ◌≢◌, Bool, Option, Some, None, List, [], ◌∷◌, take, eqb, leb}
 use Rattle.std.proofs.Math.Path.{refl, sym}
-use Rattle.std.proofs.Common.{ap, ◌∙◌, inl, inr, zero-mul, lt_of_mul-lt-mul_right, arith, length-take, length-drop, take_all, ne_eqb, eq-eqb, le-leb, leb-false}
+use Rattle.std.proofs.Common.{ap, ◌∙◌, inl, inr, zero-mul, arith, length-take, length-drop, take_all, ne_eqb, eq-eqb, le-leb, leb-false}
 use Rattle.std.proofs.Math.Bool.{true, false}
 use Prim.Native.Nat.{ℕ, zero, suc, ◌+◌, ◌-◌, ◌*◌, ◌/◌, ◌≤◌, ◌<◌, min}
 use Rattle.std.proofs.Math.Nat.{zero-div}
@@ -10,9 +10,7 @@ use Rattle.std.proofs.Math.ListN.{length, get_or, length-append}
 use Rattle.octets.specs.Octets.{sum_of}
 use Rattle.answer.specs.declared.Part.{Part}
 use Rattle.answer.specs.declared.Part.TheVariants.{Header, Body}
-use Rattle.cut.specs.declared.Bounds.{Bounds}
-use Rattle.cut.specs.declared.Core.{Core}
-use Rattle.cut.specs.declared.Core.TheVariants.{Unseen, Seen}
+use Rattle.cut.specs.declared.Sizes.{Sizes}
 use Rattle.cut.specs.Lists.{pick, Each}
 use Rattle.cut.specs.laws.Lists.{each_map, each-among}
 use Rattle.cut.specs.Requirement.{header_numbers, body_numbers, IsCut, Segment, Sends, Fits, bytes_of, joined}
@@ -228,38 +226,38 @@ body-none : (limit n tail : ℕ) → pick (eqb 0 limit) ((limit - tail) / n) 0 �
 body-none zero n tail = let e : 0 - tail ≡ 0 = omega arith in rw (e, zero-div) refl
 body-none (suc limit) n tail = rw (ne_eqb 0 (suc limit) (λ e. omega arith)) refl
 
-derived-none : (kind : Part) (limit end tail : ℕ) → derived (bounds_of kind limit Unseen) end tail ≡ 0
+derived-none : (kind : Part) (limit end tail : ℕ) → derived (bounds_of kind limit None) end tail ≡ 0
 unfolding bounds_of
 derived-none kind limit zero tail = refl
 derived-none kind limit (suc zero) tail = refl
 derived-none Header limit (suc (suc n)) tail = refl
 derived-none Body limit (suc (suc n)) tail = body-none limit (suc n) tail
 
-size-unseen : (kind : Part) (limit : ℕ) (ss : List Segment) → (record_of (bounds_of kind limit Unseen) (summary ss)).size
+size-unseen : (kind : Part) (limit : ℕ) (ss : List Segment) → (record_of (bounds_of kind limit None) (summary ss)).size
     ≡ (summary ss).part.size
 unfolding settle
 size-unseen kind limit ss = go (summary ss).top refl
   where
     go : (t : ℕ) → (summary ss).top ≡ t
         → pick (leb 1 t) (summary ss).part.size
-        (derived (bounds_of kind limit Unseen) (summary ss).part.end (summary ss).part.tail)
+        (derived (bounds_of kind limit None) (summary ss).part.end (summary ss).part.tail)
         ≡ (summary ss).part.size
     go zero e = derived-none kind limit (summary ss).part.end (summary ss).part.tail ∙ sym (size_none ss e)
     go (suc t) e = rw (le-leb 1 (suc t) (omega arith)) refl
 
 unseen-kept : (kind : Part) (limit : ℕ) (ss : List Segment)
-    → length_in (record_of (bounds_of kind limit Unseen) (summary ss)).size
+    → length_in (record_of (bounds_of kind limit None) (summary ss)).size
     (summary ss).part.end (summary ss).part.tail
     ≡ length_from (size_shown ss) ss
 unseen-kept kind limit ss = rw (size-unseen kind limit ss) (sym (length-summed ss))
 
-length-kept : (kind : Part) (limit : ℕ) (c : Core) (ss : List Segment)
+length-kept : (kind : Part) (limit : ℕ) (c : Option Sizes) (ss : List Segment)
     → length_kept kind c (record_of (bounds_of kind limit c) (summary ss)) ≡ length_known kind c ss
 unfolding settle
-length-kept Header limit Unseen ss = unseen-kept Header limit ss
-length-kept Body limit Unseen ss = unseen-kept Body limit ss
-length-kept Header limit (Seen B H) ss = refl
-length-kept Body limit (Seen B H) ss = refl
+length-kept Header limit None ss = unseen-kept Header limit ss
+length-kept Body limit None ss = unseen-kept Body limit ss
+length-kept Header limit (Some sizes) ss = refl
+length-kept Body limit (Some sizes) ss = refl
 
 -- THE NUMBER that the records and the marks give is the one that the segments give
 pub missing-kept : (limit : ℕ) (hs bs : List Segment) → Fits limit hs bs → (header_marks body_marks : List ℕ)

@@ -1,20 +1,19 @@
 -- Document 01, "Both sides of the line": its starred cases, one table under one statement, about the requirement
 -- itself.
-use Rattle.std.specs.Prelude.{◌≡◌, refl, Bool, true, false, not, List, [], ◌∷◌, ◌++◌, ℕ, zero, suc, ◌≤◌, ◌<◌, replicate, eqb, leb}
+use Rattle.std.specs.Prelude.{◌≡◌, refl, Bool, true, false, not, Option, Some, None, List, [], ◌∷◌, ◌++◌, ℕ, zero, suc, ◌≤◌, ◌<◌, replicate, eqb, leb}
 use Rattle.std.proofs.Common.{sym, ◌∙◌, inl, inr, arith, eqb-true, leb-true}
 use Rattle.std.proofs.Math.Decide.{ℕ_discrete}
 use Rattle.std.proofs.lemmas.Bool.{eqb-false, not-true}
 use Rattle.cut.specs.Requirement.{body_size, header_size, content_type, content_sub_type, Segment, Fits, Finished}
 use Rattle.answer.specs.declared.Part.{Part}
 use Rattle.answer.specs.declared.Part.TheVariants.{Header, Body}
-use Rattle.cut.specs.declared.Core.{Core}
-use Rattle.cut.specs.declared.Core.TheVariants.{Unseen, Seen}
+use Rattle.cut.specs.declared.Sizes.{Sizes}
 use Rattle.cut.specs.Decision.{core_fits, room, largest, alone, suits, accepts}
 use Rattle.cut.specs.Kept.{bounds_of, settle, summary, core_of}
-use Rattle.cut.specs.Lists.{both, all, Each, Bytes}
+use Rattle.cut.specs.Lists.{pick, both, all, Each, Bytes}
 use Rattle.cut.specs.laws.Core.{core_bytes}
 use Rattle.cut.specs.laws.Segment.{Numbered}
-use Rattle.cut.specs.laws.Decision.{both_true, all_true, false-true}
+use Rattle.cut.specs.laws.Decision.{both_true, unless-zero, all_true, false-true}
 use Rattle.cut.specs.Parts.{headers_with, bodies_with, those}
 use Rattle.cut.specs.laws.Theorem.{nothing-fits, accepted}
 use Rattle.cut.specs.laws.Finished.{Counted, finished-iff}
@@ -207,21 +206,20 @@ are-all : (n : ℕ) (ss : List Segment) → are_all n ss ≡ true → Counted n 
 are-all zero ss e = false-true refl e
 are-all (suc n) ss e = are-in (suc n) ss e
 
-abbrev finished_as : Core → List Segment → List Segment → Bool
-finished_as Unseen hs bs = false
-finished_as (Seen zero H) hs bs = are_all (summary hs).part.end hs
-finished_as (Seen (suc B) H) hs bs = both (are_all (summary hs).part.end hs) (are_all (summary bs).part.end bs)
+abbrev finished_as : Option Sizes → List Segment → List Segment → Bool
+finished_as None hs bs = false
+finished_as (Some sizes) hs bs = both (are_all (summary hs).part.end hs)
+    (pick (eqb sizes.body 0) true (are_all (summary bs).part.end bs))
 
-finished-as : (hs bs : List Segment) (c : Core) → core_of hs ≡ c → finished_as c hs bs ≡ true → (f : Fits limit hs bs)
-    → Finished f
-finished-as hs bs Unseen e t f = absurd (false-true refl t)
-finished-as hs bs (Seen zero H) e t f =
-    (finished-iff limit hs bs f 0 H e).1 (are-all (summary hs).part.end hs t, (λ h. absurd (omega arith)))
-finished-as hs bs (Seen (suc B) H) e t f =
-    let r = both_true (are_all (summary hs).part.end hs) (are_all (summary bs).part.end bs) t in
-    (finished-iff limit hs bs f (suc B) H e).1 (
+finished-as : (hs bs : List Segment) (c : Option Sizes) → core_of hs ≡ c → finished_as c hs bs ≡ true
+    → (f : Fits limit hs bs) → Finished f
+finished-as hs bs None e t f = absurd (false-true refl t)
+finished-as hs bs (Some sizes) e t f =
+    let r = both_true (are_all (summary hs).part.end hs)
+    (pick (eqb sizes.body 0) true (are_all (summary bs).part.end bs)) t in
+    (finished-iff limit hs bs f sizes e).1 (
       are-all (summary hs).part.end hs r.0,
-      (λ h. are-all (summary bs).part.end bs r.1),
+      (λ h. are-all (summary bs).part.end bs ((unless-zero sizes.body (are_all (summary bs).part.end bs)).0 r.1 h)),
     )
 
 -- ---- each case

@@ -1,7 +1,7 @@
 -- What is kept says all that matters: a size and a length suit every segment exactly when they suit the summary, and
 -- the tests pass exactly when some size and length within the bounds do.
-use Rattle.std.specs.Prelude.{◌≡◌, refl, ◌↔◌, Bool, true, false, List, [], ◌∷◌, ℕ, zero, suc, ◌+◌, ◌-◌, ◌*◌, ◌/◌, ◌≤◌, ◌<◌, min, max, length}
-use Rattle.std.proofs.Common.{ap, mul-le-mul_right, mul-le-mul_left, lt_of_mul-lt-mul_right, le-div_iff_mul-le, zero-mul, arith, leb-true, le-leb}
+use Rattle.std.specs.Prelude.{◌≡◌, refl, ◌↔◌, Bool, true, false, List, [], ◌∷◌, ℕ, zero, suc, ◌+◌, ◌-◌, ◌*◌, ◌/◌, ◌≤◌, ◌<◌, min, max, length, eqb}
+use Rattle.std.proofs.Common.{ap, ◌∙◌, mul-le-mul_right, mul-le-mul_left, lt_of_mul-lt-mul_right, le-div_iff_mul-le, zero-mul, arith, leb-true, le-leb, ne_eqb}
 use Rattle.std.proofs.Math.Nat.{mul-div-le}
 use Rattle.std.proofs.Math.Decide.{dec_le}
 use Rattle.cut.specs.Requirement.{size_most, Segment}
@@ -24,6 +24,18 @@ both_true false b e = absurd (false-true refl e)
 pub true-both : (a b : Bool) → a ≡ true → b ≡ true → both a b ≡ true
 true-both a b e f = rw (e, f)
 
+-- a test that is made only where the one before it passes
+pub both-then : {a b v : Bool} (c : Bool) → a ≡ true → v ≡ b → b ≡ c → v ≡ both a c
+both-then c e f g = rw e (f ∙ g)
+
+pub both-else : {a v : Bool} (c : Bool) → a ≡ false → v ≡ a → v ≡ both a c
+both-else c e f = rw e (f ∙ e)
+
+-- a test that is asked of a number above 0 alone
+pub unless-zero : (n : ℕ) (b : Bool) → (pick (eqb n 0) true b ≡ true) ↔ (0 < n → b ≡ true)
+unless-zero zero b = ((λ e h. absurd (omega arith)), (λ f. refl))
+unless-zero (suc n) b = rw (ne_eqb (suc n) 0 (λ e. omega arith)) ((λ e h. e), (λ f. f (omega arith)))
+
 pub all_true : (bs : List Bool) → all bs ≡ true → Each (λ b. b ≡ true) bs
 all_true [] e = tt
 all_true (b ∷ bs) e = let r = both_true b (all bs) e in (r.0, all_true bs r.1)
@@ -41,12 +53,6 @@ some-fails bs h = go (all bs) refl
     go false e = refl
 
 -- a number that is 0 unless every test passes
-pub pick-fails : (bs : List Bool) (v : ℕ) → ¬ (Each (λ b. b ≡ true) bs) → 0 ≡ pick (all bs) v 0
-pick-fails bs v h = rw (some-fails bs h) refl
-
-pub pick-passes : (bs : List Bool) (v : ℕ) → Each (λ b. b ≡ true) bs → v ≡ pick (all bs) v 0
-pick-passes bs v h = rw (true-all bs h) refl
-
 pick_some : (c : Bool) (v t : ℕ) → suc t ≤ pick c v 0 → (c ≡ true) × (suc t ≤ v)
 pick_some true v t h = (refl, h)
 pick_some false v t h = absurd (omega arith)

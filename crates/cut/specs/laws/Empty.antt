@@ -1,12 +1,12 @@
 -- The empty last segment: number 0, last, of no bytes. What document 02, Item 2, says of it, a theorem for each
 -- sentence; and where it is not among the segments, all is as document 01 has it.
-use Rattle.std.specs.Prelude.{◌≡◌, refl, ◌↔◌, List, [], ◌∷◌, ℕ, ◌<◌, length}
+use Rattle.std.specs.Prelude.{◌≡◌, refl, ◌↔◌, Some, List, [], ◌∷◌, ℕ, ◌<◌, length}
 use Rattle.std.proofs.Common.{ap, ◌∙◌, inl, inr, arith}
 use Rattle.answer.specs.declared.Part.TheVariants.{Body}
 use Rattle.cut.specs.Lists.{Each, Among}
 use Rattle.cut.specs.laws.Lists.{each_map, each-zip, each-among}
 use Rattle.cut.specs.Requirement.{header_numbers, body_numbers, IsObject, IsCut, Segment, IsSegment, empty, Sends, Fits, Finished}
-use Rattle.cut.specs.declared.Core.TheVariants.{Seen}
+use Rattle.cut.specs.declared.Sizes.{Sizes}
 use Rattle.cut.specs.Kept.{core_of}
 use Rattle.cut.specs.laws.Segment.{segment-some}
 use Rattle.cut.specs.laws.Object.{core_is}
@@ -56,8 +56,8 @@ module _ (limit : ℕ) (hs bs : List Segment) (f : Fits limit hs bs) (i : Among 
       go (inr t) = t.0
 
   -- so it conflicts with a BodySize above 0
-  pub size-zero : (B H : ℕ) → core_of hs ≡ Seen B H → B ≡ 0
-  size-zero B H e = (rw e at (core_is f.header f.header_cut hs f.header_cuts.low f.header_sent)).0
+  pub size-zero : (sizes : Sizes) → core_of hs ≡ Some sizes → sizes.body ≡ 0
+  size-zero sizes e = (rw e at (core_is f.header f.header_cut hs f.header_cuts.low f.header_sent)).0
       ∙ f.object.says_body ∙ body-none
 
   -- and with any other body segment

@@ -1,5 +1,5 @@
 -- Finished: when every segment is in, that only one object fits then, and that it is the segments joined by number.
-use Rattle.std.specs.Prelude.{◌≡◌, ◌↔◌, Bool, true, false, List, [], ◌∷◌, length, drop, eqb, leb}
+use Rattle.std.specs.Prelude.{◌≡◌, ◌↔◌, Bool, true, false, Option, Some, None, List, [], ◌∷◌, length, drop, eqb, leb}
 use Rattle.std.proofs.Math.Path.{refl, ap}
 use Rattle.std.proofs.Common.{sym, ◌∙◌, subst, inl, inr, mul-le-mul_right, lt_of_mul-lt-mul_right, div-add-mod', mod-lt, take-add, take_all, eqb-true, le-leb}
 use Prim.Native.Nat.{ℕ, zero, suc, ◌+◌, ◌-◌, ◌*◌, ◌/◌, ◌%◌, ◌≤◌, ◌<◌}
@@ -10,8 +10,7 @@ use Rattle.std.proofs.Math.ListN.{take}
 use Rattle.std.proofs.lemmas.Bool.{eqb-false}
 use Rattle.cut.specs.laws.Lists.{each_map, each-among}
 use Rattle.cut.specs.Requirement.{header_numbers, body_numbers, IsCut, Segment, IsSegment, Sends, Fits, Whole, Finished, bytes_of, joined}
-use Rattle.cut.specs.declared.Core.{Core}
-use Rattle.cut.specs.declared.Core.TheVariants.{Unseen, Seen}
+use Rattle.cut.specs.declared.Sizes.{Sizes}
 use Rattle.cut.specs.Kept.{Summary, add_part, summary, core_of}
 use Rattle.cut.specs.laws.Segment.{Numbered, among-numbered, numbered-among, same-is, sends-same, sends-sits, sent-holds, sent-ends, past_end}
 use Rattle.cut.specs.laws.Decision.{EndSits, sits-sum}
@@ -163,17 +162,18 @@ module _ (limit : ℕ) (hs bs : List Segment) (f : Fits limit hs bs) where
   body-cut = omega (arith, f.body_cuts.low)
 
   -- header segment 0 is in, so it says both lengths
-  pub finished-core : Finished f → core_of hs ≡ Seen (length f.body) (length f.header)
+  pub finished-core : Finished f → core_of hs ≡ Some (record { body = length f.body; header = length f.header })
   finished-core w = go (core_of hs) refl (core_is f.header f.header_cut hs f.header_cuts.low f.header_sent)
     where
-      go : (c : Core) → core_of hs ≡ c → CoreIs f.header c → c ≡ Seen (length f.body) (length f.header)
-      go Unseen e i =
+      go : (c : Option Sizes) → core_of hs ≡ c → CoreIs f.header c
+          → c ≡ Some (record { body = length f.body; header = length f.header })
+      go None e i =
           absurd (core-positive hs (core-unseen hs e)
           ((whole_numbers f.header f.header_cut hs f.header_sent).0 w.header 0
           (omega (arith, zero-mul f.header_cut, header-some))))
-      go (Seen B H) e i =
-          let b : B ≡ length f.body = i.0 ∙ f.object.says_body in
-          let h : H ≡ length f.header = i.1 ∙ f.object.says_header in
+      go (Some sizes) e i =
+          let b : sizes.body ≡ length f.body = i.0 ∙ f.object.says_body in
+          let h : sizes.header ≡ length f.header = i.1 ∙ f.object.says_header in
           rw (b, h) refl
 
   -- THE OBJECT is its segments joined by number
@@ -184,9 +184,9 @@ module _ (limit : ℕ) (hs bs : List Segment) (f : Fits limit hs bs) where
   )
 
   -- whether it is finished, by what is kept: the lengths that segment 0 says, and the numbers that are in
-  pub finished-iff : (B H : ℕ) → core_of hs ≡ Seen B H → Finished f
-      ↔ (Counted (summary hs).part.end hs × ((0 < B) → Counted (summary bs).part.end bs))
-  finished-iff B H e = (
+  pub finished-iff : (sizes : Sizes) → core_of hs ≡ Some sizes → Finished f
+      ↔ (Counted (summary hs).part.end hs × ((0 < sizes.body) → Counted (summary bs).part.end bs))
+  finished-iff sizes e = (
     (λ w. (
       (whole-counted f.header f.header_cut hs header-cut f.header_sent header-some).0 w.header,
       (λ h. (whole-counted f.body f.body_cut bs body-cut f.body_sent (omega (arith, b))).0 w.body),
@@ -194,15 +194,15 @@ module _ (limit : ℕ) (hs bs : List Segment) (f : Fits limit hs bs) where
     (λ w. record {
       header = (whole-counted f.header f.header_cut hs header-cut f.header_sent header-some).1
           w.0;
-      body = body (ℕ_discrete B 0) w.1;
+      body = body (ℕ_discrete sizes.body 0) w.1;
     }),
   )
     where
-      b : B ≡ length f.body
+      b : sizes.body ≡ length f.body
       b = (rw e at (core_is f.header f.header_cut hs f.header_cuts.low f.header_sent)).0
           ∙ f.object.says_body
 
-      body : Dec (B ≡ 0) → ((0 < B) → Counted (summary bs).part.end bs) → Whole f.body f.body_cut bs
+      body : Dec (sizes.body ≡ 0) → ((0 < sizes.body) → Counted (summary bs).part.end bs) → Whole f.body f.body_cut bs
       body (yes z) w = whole-empty f.body f.body_cut bs (omega (arith, b))
       body (no z) w = (whole-counted f.body f.body_cut bs body-cut f.body_sent (omega (arith, b))).1
           (w (omega arith))
@@ -211,8 +211,8 @@ module _ (limit : ℕ) (hs bs : List Segment) (f : Fits limit hs bs) where
 pub finished-every : (limit : ℕ) (hs bs : List Segment) (f g : Fits limit hs bs) → Finished f → Finished g
 finished-every limit hs bs f g w =
     let c = finished-core limit hs bs f w in
-    let r = (finished-iff limit hs bs f (length f.body) (length f.header) c).0 w in
-    (finished-iff limit hs bs g (length f.body) (length f.header) c).1 r
+    let sizes : Sizes = record { body = length f.body; header = length f.header } in
+    (finished-iff limit hs bs g sizes c).1 ((finished-iff limit hs bs f sizes c).0 w)
 
 -- THE ONLY ONE: once it is finished, every object that fits is this one
 pub finished-one : (limit : ℕ) (hs bs : List Segment) (f g : Fits limit hs bs) → Finished f → (g.header ≡ f.header)

@@ -1,6 +1,6 @@
 -- What is known of a cut. S follows from a full segment, or from the part's length and its last segment; the bounds
 -- alone never give it.
-use Rattle.std.specs.Prelude.{◌≡◌, refl, ◌≢◌, ◌⊎◌, true, List, [], ◌∷◌, ℕ, zero, suc, ◌+◌, ◌*◌, ◌≤◌, ◌<◌, max, length, replicate, leb}
+use Rattle.std.specs.Prelude.{◌≡◌, refl, ◌≢◌, ◌⊎◌, true, Option, Some, None, List, [], ◌∷◌, ℕ, zero, suc, ◌+◌, ◌*◌, ◌≤◌, ◌<◌, max, length, replicate, leb}
 use Rattle.std.proofs.Common.{subst, mul-le-mul_right, lt_of_mul-lt-mul_right, zero-mul, arith, leb-true, le-leb, eq-eqb, ne_eqb}
 use Rattle.std.proofs.Math.Logic.{inl, inr}
 use Rattle.std.proofs.Math.Nat.{div-eq_of_eq-mul_left}
@@ -9,8 +9,7 @@ use Rattle.cut.specs.laws.Lists.{bytes-zeros}
 use Rattle.cut.specs.Requirement.{limit_least, limit_most, size_least, size_most, Segment, Fits}
 use Rattle.answer.specs.declared.Part.{Part}
 use Rattle.answer.specs.declared.Part.TheVariants.{Header, Body}
-use Rattle.cut.specs.declared.Core.{Core}
-use Rattle.cut.specs.declared.Core.TheVariants.{Unseen, Seen}
+use Rattle.cut.specs.declared.Sizes.{Sizes}
 use Rattle.cut.specs.declared.Bounds.{Bounds}
 use Rattle.cut.specs.Decision.{core_tests, core_fits, alone, largest, suits}
 use Rattle.cut.specs.Kept.{bounds_of, derived, settle, summary, record_of, core_of}
@@ -56,14 +55,14 @@ size-only b zero size (suc (suc n)) tail d = go (ℕ_discrete b.least b.most)
 -- ---- of an object
 
 -- the bounds meet exactly when segment 0 has said the lengths
-bounds-seen : (kind : Part) (limit B H : ℕ) → (bounds_of kind limit (Seen B H)).least
-    ≡ (bounds_of kind limit (Seen B H)).most
+bounds-seen : (kind : Part) (limit : ℕ) (sizes : Sizes) → (bounds_of kind limit (Some sizes)).least
+    ≡ (bounds_of kind limit (Some sizes)).most
 unfolding bounds_of
-bounds-seen Header limit B H = refl
-bounds-seen Body limit B H = refl
+bounds-seen Header limit sizes = refl
+bounds-seen Body limit sizes = refl
 
-bounds-unseen : (kind : Part) (limit : ℕ) → limit_least ≤ limit → (bounds_of kind limit Unseen).least ≢ (bounds_of kind limit
-    Unseen).most
+bounds-unseen : (kind : Part) (limit : ℕ) → limit_least ≤ limit → (bounds_of kind limit None).least
+    ≢ (bounds_of kind limit None).most
 unfolding bounds_of
 bounds-unseen Header limit h e = omega arith
 bounds-unseen Body limit h e = omega arith
@@ -85,17 +84,17 @@ module _ (kind : Part) (limit : ℕ) (hs bs : List Segment) (f : Fits limit hs b
       (summary (those kind hs bs)).part.tail sum.0 h
 
   -- the part's length and the last segment, of number 1 or more, give S
-  pub known-ended : (B H : ℕ) → core_of hs ≡ Seen B H → 2 ≤ (summary (those kind hs bs)).part.end
+  pub known-ended : (sizes : Sizes) → core_of hs ≡ Some sizes → 2 ≤ (summary (those kind hs bs)).part.end
       → size_of kind limit hs bs ≡ cut_of kind f
   unfolding size_of settle
-  known-ended B H e h = size-ended (bounds_of kind limit (core_of hs)) (cut_of kind f) (length (part_of kind f))
+  known-ended sizes e h = size-ended (bounds_of kind limit (core_of hs)) (cut_of kind f) (length (part_of kind f))
       (summary (those kind hs bs)).top (summary (those kind hs bs)).part.size (summary (those kind hs bs)).part.end
       (summary (those kind hs bs)).part.tail (fits-within limit hs bs f kind) sum.0 sum.1
-      (rw e (bounds-seen kind limit B H)) h
+      (rw e (bounds-seen kind limit sizes)) h
 
   -- and nothing else does
   pub known_only : limit_least ≤ limit → size_of kind limit hs bs ≢ 0 → (1 ≤ (summary (those kind hs bs)).top)
-      ⊎ ((core_of hs ≢ Unseen) × (2 ≤ (summary (those kind hs bs)).part.end))
+      ⊎ ((core_of hs ≢ None) × (2 ≤ (summary (those kind hs bs)).part.end))
   unfolding size_of settle
   known_only l d =
       go (size-only (bounds_of kind limit (core_of hs)) (summary (those kind hs bs)).top
@@ -105,12 +104,12 @@ module _ (kind : Part) (limit : ℕ) (hs bs : List Segment) (f : Fits limit hs b
       go : (1 ≤ (summary (those kind hs bs)).top)
           ⊎ (((bounds_of kind limit (core_of hs)).least ≡ (bounds_of kind limit (core_of hs)).most)
           × (2 ≤ (summary (those kind hs bs)).part.end)) → (1 ≤ (summary (those kind hs bs)).top)
-          ⊎ ((core_of hs ≢ Unseen) × (2 ≤ (summary (those kind hs bs)).part.end))
+          ⊎ ((core_of hs ≢ None) × (2 ≤ (summary (those kind hs bs)).part.end))
       go (inl h) = inl h
       go (inr h) =
           inr (
             (λ e. bounds-unseen kind limit l
-                (subst (λ (c : Core). (bounds_of kind limit c).least ≡ (bounds_of kind limit c).most) e h.0)),
+                (subst (λ (c : Option Sizes). (bounds_of kind limit c).least ≡ (bounds_of kind limit c).most) e h.0)),
             h.1,
           )
 
@@ -119,12 +118,12 @@ pub known-cut : (kind : Part) (limit : ℕ) (hs bs : List Segment) → limit_lea
     → (f : Fits limit hs bs) → size_of kind limit hs bs ≡ cut_of kind f
 known-cut kind limit hs bs l d f = go (core_of hs) refl (known_only kind limit hs bs f l d)
   where
-    go : (c : Core) → core_of hs ≡ c → (1 ≤ (summary (those kind hs bs)).top)
-        ⊎ ((core_of hs ≢ Unseen) × (2 ≤ (summary (those kind hs bs)).part.end)) → size_of kind limit hs bs ≡ cut_of kind f
-    go Unseen e (inl h) = known-full kind limit hs bs f h
-    go (Seen B H) e (inl h) = known-full kind limit hs bs f h
-    go Unseen e (inr h) = absurd (h.0 e)
-    go (Seen B H) e (inr h) = known-ended kind limit hs bs f B H e h.1
+    go : (c : Option Sizes) → core_of hs ≡ c → (1 ≤ (summary (those kind hs bs)).top)
+        ⊎ ((core_of hs ≢ None) × (2 ≤ (summary (those kind hs bs)).part.end)) → size_of kind limit hs bs ≡ cut_of kind f
+    go None e (inl h) = known-full kind limit hs bs f h
+    go (Some sizes) e (inl h) = known-full kind limit hs bs f h
+    go None e (inr h) = absurd (h.0 e)
+    go (Some sizes) e (inr h) = known-ended kind limit hs bs f sizes e h.1
 
 -- ---- never from the bounds alone
 
@@ -153,14 +152,14 @@ size_fits Body limit hs bs z f S L w s =
     (r.0, r.2)
 
 -- nothing of a part is in: any size from 1,024 up fits, so at least two do
-numbers-reach : (kind : Part) (limit : ℕ) (c : Core) (S L : ℕ) → limit ≤ limit_most → L ≤ (bounds_of kind limit c).most
-    → core_fits limit c ≡ true → 1024 ≤ S → L ≤ (bounds_of kind limit c).numbers * S
+numbers-reach : (kind : Part) (limit : ℕ) (c : Option Sizes) (S L : ℕ) → limit ≤ limit_most
+    → L ≤ (bounds_of kind limit c).most → core_fits limit c ≡ true → 1024 ≤ S → L ≤ (bounds_of kind limit c).numbers * S
 unfolding bounds_of core_fits
-numbers-reach Header limit Unseen S L z h k g = omega arith
-numbers-reach Header limit (Seen B H) S L z h k g = let t = all_true (core_tests limit (Seen B H)) k in
+numbers-reach Header limit None S L z h k g = omega arith
+numbers-reach Header limit (Some sizes) S L z h k g = let t = all_true (core_tests limit (Some sizes)) k in
     omega (arith, leb-true)
-numbers-reach Body limit Unseen S L z h k g = omega arith
-numbers-reach Body limit (Seen B H) S L z h k g = let t = all_true (core_tests limit (Seen B H)) k in
+numbers-reach Body limit None S L z h k g = omega arith
+numbers-reach Body limit (Some sizes) S L z h k g = let t = all_true (core_tests limit (Some sizes)) k in
     omega (arith, leb-true)
 
 pub nothing_known : (kind : Part) (limit : ℕ) (hs bs : List Segment) → limit ≤ limit_most → Fits limit hs bs

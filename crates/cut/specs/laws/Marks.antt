@@ -1,6 +1,6 @@
 -- Marks: a list of 0 and 1 that says which numbers of a part are in. Nothing has to be looked for in it: each test that
 -- the decision asks is a sum over a range of marks.
-use Rattle.std.specs.Prelude.{◌≡◌, refl, ◌≢◌, ◌↔◌, Bool, true, false, List, [], ◌∷◌, ℕ, zero, suc, ◌+◌, ◌-◌, ◌*◌, ◌≤◌, ◌<◌, max, length, drop, get_or, eqb, leb}
+use Rattle.std.specs.Prelude.{◌≡◌, refl, ◌≢◌, ◌↔◌, Bool, true, false, Option, Some, None, List, [], ◌∷◌, ℕ, zero, suc, ◌+◌, ◌-◌, ◌*◌, ◌≤◌, ◌<◌, max, length, drop, get_or, eqb, leb}
 use Rattle.std.proofs.Common.{sym, ap, ◌∙◌, subst, lt_of_mul-lt-mul_right, arith, get_or-drop, eqb-true, eq-eqb, ne_eqb, le-leb}
 use Rattle.std.proofs.Math.Decide.{ℕ_discrete, dec_le}
 use Rattle.std.proofs.lemmas.Bool.{eqb-false}
@@ -9,13 +9,12 @@ use Rattle.cut.specs.laws.Lists.{each-among, each-drop}
 use Rattle.cut.specs.Requirement.{Segment, Fits, Finished}
 use Rattle.answer.specs.declared.Part.{Part}
 use Rattle.answer.specs.declared.Part.TheVariants.{Header, Body}
-use Rattle.cut.specs.declared.Core.{Core}
-use Rattle.cut.specs.declared.Core.TheVariants.{Unseen, Seen}
+use Rattle.cut.specs.declared.Sizes.{Sizes}
 use Rattle.cut.specs.Decision.{whole, finished}
 use Rattle.cut.specs.Kept.{summary, core_of}
-use Rattle.cut.specs.Lists.{both, Each, Among}
+use Rattle.cut.specs.Lists.{pick, both, Each, Among}
 use Rattle.cut.specs.laws.Segment.{Sits, inside, Numbered, Agree, numbered-among, among-numbered}
-use Rattle.cut.specs.laws.Decision.{Clear, EndSits, both_true, true-both, false-true, sits-sum}
+use Rattle.cut.specs.laws.Decision.{Clear, EndSits, both_true, true-both, unless-zero, false-true, sits-sum}
 use Rattle.cut.specs.laws.Object.{fits-within, fits-sits}
 use Rattle.cut.specs.Parts.{those, part_of, cut_of}
 use Rattle.cut.specs.laws.Order.{Knows, knows-each, knows-last, knows-full, EndFrom, TopFrom, end-from, top-from, agree_same}
@@ -315,20 +314,20 @@ finished-marked limit hs bs f header_marks body_marks mh mb = go (core_of hs) re
     b : (whole (sum_of body_marks) (summary bs).part ≡ true) ↔ Counted (summary bs).part.end bs
     b = whole-marked Body limit hs bs f body_marks mb
 
-    go : (c : Core) → core_of hs ≡ c
+    go : (c : Option Sizes) → core_of hs ≡ c
         → (finished c (sum_of header_marks) (summary hs).part (sum_of body_marks) (summary bs).part ≡ true) ↔ Finished f
-    go Unseen e = (
+    go None e = (
       (λ x. absurd (false-true refl x)),
-      (λ w. let x : Unseen ≡ Seen (length f.body) (length f.header) = sym e ∙ finished-core limit hs bs f w in
+      (λ w. let x = sym e ∙ finished-core limit hs bs f w in
           let z : ◌≡◌ {A = ℕ} 0 1 = cc in absurd (omega arith)),
     )
-    go (Seen zero H) e =
-        let r = finished-iff limit hs bs f zero H e in
-        ((λ x. r.1 (h.0 x, (λ y. absurd (omega arith)))), (λ w. h.1 (r.0 w).0))
-    go (Seen (suc B) H) e =
-        let r = finished-iff limit hs bs f (suc B) H e in (
+    go (Some sizes) e =
+        let r = finished-iff limit hs bs f sizes e in
+        let u = unless-zero sizes.body (whole (sum_of body_marks) (summary bs).part) in (
           (λ x. let t = both_true (whole (sum_of header_marks) (summary hs).part)
-              (whole (sum_of body_marks) (summary bs).part) x in r.1 (h.0 t.0, (λ y. b.0 t.1))),
+              (pick (eqb sizes.body 0) true (whole (sum_of body_marks) (summary bs).part)) x in
+              r.1 (h.0 t.0, (λ y. b.0 (u.0 t.1 y)))),
           (λ w. let t = r.0 w in true-both (whole (sum_of header_marks) (summary hs).part)
-              (whole (sum_of body_marks) (summary bs).part) (h.1 t.0) (b.1 (t.1 (omega arith)))),
+              (pick (eqb sizes.body 0) true (whole (sum_of body_marks) (summary bs).part)) (h.1 t.0)
+              (u.1 (λ y. b.1 (t.1 y)))),
         )

@@ -1,6 +1,6 @@
 -- How much is still missing, of segments that fit an object and a cut: it has exactly that many bytes outside them,
 -- whichever fits; none exactly when it is finished; and with one segment more it does not rise, and stays known.
-use Rattle.std.specs.Prelude.{◌≡◌, ◌⊎◌, ◌↔◌, Bool, List, [], ◌∷◌, eqb}
+use Rattle.std.specs.Prelude.{◌≡◌, ◌⊎◌, ◌↔◌, Bool, Option, Some, None, List, [], ◌∷◌, eqb}
 use Rattle.std.proofs.Math.Path.{refl, ap}
 use Rattle.std.proofs.Common.{sym, ◌∙◌, inl, inr, mul-le-mul_right, length-take, length-drop, eqb-true}
 use Rattle.std.proofs.Math.Bool.{true, false}
@@ -10,23 +10,18 @@ use Rattle.std.proofs.Math.Decide.{dec_le}
 use native.Mathlib.Omega.{arith}
 use Rattle.std.proofs.Math.Arith.{digits_div}
 use Rattle.std.proofs.Math.ListN.{length, length-append}
-use Rattle.std.proofs.lemmas.Bool.{eqb-false}
 use Rattle.answer.specs.declared.Part.{Part}
 use Rattle.answer.specs.declared.Part.TheVariants.{Header, Body}
-use Rattle.cut.specs.declared.Amount.{Amount}
-use Rattle.cut.specs.declared.Amount.TheVariants.{Unknown, Known}
-use Rattle.cut.specs.declared.Core.{Core}
-use Rattle.cut.specs.declared.Core.TheVariants.{Unseen, Seen}
+use Rattle.cut.specs.declared.Sizes.{Sizes}
 use Rattle.cut.specs.declared.Record.{Record}
 use Rattle.cut.specs.Lists.{pick, Each}
-use Rattle.cut.specs.laws.Lists.{each_map}
-use Rattle.cut.specs.Requirement.{limit_most, size_most, body_size, header_size, header_numbers, body_numbers, IsCut, Segment, Sends, Fits, Whole, Finished, bytes_of, joined}
+use Rattle.cut.specs.Requirement.{limit_most, size_most, header_numbers, body_numbers, IsCut, Segment, Sends, Fits, Whole, Finished, bytes_of, joined}
 use Rattle.cut.specs.Parts.{headers_with, bodies_with, those, part_of, cut_of}
-use Rattle.cut.specs.Kept.{add_part, add_top, Summary, summary, core_after, core_of}
+use Rattle.cut.specs.Kept.{add_part, add_top, summary, sizes_of, core_of}
 use Rattle.cut.specs.Missing.{size_shown, length_by, length_from, length_known, arrived, lacking, missing_of, is_stored, outside, outside_of, amount_kept, amount_of}
 use Rattle.cut.specs.MissingKept.{length_in, length_kept, Narrow, Small}
 use Rattle.cut.specs.laws.Segment.{Numbered, SitsAs, Sits}
-use Rattle.cut.specs.laws.Decision.{TopSits, EndSits, SumSits, EndIs, JoinsAs, Clear, sits-sum}
+use Rattle.cut.specs.laws.Decision.{TopSits, EndSits, SumSits, EndIs, JoinsAs, sits-sum}
 use Rattle.cut.specs.laws.Object.{CoreIs, core_is, fits-within, fits-sits, fits-passes}
 use Rattle.cut.specs.laws.Theorem.{fits-less}
 use Rattle.cut.specs.laws.Finished.{whole_numbers, finished-core, finished-joined, bytes-in}
@@ -147,7 +142,7 @@ size-shown [] = refl
 size-shown (s ∷ ss) =
     shown-step s.last s.number (length s.bytes) (size_shown ss) (summary ss).part (size-shown ss)
 
-from_step : (b : Bool) (S n k : ℕ) (x : Amount) (p : Record) → x ≡ length_in S p.end p.tail
+from_step : (b : Bool) (S n k : ℕ) (x : Option ℕ) (p : Record) → x ≡ length_in S p.end p.tail
     → pick b (length_by S n k) x ≡ length_in S (add_part b n k p).end (add_part b n k p).tail
 from_step true S n k x p e = refl
 from_step false S n k x p e = e
@@ -163,7 +158,7 @@ pub length-summed : (ss : List Segment) → length_from (size_shown ss) ss
     ≡ length_in (summary ss).part.size (summary ss).part.end (summary ss).part.tail
 length-summed ss = rw (size-shown ss) (length-from (summary ss).part.size ss)
 
-by-is : (S L size n tail x : ℕ) → EndSits S L (suc n) tail → (size ≡ 0) ⊎ (size ≡ S) → length_by size n tail ≡ Known x
+by-is : (S L size n tail x : ℕ) → EndSits S L (suc n) tail → (size ≡ 0) ⊎ (size ≡ S) → length_by size n tail ≡ Some x
     → x ≡ L
 by-is S L size zero tail x e z h = let y : x ≡ tail = cc in omega (arith, e.0, zero-mul S)
 by-is S L zero (suc n) tail x e z h = let y : ◌≡◌ {A = ℕ} 0 1 = cc in absurd (omega arith)
@@ -173,7 +168,7 @@ by-is S L (suc size) (suc n) tail x e (inr z) h =
     let w : suc n * suc size ≡ suc n * S = ap (λ (k : ℕ). suc n * k) z in
     omega (arith, e.0)
 
-in_is : (S L size end tail x : ℕ) → EndSits S L end tail → (size ≡ 0) ⊎ (size ≡ S) → length_in size end tail ≡ Known x
+in_is : (S L size end tail x : ℕ) → EndSits S L end tail → (size ≡ 0) ⊎ (size ≡ S) → length_in size end tail ≡ Some x
     → x ≡ L
 in_is S L size zero tail x e z h = let y : ◌≡◌ {A = ℕ} 0 1 = cc in absurd (omega arith)
 in_is S L size (suc n) tail x e z h = by-is S L size n tail x e z h
@@ -205,21 +200,21 @@ module _ (kind : Part) (limit : ℕ) (hs bs : List Segment) (f : Fits limit hs b
       go zero e i = inl (size_none (those kind hs bs) e)
       go (suc top) e i = inr i.0
 
-  last-length : (x : ℕ) → length_from (size_shown (those kind hs bs)) (those kind hs bs) ≡ Known x
+  last-length : (x : ℕ) → length_from (size_shown (those kind hs bs)) (those kind hs bs) ≡ Some x
       → x ≡ length (part_of kind f)
   last-length x e = in_is (cut_of kind f) (length (part_of kind f)) (summary (those kind hs bs)).part.size
       (summary (those kind hs bs)).part.end (summary (those kind hs bs)).part.tail x summed.1 size_is
       (sym (length-summed (those kind hs bs)) ∙ e)
 
-length-as : (kind : Part) (limit : ℕ) (hs bs : List Segment) (f : Fits limit hs bs) (x : ℕ) (c : Core)
-    → CoreIs f.header c → length_known kind c (those kind hs bs) ≡ Known x → x ≡ length (part_of kind f)
-length-as Header limit hs bs f x Unseen i h = last-length Header limit hs bs f x h
-length-as Body limit hs bs f x Unseen i h = last-length Body limit hs bs f x h
-length-as Header limit hs bs f x (Seen B H) i h = let y : x ≡ H = cc in y ∙ i.1 ∙ f.object.says_header
-length-as Body limit hs bs f x (Seen B H) i h = let y : x ≡ B = cc in y ∙ i.0 ∙ f.object.says_body
+length-as : (kind : Part) (limit : ℕ) (hs bs : List Segment) (f : Fits limit hs bs) (x : ℕ) (c : Option Sizes)
+    → CoreIs f.header c → length_known kind c (those kind hs bs) ≡ Some x → x ≡ length (part_of kind f)
+length-as Header limit hs bs f x None i h = last-length Header limit hs bs f x h
+length-as Body limit hs bs f x None i h = last-length Body limit hs bs f x h
+length-as Header limit hs bs f x (Some sizes) i h = let y : x ≡ sizes.header = cc in y ∙ i.1 ∙ f.object.says_header
+length-as Body limit hs bs f x (Some sizes) i h = let y : x ≡ sizes.body = cc in y ∙ i.0 ∙ f.object.says_body
 
 pub length-known : (kind : Part) (limit : ℕ) (hs bs : List Segment) (f : Fits limit hs bs) (x : ℕ)
-    → length_known kind (core_of hs) (those kind hs bs) ≡ Known x → x ≡ length (part_of kind f)
+    → length_known kind (core_of hs) (those kind hs bs) ≡ Some x → x ≡ length (part_of kind f)
 length-known kind limit hs bs f x h =
     length-as kind limit hs bs f x (core_of hs)
     (core_is f.header f.header_cut hs f.header_cuts.low f.header_sent)
@@ -227,11 +222,11 @@ length-known kind limit hs bs f x h =
 
 -- ---- how much is missing
 
-pub lacking-known : (a b : Amount) (n x : ℕ) → lacking a b n ≡ Known x → (h : ℕ) × (k : ℕ) × (a ≡ Known h)
-    × (b ≡ Known k) × (x ≡ h + k - n)
-lacking-known Unknown b n x e = let y : ◌≡◌ {A = ℕ} 0 1 = cc in absurd (omega arith)
-lacking-known (Known h) Unknown n x e = let y : ◌≡◌ {A = ℕ} 0 1 = cc in absurd (omega arith)
-lacking-known (Known h) (Known k) n x e = (h, k, refl, refl, cc)
+pub lacking-known : (a b : Option ℕ) (n x : ℕ) → lacking a b n ≡ Some x → (h : ℕ) × (k : ℕ) × (a ≡ Some h)
+    × (b ≡ Some k) × (x ≡ h + k - n)
+lacking-known None b n x e = let y : ◌≡◌ {A = ℕ} 0 1 = cc in absurd (omega arith)
+lacking-known (Some h) None n x e = let y : ◌≡◌ {A = ℕ} 0 1 = cc in absurd (omega arith)
+lacking-known (Some h) (Some k) n x e = (h, k, refl, refl, cc)
 
 module _ (limit : ℕ) (hs bs : List Segment) (f : Fits limit hs bs) where
   header-covered : arrived header_numbers hs + outside f.header_cut hs (length f.header) ≡ length f.header
@@ -243,7 +238,7 @@ module _ (limit : ℕ) (hs bs : List Segment) (f : Fits limit hs bs) where
       f.body_cuts
 
   -- WHICHEVER FITS has exactly that many bytes outside the segments
-  pub missing-outside : (x : ℕ) → missing_of hs bs ≡ Known x → x ≡ outside_of f
+  pub missing-outside : (x : ℕ) → missing_of hs bs ≡ Some x → x ≡ outside_of f
   unfolding missing_of
   missing-outside x e =
       let r = lacking-known (length_known Header (core_of hs) hs) (length_known Body (core_of hs) bs)
@@ -267,7 +262,7 @@ module _ (limit : ℕ) (hs bs : List Segment) (f : Fits limit hs bs) where
       (rw d at (none-outside (cut_of kind f) (those kind hs bs) (length (part_of kind f)) e (n * cut_of kind f + 0) g)))
 
   -- NONE exactly when it is finished
-  pub missing-none : (missing_of hs bs ≡ Known 0) ↔ Finished f
+  pub missing-none : (missing_of hs bs ≡ Some 0) ↔ Finished f
   unfolding missing_of
   missing-none = (
     (λ e.
@@ -287,15 +282,15 @@ module _ (limit : ℕ) (hs bs : List Segment) (f : Fits limit hs bs) where
 -- ---- one segment more
 
 -- a length that its last segment gives stays known
-by-more : (size n k x : ℕ) → length_by size n k ≡ Known x → (size' : ℕ) → 0 < size' → (y : ℕ) × (length_by size' n k
-    ≡ Known y)
+by-more : (size n k x : ℕ) → length_by size n k ≡ Some x → (size' : ℕ) → 0 < size' → (y : ℕ) × (length_by size' n k
+    ≡ Some y)
 by-more size zero k x e size' h = (k, refl)
 by-more size (suc n) k x e zero h = absurd (omega arith)
 by-more size (suc n) k x e (suc size') h = (suc n * suc size' + k, refl)
 
 in-more : (b : Bool) (n k size end tail x : ℕ) → (b ≡ true → EndIs n k end tail) → (b ≡ false → 0 < k)
-    → length_in size end tail ≡ Known x → (y : ℕ)
-    × (pick b (length_in size (suc n) k) (length_in k end tail) ≡ Known y)
+    → length_in size end tail ≡ Some x → (y : ℕ)
+    × (pick b (length_in size (suc n) k) (length_in k end tail) ≡ Some y)
 in-more b n k size zero tail x i h e = let y : ◌≡◌ {A = ℕ} 0 1 = cc in absurd (omega arith)
 in-more true n k size (suc m) tail x i h e = let r = i refl in rw (r.0, r.1) (x, e)
 in-more false n k size (suc m) tail x i h e = by-more size m tail x e k (h refl)
@@ -306,8 +301,8 @@ added-in true n k p = refl
 added-in false n k p = refl
 
 list-more : (s : Segment) (ss : List Segment) → JoinsAs s.last s.number (length s.bytes) (summary ss)
-    → (s.last ≡ false → 0 < length s.bytes) → (x : ℕ) → length_from (size_shown ss) ss ≡ Known x → (y : ℕ)
-    × (length_from (size_shown (s ∷ ss)) (s ∷ ss) ≡ Known y)
+    → (s.last ≡ false → 0 < length s.bytes) → (x : ℕ) → length_from (size_shown ss) ss ≡ Some x → (y : ℕ)
+    × (length_from (size_shown (s ∷ ss)) (s ∷ ss) ≡ Some y)
 list-more s ss j h x e =
     let r = in-more s.last s.number (length s.bytes) (summary ss).part.size (summary ss).part.end
     (summary ss).part.tail x (last s.last j) h (sym (length-summed ss) ∙ e) in
@@ -319,26 +314,26 @@ list-more s ss j h x e =
     last false j e = let y : ◌≡◌ {A = ℕ} 0 1 = cc in absurd (omega arith)
 
 -- what the core says is known
-seen-known : (part : Part) (B H : ℕ) (ss : List Segment) → (y : ℕ) × (length_known part (Seen B H) ss ≡ Known y)
-seen-known Header B H ss = (H, refl)
-seen-known Body B H ss = (B, refl)
+seen-known : (part : Part) (sizes : Sizes) (ss : List Segment) → (y : ℕ) × (length_known part (Some sizes) ss ≡ Some y)
+seen-known Header sizes ss = (sizes.header, refl)
+seen-known Body sizes ss = (sizes.body, refl)
 
 -- with a segment more of the part itself, and header segment 0 saying the same
-own-more : (part : Part) (c : Core) (s : Segment) (ss : List Segment)
+own-more : (part : Part) (c : Option Sizes) (s : Segment) (ss : List Segment)
     → JoinsAs s.last s.number (length s.bytes) (summary ss) → (s.last ≡ false → 0 < length s.bytes)
-    → (x : ℕ) → length_known part c ss ≡ Known x → (y : ℕ) × (length_known part c (s ∷ ss) ≡ Known y)
-own-more part (Seen B H) s ss j h x e = seen-known part B H (s ∷ ss)
-own-more Header Unseen s ss j h x e = list-more s ss j h x e
-own-more Body Unseen s ss j h x e = list-more s ss j h x e
+    → (x : ℕ) → length_known part c ss ≡ Some x → (y : ℕ) × (length_known part c (s ∷ ss) ≡ Some y)
+own-more part (Some sizes) s ss j h x e = seen-known part sizes (s ∷ ss)
+own-more Header None s ss j h x e = list-more s ss j h x e
+own-more Body None s ss j h x e = list-more s ss j h x e
 
 -- with a header segment more, which may say both lengths
-said_more : (part : Part) (b : Bool) (B H : ℕ) (c : Core) (ss : List Segment)
-    → (y : ℕ) × (length_known part c ss ≡ Known y) → (y : ℕ) × (length_known part (pick b (Seen B H) c) ss ≡ Known y)
-said_more part true B H c ss r = seen-known part B H ss
-said_more part false B H c ss r = r
+said_more : (part : Part) (b : Bool) (sizes : Sizes) (c : Option Sizes) (ss : List Segment)
+    → (y : ℕ) × (length_known part c ss ≡ Some y) → (y : ℕ) × (length_known part (pick b (Some sizes) c) ss ≡ Some y)
+said_more part true sizes c ss r = seen-known part sizes ss
+said_more part false sizes c ss r = r
 
-lacking-more : (a b : Amount) (n : ℕ) → (y : ℕ) × (a ≡ Known y) → (y : ℕ) × (b ≡ Known y) → (y : ℕ)
-    × (lacking a b n ≡ Known y)
+lacking-more : (a b : Option ℕ) (n : ℕ) → (y : ℕ) × (a ≡ Some y) → (y : ℕ) × (b ≡ Some y) → (y : ℕ)
+    × (lacking a b n ≡ Some y)
 lacking-more a b n (h, e) (k, f) = (h + k - n, rw (e, f) refl)
 
 full-some : (S L : ℕ) (s : Segment) → 0 < S → Sits S L s → s.last ≡ false → 0 < length s.bytes
@@ -352,8 +347,8 @@ full-some S L s z t e = go s.last e t
 
 -- what is known stays known
 known_more : (kind : Part) (limit : ℕ) (s : Segment) (hs bs : List Segment)
-    → Fits limit (headers_with kind s hs) (bodies_with kind s bs) → (x : ℕ) → missing_of hs bs ≡ Known x → (y : ℕ)
-    × (missing_of (headers_with kind s hs) (bodies_with kind s bs) ≡ Known y)
+    → Fits limit (headers_with kind s hs) (bodies_with kind s bs) → (x : ℕ) → missing_of hs bs ≡ Some x → (y : ℕ)
+    × (missing_of (headers_with kind s hs) (bodies_with kind s bs) ≡ Some y)
 unfolding missing_of
 known_more Header limit s hs bs f x e =
     let r = lacking-known (length_known Header (core_of hs) hs) (length_known Body (core_of hs) bs)
@@ -363,9 +358,9 @@ known_more Header limit s hs bs f x e =
     let j = (fits-passes limit (s ∷ hs) bs f).header_clear in
     lacking-more (length_known Header (core_of (s ∷ hs)) (s ∷ hs)) (length_known Body (core_of (s ∷ hs)) bs)
     (arrived header_numbers (s ∷ hs) + arrived body_numbers bs)
-    (said_more Header (eqb s.number 0) (body_size s.bytes) (header_size s.bytes) (core_of hs) (s ∷ hs)
+    (said_more Header (eqb s.number 0) (sizes_of s.bytes) (core_of hs) (s ∷ hs)
     (own-more Header (core_of hs) s hs j.0 (full-some f.header_cut (length f.header) s z t.0) r.0 r.2))
-    (said_more Body (eqb s.number 0) (body_size s.bytes) (header_size s.bytes) (core_of hs) bs (r.1, r.3))
+    (said_more Body (eqb s.number 0) (sizes_of s.bytes) (core_of hs) bs (r.1, r.3))
 known_more Body limit s hs bs f x e =
     let r = lacking-known (length_known Header (core_of hs) hs) (length_known Body (core_of hs) bs)
     (arrived header_numbers hs + arrived body_numbers bs) x e in
@@ -384,8 +379,8 @@ less-outside Body limit s hs bs f = omega (arith, outside-less f.body_cut s bs (
 
 -- IT NEVER RISES: with one segment more, of either part, no more bytes are missing, and the number stays known
 pub missing-falls : (kind : Part) (limit : ℕ) (s : Segment) (hs bs : List Segment)
-    → Fits limit (headers_with kind s hs) (bodies_with kind s bs) → (x : ℕ) → missing_of hs bs ≡ Known x → (y : ℕ)
-    × (missing_of (headers_with kind s hs) (bodies_with kind s bs) ≡ Known y) × (y ≤ x)
+    → Fits limit (headers_with kind s hs) (bodies_with kind s bs) → (x : ℕ) → missing_of hs bs ≡ Some x → (y : ℕ)
+    × (missing_of (headers_with kind s hs) (bodies_with kind s bs) ≡ Some y) × (y ≤ x)
 missing-falls kind limit s hs bs f x e =
     let r = known_more kind limit s hs bs f x e in
     let p = missing-outside limit (headers_with kind s hs) (bodies_with kind s bs) f r.0 r.1 in
@@ -399,7 +394,7 @@ whole-low p s h =
     let l : p.end - 1 ≤ 1023 = omega (arith, s.end) in
     omega (arith, mul-le-mul_right p.size l, s.size, s.tail h)
 
-in-low : (size end tail n : ℕ) → length_in size end tail ≡ Known n → (1 ≤ end) × (n ≤ (end - 1) * size + tail)
+in-low : (size end tail n : ℕ) → length_in size end tail ≡ Some n → (1 ≤ end) × (n ≤ (end - 1) * size + tail)
 in-low size zero tail n e = let y : ◌≡◌ {A = ℕ} 0 1 = cc in absurd (omega arith)
 in-low size (suc zero) tail n e = let y : n ≡ tail = cc in (omega arith, omega arith)
 in-low zero (suc (suc m)) tail n e = let y : ◌≡◌ {A = ℕ} 0 1 = cc in absurd (omega arith)
@@ -408,21 +403,21 @@ in-low (suc size) (suc (suc m)) tail n e =
     let d : suc (suc m) - 1 ≡ suc m = omega arith in
     (omega arith, rw d (omega arith))
 
-last-low : (p : Record) → Small p → (n : ℕ) → length_in p.size p.end p.tail ≡ Known n → n < 0x10000000
+last-low : (p : Record) → Small p → (n : ℕ) → length_in p.size p.end p.tail ≡ Some n → n < 0x10000000
 last-low p s n e = let r = in-low p.size p.end p.tail n e in omega (arith, r.1, whole-low p s r.0)
 
-pub length-low : (part : Part) (core : Core) (p : Record) → Narrow core → Small p → (n : ℕ)
-    → length_kept part core p ≡ Known n → n < 0x10000000
-length-low Header Unseen p w s n e = last-low p s n e
-length-low Body Unseen p w s n e = last-low p s n e
-length-low Header (Seen B H) p w s n e = let y : n ≡ H = cc in omega (arith, w.1)
-length-low Body (Seen B H) p w s n e = let y : n ≡ B = cc in omega (arith, w.0)
+pub length-low : (part : Part) (core : Option Sizes) (p : Record) → Narrow core → Small p → (n : ℕ)
+    → length_kept part core p ≡ Some n → n < 0x10000000
+length-low Header None p w s n e = last-low p s n e
+length-low Body None p w s n e = last-low p s n e
+length-low Header (Some sizes) p w s n e = let y : n ≡ sizes.header = cc in omega (arith, w.1)
+length-low Body (Some sizes) p w s n e = let y : n ≡ sizes.body = cc in omega (arith, w.0)
 
 -- ---- as a slot keeps it
 
-pub amount-back : (x : Amount) → amount_of (amount_kept x) ≡ x
-amount-back Unknown = refl
-amount-back (Known bytes) = refl
+pub amount-back : (x : Option ℕ) → amount_of (amount_kept x) ≡ x
+amount-back None = refl
+amount-back (Some bytes) = refl
 
 outside-most : (S : ℕ) (ss : List Segment) (count : ℕ) → outside S ss count ≤ count
 unfolding outside
@@ -438,9 +433,9 @@ pub missing-narrow : (limit : ℕ) (hs bs : List Segment) → limit ≤ limit_mo
     → amount_kept (missing_of hs bs) < 0x100000000
 missing-narrow limit hs bs z f = go (missing_of hs bs) refl
   where
-    go : (x : Amount) → missing_of hs bs ≡ x → amount_kept x < 0x100000000
-    go Unknown e = omega arith
-    go (Known n) e =
+    go : (x : Option ℕ) → missing_of hs bs ≡ x → amount_kept x < 0x100000000
+    go None e = omega arith
+    go (Some n) e =
         omega (
           arith,
           z,

@@ -1,6 +1,6 @@
 -- Header and body together: only the core fields join the two. Segments fit an object and a cut exactly when they agree
 -- and the tests pass.
-use Rattle.std.specs.Prelude.{◌≡◌, Bool, true, false, List, [], ◌∷◌, ◌++◌, ℕ, ◌-◌, ◌*◌, ◌≤◌, ◌<◌, take, drop, replicate, eqb}
+use Rattle.std.specs.Prelude.{◌≡◌, Bool, true, false, Option, Some, None, List, [], ◌∷◌, ◌++◌, ℕ, ◌-◌, ◌*◌, ◌≤◌, ◌<◌, take, drop, replicate, eqb}
 use Rattle.std.proofs.Math.Path.{refl}
 use Rattle.std.proofs.Common.{sym, ap, ◌∙◌, zero-mul, arith, length-append}
 use Rattle.std.proofs.Math.ListN.{length}
@@ -10,11 +10,10 @@ use Rattle.cut.specs.laws.Lists.{each_map, bytes-append, bytes-zeros}
 use Rattle.cut.specs.Requirement.{header_least, header_most, limit_most, size_least, header_numbers, body_numbers, body_size, header_size, IsObject, IsCut, Segment, Sends, Fits}
 use Rattle.answer.specs.declared.Part.{Part}
 use Rattle.answer.specs.declared.Part.TheVariants.{Header, Body}
-use Rattle.cut.specs.declared.Core.{Core}
-use Rattle.cut.specs.declared.Core.TheVariants.{Unseen, Seen}
+use Rattle.cut.specs.declared.Sizes.{Sizes}
 use Rattle.cut.specs.declared.Bounds.{Bounds}
 use Rattle.cut.specs.Decision.{core_tests, core_fits, possible, suit_tests, suits, suits_both}
-use Rattle.cut.specs.Kept.{bounds_of, summary, core_of}
+use Rattle.cut.specs.Kept.{bounds_of, summary, sizes_of, core_of}
 use Rattle.cut.specs.laws.Core.{core_bytes, core-body, core-header, core-is-bytes, front-body, front-header}
 use Rattle.cut.specs.Parts.{those, part_of, cut_of}
 use Rattle.cut.specs.laws.Segment.{Sits, Agree, Within, PartFits, PartSits, sits-fits, sends-agree, sends-sits, sent-holds, sent-bytes, fill, fill-length, fill-bytes, fill-sends, fill-front}
@@ -24,9 +23,9 @@ use Rattle.cut.specs.Lists.{pick, Each, Bytes}
 -- ---- what header segment 0 says
 
 -- c is what a header says, or nothing
-abbrev pub CoreIs : List ℕ → Core → Type 0
-CoreIs xs Unseen = Unit {0}
-CoreIs xs (Seen B H) = (B ≡ body_size xs) × (H ≡ header_size xs)
+abbrev pub CoreIs : List ℕ → Option Sizes → Type 0
+CoreIs xs None = Unit {0}
+CoreIs xs (Some sizes) = (sizes.body ≡ body_size xs) × (sizes.header ≡ header_size xs)
 
 sent-core : (xs : List ℕ) (S : ℕ) (s : Segment) → size_least ≤ S → Sends xs S s → s.number ≡ 0
     → (body_size s.bytes ≡ body_size xs) × (header_size s.bytes ≡ header_size xs)
@@ -35,8 +34,8 @@ sent-core xs S s g t e =
     ∙ ap (λ (n : ℕ). take S (drop n xs)) (ap (λ (n : ℕ). n * S) e ∙ zero-mul S) in
     (ap body_size f ∙ front-body S xs (omega arith), ap header_size f ∙ front-header S xs (omega arith))
 
-core-step : (xs : List ℕ) (S : ℕ) (s : Segment) (c : Core) → size_least ≤ S → Sends xs S s → CoreIs xs c → (b : Bool)
-    → eqb s.number 0 ≡ b → CoreIs xs (pick b (Seen (body_size s.bytes) (header_size s.bytes)) c)
+core-step : (xs : List ℕ) (S : ℕ) (s : Segment) (c : Option Sizes) → size_least ≤ S → Sends xs S s → CoreIs xs c
+    → (b : Bool) → eqb s.number 0 ≡ b → CoreIs xs (pick b (Some (sizes_of s.bytes)) c)
 core-step xs S s c g t r true e = sent-core xs S s g t (eqb-true s.number 0 e)
 core-step xs S s c g t r false e = r
 
@@ -44,15 +43,16 @@ pub core_is : (xs : List ℕ) (S : ℕ) (ss : List Segment) → size_least ≤ S
 core_is xs S [] g t = tt
 core_is xs S (s ∷ ss) g t = core-step xs S s (core_of ss) g t.0 (core_is xs S ss g t.1) (eqb s.number 0) refl
 
-unseen-step : (n B H : ℕ) (c : Core) (b : Bool) → eqb n 0 ≡ b → pick b (Seen B H) c ≡ Unseen → (0 < n) × (c ≡ Unseen)
-unseen-step n B H c true e f = let z : ◌≡◌ {A = ℕ} 0 1 = cc in absurd (omega arith)
-unseen-step n B H c false e f = let h : ¬ (n ≡ 0) = eqb-false n 0 e in (omega arith, f)
+unseen-step : (n : ℕ) (sizes : Sizes) (c : Option Sizes) (b : Bool) → eqb n 0 ≡ b → pick b (Some sizes) c ≡ None
+    → (0 < n) × (c ≡ None)
+unseen-step n sizes c true e f = let z : ◌≡◌ {A = ℕ} 0 1 = cc in absurd (omega arith)
+unseen-step n sizes c false e f = let h : ¬ (n ≡ 0) = eqb-false n 0 e in (omega arith, f)
 
 -- nothing is said: segment 0 is not in
-pub core-unseen : (ss : List Segment) → core_of ss ≡ Unseen → Each (λ s. 0 < s.number) ss
+pub core-unseen : (ss : List Segment) → core_of ss ≡ None → Each (λ s. 0 < s.number) ss
 core-unseen [] e = tt
 core-unseen (s ∷ ss) e =
-    let r = unseen-step s.number (body_size s.bytes) (header_size s.bytes) (core_of ss) (eqb s.number 0) refl e
+    let r = unseen-step s.number (sizes_of s.bytes) (core_of ss) (eqb s.number 0) refl e
     in
     (r.0, core-unseen ss r.1)
 
@@ -79,18 +79,18 @@ module _ (limit : ℕ) (hs bs : List Segment) (f : Fits limit hs bs) where
   o : IsObject limit f.header f.body
   o = f.object
 
-  within-as : (kind : Part) (c : Core) → CoreIs f.header c → WithinOf (bounds_of kind limit c) (cut_of kind f)
+  within-as : (kind : Part) (c : Option Sizes) → CoreIs f.header c → WithinOf (bounds_of kind limit c) (cut_of kind f)
       (length (part_of kind f))
   unfolding bounds_of
-  within-as Header Unseen i = within_of (bounds_of Header limit Unseen) f.header_cut f.header o.header_low
+  within-as Header None i = within_of (bounds_of Header limit None) f.header_cut f.header o.header_low
       o.header_high (omega arith) f.header_cuts
-  within-as Header (Seen B H) i = let h : H ≡ length f.header = i.1 ∙ o.says_header in
-      within_of (bounds_of Header limit (Seen B H)) f.header_cut f.header (omega arith) (omega arith) (omega arith)
+  within-as Header (Some sizes) i = let h : sizes.header ≡ length f.header = i.1 ∙ o.says_header in
+      within_of (bounds_of Header limit (Some sizes)) f.header_cut f.header (omega arith) (omega arith) (omega arith)
       f.header_cuts
-  within-as Body Unseen i = within_of (bounds_of Body limit Unseen) f.body_cut f.body (omega arith) o.body_high
+  within-as Body None i = within_of (bounds_of Body limit None) f.body_cut f.body (omega arith) o.body_high
       (omega arith) f.body_cuts
-  within-as Body (Seen B H) i = let h : B ≡ length f.body = i.0 ∙ o.says_body in
-      within_of (bounds_of Body limit (Seen B H)) f.body_cut f.body (omega arith) (omega arith) (omega arith)
+  within-as Body (Some sizes) i = let h : sizes.body ≡ length f.body = i.0 ∙ o.says_body in
+      within_of (bounds_of Body limit (Some sizes)) f.body_cut f.body (omega arith) (omega arith) (omega arith)
       f.body_cuts
 
   core-now : CoreIs f.header (core_of hs)
@@ -109,13 +109,13 @@ module _ (limit : ℕ) (hs bs : List Segment) (f : Fits limit hs bs) where
   fits-possible kind = sits-possible (bounds_of kind limit (core_of hs)) (those kind hs bs)
       (record { size = cut_of kind f; long = length (part_of kind f); within = fits-within kind; sits = fits-sits kind })
 
-  core-sits : (c : Core) → CoreIs f.header c → core_fits limit c ≡ true
+  core-sits : (c : Option Sizes) → CoreIs f.header c → core_fits limit c ≡ true
   unfolding core_fits
-  core-sits Unseen i = refl
-  core-sits (Seen B H) i =
-      let h : H ≡ length f.header = i.1 ∙ o.says_header in
-      let b : B ≡ length f.body = i.0 ∙ o.says_body in
-      true-all (core_tests limit (Seen B H)) (omega (arith, le-leb, o.header_low, o.header_high, o.body_high))
+  core-sits None i = refl
+  core-sits (Some sizes) i =
+      let h : sizes.header ≡ length f.header = i.1 ∙ o.says_header in
+      let b : sizes.body ≡ length f.body = i.0 ∙ o.says_body in
+      true-all (core_tests limit (Some sizes)) (omega (arith, le-leb, o.header_low, o.header_high, o.body_high))
 
   pub fits-core : core_fits limit (core_of hs) ≡ true
   fits-core = core-sits (core_of hs) core-now
@@ -148,12 +148,13 @@ abbrev pub FitsAt : ℕ → List Segment → List Segment → ℕ → ℕ → Ty
 FitsAt limit hs bs S T = (f : Fits limit hs bs) × (f.header_cut ≡ S) × (f.body_cut ≡ T)
 
 -- both sizes are known: each part alone, of its length
-fits-seen : (limit B H : ℕ) (hs bs : List Segment) → core_of hs ≡ Seen B H → header_least ≤ H → H ≤ header_most → B ≤ limit
-    → (f : PartFits H H header_numbers hs) (g : PartFits B B body_numbers bs) → FitsAt limit hs bs f.size g.size
-fits-seen limit B H hs bs e a b c f g =
-    let i : CoreIs f.part (Seen B H) = rw e at (core_is f.part f.size hs f.within.low f.sent) in
-    let l : length f.part ≡ H = omega (arith, f.within.long, f.within.short) in
-    let m : length g.part ≡ B = omega (arith, g.within.long, g.within.short) in (
+fits-seen : (limit : ℕ) (sizes : Sizes) (hs bs : List Segment) → core_of hs ≡ Some sizes → header_least ≤ sizes.header
+    → sizes.header ≤ header_most → sizes.body ≤ limit → (f : PartFits sizes.header sizes.header header_numbers hs)
+    (g : PartFits sizes.body sizes.body body_numbers bs) → FitsAt limit hs bs f.size g.size
+fits-seen limit sizes hs bs e a b c f g =
+    let i : CoreIs f.part (Some sizes) = rw e at (core_is f.part f.size hs f.within.low f.sent) in
+    let l : length f.part ≡ sizes.header = omega (arith, f.within.long, f.within.short) in
+    let m : length g.part ≡ sizes.body = omega (arith, g.within.long, g.within.short) in (
       record {
         header = f.part;
         body = g.part;
@@ -169,8 +170,8 @@ fits-seen limit B H hs bs e a b c f g =
         };
         header_cut = f.size;
         body_cut = g.size;
-        header_cuts = is_cut H H header_numbers f.size f.part f.within;
-        body_cuts = is_cut B B body_numbers g.size g.part g.within;
+        header_cuts = is_cut sizes.header sizes.header header_numbers f.size f.part f.within;
+        body_cuts = is_cut sizes.body sizes.body body_numbers g.size g.part g.within;
         header_sent = f.sent;
         body_sent = g.sent;
       },
@@ -271,21 +272,22 @@ fits-unseen limit hs bs z y u a f g = (
 
 -- segments that agree fit an object cut at any sizes that suit each part
 pub sits-object : (limit : ℕ) (hs bs : List Segment) → limit ≤ limit_most → Each (λ s. Bytes s.bytes) hs
-    → Each (λ s. Bytes s.bytes) bs → Agree hs → Agree bs → (c : Core) → core_of hs ≡ c → core_fits limit c ≡ true
+    → Each (λ s. Bytes s.bytes) bs → Agree hs → Agree bs → (c : Option Sizes) → core_of hs ≡ c
+    → core_fits limit c ≡ true
     → (p : PartSits (bounds_of Header limit c).least (bounds_of Header limit c).most (bounds_of Header limit c).numbers
     hs) (q : PartSits (bounds_of Body limit c).least (bounds_of Body limit c).most (bounds_of Body limit c).numbers bs)
     → FitsAt limit hs bs p.size q.size
 unfolding bounds_of core_fits
-sits-object limit hs bs z yh yb ah ab Unseen e k p q =
+sits-object limit hs bs z yh yb ah ab None e k p q =
     let g = sits-fits 0 limit body_numbers bs yb q ab in
     let f = fits-unseen limit hs bs z yh (core-unseen hs e) ah p g.0 in
     (f.0, f.1, f.2 ∙ g.1)
-sits-object limit hs bs z yh yb ah ab (Seen B H) e k p q =
-    let t = all_true (core_tests limit (Seen B H)) k in
-    let h = sits-fits H H header_numbers hs yh p ah in
-    let g = sits-fits B B body_numbers bs yb q ab in
-    let f = fits-seen limit B H hs bs e (leb-true header_least H t.0) (leb-true H header_most t.1.0)
-    (leb-true B limit t.1.1.0) h.0 g.0 in
+sits-object limit hs bs z yh yb ah ab (Some sizes) e k p q =
+    let t = all_true (core_tests limit (Some sizes)) k in
+    let h = sits-fits sizes.header sizes.header header_numbers hs yh p ah in
+    let g = sits-fits sizes.body sizes.body body_numbers bs yb q ab in
+    let f = fits-seen limit sizes hs bs e (leb-true header_least sizes.header t.0)
+    (leb-true sizes.header header_most t.1.0) (leb-true sizes.body limit t.1.1.0) h.0 g.0 in
     (f.0, f.1 ∙ h.1, f.2 ∙ g.1)
 
 pub passes-fits : (limit : ℕ) (hs bs : List Segment) → limit ≤ limit_most → Each (λ s. Bytes s.bytes) hs

@@ -1,14 +1,13 @@
 -- What is kept is a function of the SET of segments: neither their order nor a repeat matters.
-use Rattle.std.specs.Prelude.{◌≡◌, refl, ◌⊎◌, Bool, true, false, List, [], ◌∷◌, ℕ, zero, suc, ◌≤◌, max, length, eqb}
+use Rattle.std.specs.Prelude.{◌≡◌, refl, ◌⊎◌, Bool, true, false, Option, Some, None, List, [], ◌∷◌, ℕ, zero, suc, ◌≤◌, max, length, eqb}
 use Rattle.std.proofs.Common.{sym, ap, ◌∙◌, inl, inr, arith, eqb-true, ne_eqb}
 use Rattle.std.proofs.Math.Decide.{dec_le}
 use Rattle.std.proofs.lemmas.Bool.{eqb-false}
 use Rattle.cut.specs.laws.Lists.{each_map, each-among, among-each}
-use Rattle.cut.specs.Requirement.{body_size, header_size, Segment, Fits}
-use Rattle.cut.specs.declared.Core.{Core}
-use Rattle.cut.specs.declared.Core.TheVariants.{Unseen, Seen}
+use Rattle.cut.specs.Requirement.{Segment, Fits}
+use Rattle.cut.specs.declared.Sizes.{Sizes}
 use Rattle.cut.specs.declared.Record.{Record}
-use Rattle.cut.specs.Kept.{Summary, add_part, add_top, summary, core_of}
+use Rattle.cut.specs.Kept.{Summary, add_part, add_top, summary, sizes_of, core_of}
 use Rattle.cut.specs.laws.Segment.{Numbered, Same, Agree, same-is, among-numbered}
 use Rattle.cut.specs.laws.Decision.{SizeIs, EndIs, JoinsAs, Clear}
 use Rattle.cut.specs.laws.Object.{fits-passes}
@@ -182,29 +181,29 @@ summary-same ss ts h c d =
 
 -- ---- the sizes that segment 0 says
 
-abbrev CoreFrom : List Segment → Core → Type 0
-CoreFrom ss Unseen = ¬ (Numbered 0 ss)
-CoreFrom ss (Seen B H) = (q : Segment) × Among q ss × (q.number ≡ 0) × (body_size q.bytes ≡ B)
-    × (header_size q.bytes ≡ H)
+abbrev CoreFrom : List Segment → Option Sizes → Type 0
+CoreFrom ss None = ¬ (Numbered 0 ss)
+CoreFrom ss (Some sizes) = (q : Segment) × Among q ss × (q.number ≡ 0) × (sizes_of q.bytes ≡ sizes)
 
-core-weak : (s : Segment) (ss : List Segment) (c : Core) → ¬ (s.number ≡ 0) → CoreFrom ss c → CoreFrom (s ∷ ss) c
-core-weak s ss Unseen d h = go
+core-weak : (s : Segment) (ss : List Segment) (c : Option Sizes) → ¬ (s.number ≡ 0) → CoreFrom ss c
+    → CoreFrom (s ∷ ss) c
+core-weak s ss None d h = go
   where
     go : Numbered 0 (s ∷ ss) → ⊥
     go (inl e) = d e
     go (inr i) = h i
-core-weak s ss (Seen B H) d h = (h.0, inr h.1, h.2, h.3, h.4)
+core-weak s ss (Some sizes) d h = (h.0, inr h.1, h.2, h.3)
 
 core-step : (s : Segment) (ss : List Segment) (b : Bool) → eqb s.number 0 ≡ b → CoreFrom ss (core_of ss)
-    → CoreFrom (s ∷ ss) (pick b (Seen (body_size s.bytes) (header_size s.bytes)) (core_of ss))
-core-step s ss true e h = (s, inl refl, eqb-true s.number 0 e, refl, refl)
+    → CoreFrom (s ∷ ss) (pick b (Some (sizes_of s.bytes)) (core_of ss))
+core-step s ss true e h = (s, inl refl, eqb-true s.number 0 e, refl)
 core-step s ss false e h = core-weak s ss (core_of ss) (eqb-false s.number 0 e) h
 
 core-from : (ss : List Segment) → CoreFrom ss (core_of ss)
 core-from [] = λ i. absurd i
 core-from (s ∷ ss) = core-step s ss (eqb s.number 0) refl (core-from ss)
 
-pub core-absent : (ss : List Segment) → ¬ (Numbered 0 ss) → core_of ss ≡ Unseen
+pub core-absent : (ss : List Segment) → ¬ (Numbered 0 ss) → core_of ss ≡ None
 core-absent [] h = refl
 core-absent (s ∷ ss) h = rw (ne_eqb s.number 0 (λ e. h (inl e))) (core-absent ss (λ i. h (inr i)))
 
@@ -222,15 +221,13 @@ agree_same (s ∷ ss) p q a (inr i) (inr j) e = agree_same ss p q a.1 i j e
 zero_in : (q : Segment) (ss : List Segment) → Among q ss → q.number ≡ 0 → Numbered 0 ss
 zero_in q ss i e = rw e at (among-numbered q ss i)
 
-core-as : (ss ts : List Segment) (c d : Core) → SameSet ss ts → Agree ss → CoreFrom ss c → CoreFrom ts d → c ≡ d
-core-as ss ts Unseen Unseen h a x y = refl
-core-as ss ts Unseen (Seen B H) h a x y = absurd (x (zero_in y.0 ss (h.back y.0 y.1) y.2))
-core-as ss ts (Seen B H) Unseen h a x y = absurd (y (zero_in x.0 ts (h.there x.0 x.1) x.2))
-core-as ss ts (Seen B H) (Seen B' H') h a x y =
+core-as : (ss ts : List Segment) (c d : Option Sizes) → SameSet ss ts → Agree ss → CoreFrom ss c → CoreFrom ts d → c ≡ d
+core-as ss ts None None h a x y = refl
+core-as ss ts None (Some sizes) h a x y = absurd (x (zero_in y.0 ss (h.back y.0 y.1) y.2))
+core-as ss ts (Some sizes) None h a x y = absurd (y (zero_in x.0 ts (h.there x.0 x.1) x.2))
+core-as ss ts (Some sizes) (Some sizes') h a x y =
     let e : x.0 ≡ y.0 = agree_same ss x.0 y.0 a x.1 (h.back y.0 y.1) (x.2 ∙ sym y.2) in
-    let b : B ≡ B' = sym x.3 ∙ ap (λ (q : Segment). body_size q.bytes) e ∙ y.3 in
-    let d : H ≡ H' = sym x.4 ∙ ap (λ (q : Segment). header_size q.bytes) e ∙ y.4 in
-    rw (b, d) refl
+    ap Some (sym x.3 ∙ ap (λ (q : Segment). sizes_of q.bytes) e ∙ y.3)
 
 pub core-same : (ss ts : List Segment) → SameSet ss ts → Agree ss → core_of ss ≡ core_of ts
 core-same ss ts h a = core-as ss ts (core_of ss) (core_of ts) h a (core-from ss) (core-from ts)

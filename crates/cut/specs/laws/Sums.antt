@@ -1,5 +1,5 @@
 -- The decision on records and sums of marks is the decision on what is kept, so the theorem holds of it.
-use Rattle.std.specs.Prelude.{◌≡◌, ◌↔◌, Bool, true, false, List, ℕ, zero, suc, ◌≤◌, ◌<◌, min, max, ◌-◌, ◌/◌, length, drop, get_or, eqb, leb}
+use Rattle.std.specs.Prelude.{◌≡◌, ◌↔◌, Bool, true, false, Option, List, ℕ, zero, suc, ◌≤◌, ◌<◌, min, max, ◌-◌, ◌/◌, length, drop, get_or, eqb, leb}
 use Rattle.std.proofs.Math.Path.{refl}
 use Rattle.std.proofs.Common.{sym, ap, ◌∙◌, arith, eq-eqb, ne_eqb, le-leb, eqb-true, leb-true}
 use Rattle.std.proofs.Math.Decide.{dec_le}
@@ -8,7 +8,7 @@ use Rattle.octets.specs.Octets.{sum_of}
 use Rattle.cut.specs.Requirement.{limit_most, Segment, Fits}
 use Rattle.answer.specs.declared.Part.{Part}
 use Rattle.answer.specs.declared.Part.TheVariants.{Header, Body}
-use Rattle.cut.specs.declared.Core.{Core}
+use Rattle.cut.specs.declared.Sizes.{Sizes}
 use Rattle.cut.specs.declared.Bounds.{Bounds}
 use Rattle.cut.specs.declared.Record.{Record}
 use Rattle.cut.specs.Parts.{headers_with, bodies_with, those, other_part}
@@ -286,7 +286,7 @@ module _ (limit : ℕ) (hs bs : List Segment) (f : Fits limit hs bs) (header_mar
       ≡ accepts kind limit (core_of hs) (summary hs) (summary bs) s
   unfolding suits fits_in
   takes-kept Header s =
-      let c : Core = core_after s (core_of hs) in
+      let c : Option Sizes = core_after s (core_of hs) in
       let b : Bounds = bounds_of Header limit (core_of hs) in
       own_first (joins (full_in (record_for Header) header_marks) s.last (length s.bytes) (record_for Header))
       (core_fits limit c)
@@ -302,7 +302,7 @@ module _ (limit : ℕ) (hs bs : List Segment) (f : Fits limit hs bs) (header_mar
         possible-for Body (bounds_of Body limit c),
       ) refl))
   takes-kept Body s =
-      let c : Core = core_of hs in
+      let c : Option Sizes = core_of hs in
       let b : Bounds = bounds_of Body limit c in
       other-first (joins (full_in (record_for Body) body_marks) s.last (length s.bytes) (record_for Body))
       (core_fits limit c)

@@ -1,12 +1,11 @@
 -- A header built from a list of well-formed parameters, and that it reads back as that list.
-use Rattle.std.specs.Prelude.{◌≡◌, refl, List, [], ◌∷◌, ◌++◌, map, ℕ, ◌+◌, ◌*◌, ◌/◌, ◌%◌, ◌<◌, take, drop}
+use Rattle.std.specs.Prelude.{◌≡◌, refl, List, [], ◌∷◌, ◌++◌, map, Some, ℕ, ◌+◌, ◌*◌, ◌/◌, ◌%◌, ◌<◌, take, drop}
 use Rattle.std.proofs.Common.{sym, ap, ◌∙◌, append_assoc, append-nil, zero-add, length-append, take_at, drop_at}
 use native.Mathlib.Omega.{arith}
 use borrow.Author.Tests.{lt-ltb, le-ltb}
 use Rattle.std.proofs.Math.ListN.{length}
 use Rattle.std.proofs.Math.Seq.{get_or-append-add, get_or-append_seam}
 use Rattle.header.specs.declared.Parameter.{Parameter}
-use Rattle.header.specs.declared.Found.TheVariants.{One}
 use Rattle.header.specs.Parameters.{length_at, by_code, parameter_at, found_at, listed, put, parameters_from, parameters}
 use Rattle.header.specs.laws.Parameters.{within-is, from_end, from_step}
 
@@ -131,7 +130,7 @@ module _ (front : List ℕ) (i : Item) (w : WellFormed i) (rest : List ℕ) wher
       ≡ length front + (length (lead_of i) + length i.bytes + length rest)
   whole_length = rw (length-append, length-append, written-length)
 
-  found-written : found_at (front ++ (written i ++ rest)) (length front) ≡ One (place (length front) i)
+  found-written : found_at (front ++ (written i ++ rest)) (length front) ≡ Some (place (length front) i)
   unfolding found_at written place
   found-written =
       rw (form-reads front i.identifier w.named i.bytes i.form w.holds rest)

@@ -1,26 +1,24 @@
 -- Laws of the list of parameters: how it goes on from one parameter to the next, and what holds of each of them.
-use Rattle.std.specs.Prelude.{◌≡◌, refl, Bool, true, false, List, [], ◌∷◌, ℕ, zero, suc, ◌+◌, ◌/◌, ◌%◌, ◌≤◌, ◌<◌, length, get_or, ltb}
+use Rattle.std.specs.Prelude.{◌≡◌, refl, Bool, true, false, List, [], ◌∷◌, Option, Some, None, ℕ, zero, suc, ◌+◌, ◌/◌, ◌%◌, ◌≤◌, ◌<◌, length, get_or, ltb}
 use Rattle.std.proofs.Common.{sym, ap, ◌∙◌, subst, lt-ltb, le-ltb, le-leb, eq-eqb, ne_eqb, eqb-true}
 use Rattle.std.proofs.Math.Decide.{dec_le, dec_lt, ℕ_discrete}
 use native.Mathlib.Omega.{arith}
 use Rattle.std.proofs.lemmas.Bool.{lt-leb}
 use Rattle.header.specs.declared.Parameter.{Parameter}
-use Rattle.header.specs.declared.Found.{Found}
-use Rattle.header.specs.declared.Found.TheVariants.{Nothing, One}
 use Rattle.header.specs.Parameters.{pick, length_at, by_code, parameter_at, within, found_at, Listed, broken, listed, put, follow, turns, parameters_from, width_fits, all_fit, find}
 
 -- ---- one parameter
 
-pub within-is : (end : ℕ) (p : Parameter) → p.start + p.size ≤ end → within end p ≡ One p
+pub within-is : (end : ℕ) (p : Parameter) → p.start + p.size ≤ end → within end p ≡ Some p
 unfolding within
 within-is end p h = rw (le-leb _ _ h)
 
-pub within-not : (end : ℕ) (p : Parameter) → end < p.start + p.size → within end p ≡ Nothing
+pub within-not : (end : ℕ) (p : Parameter) → end < p.start + p.size → within end p ≡ None
 unfolding within
 within-not end p h = rw (lt-leb _ _ h)
 
 -- what is found is the parameter itself, and it does not run past the end
-pub within-found : (end : ℕ) (p q : Parameter) → within end p ≡ One q → (p ≡ q) × (q.start + q.size ≤ end)
+pub within-found : (end : ℕ) (p q : Parameter) → within end p ≡ Some q → (p ≡ q) × (q.start + q.size ≤ end)
 within-found end p q e = go (dec_le (p.start + p.size) end)
   where
     go : Dec (p.start + p.size ≤ end) → (p ≡ q) × (q.start + q.size ≤ end)
@@ -52,18 +50,18 @@ pub record Known (h : List ℕ) (p : Parameter) : Type 0 where
   pub named : p.identifier < 64
   pub inside : p.start + p.size ≤ length h
 
-pub found-known : (h : List ℕ) (at : ℕ) (p : Parameter) → found_at h at ≡ One p → Known h p
+pub found-known : (h : List ℕ) (at : ℕ) (p : Parameter) → found_at h at ≡ Some p → Known h p
 unfolding found_at
 found-known h at p e =
     let w = within-found (length h) (parameter_at h at) p e in
     record { named = rw (← w.0) (parameter-known h at).1; inside = w.1 }
 
 -- each parameter takes a byte at least
-pub found-on : (h : List ℕ) (at : ℕ) (p : Parameter) → found_at h at ≡ One p → at < p.start
+pub found-on : (h : List ℕ) (at : ℕ) (p : Parameter) → found_at h at ≡ Some p → at < p.start
 unfolding found_at
 found-on h at p e = rw (← (within-found (length h) (parameter_at h at) p e).0) (parameter-known h at).0
 
-pub found-past : (h : List ℕ) (at : ℕ) → length h ≤ at → found_at h at ≡ Nothing
+pub found-past : (h : List ℕ) (at : ℕ) → length h ≤ at → found_at h at ≡ None
 unfolding found_at
 found-past h at g = within-not (length h) (parameter_at h at) (omega (arith, (parameter-known h at).0))
 
@@ -83,11 +81,11 @@ turns-enough (suc n) (suc m) h at f g =
     ap (λ (r : Listed). pick (ltb at (length h)) r (listed []))
     (on (found_at h at) (found-on h at) (λ p k. turns-enough n m h (p.start + p.size) (omega arith) (omega arith)))
   where
-    on : (s : Found) → ((p : Parameter) → s ≡ One p → at < p.start)
+    on : (s : Option Parameter) → ((p : Parameter) → s ≡ Some p → at < p.start)
         → ((p : Parameter) → at < p.start → turns n h (p.start + p.size) ≡ turns m h (p.start + p.size))
         → follow s (λ p. turns n h (p.start + p.size)) ≡ follow s (λ p. turns m h (p.start + p.size))
-    on Nothing k r = refl
-    on (One p) k r = ap (put p) (r p (k p refl))
+    on None k r = refl
+    on (Some p) k r = ap (put p) (r p (k p refl))
 
 module _ (h : List ℕ) (at : ℕ) where
   pub from_end : length h ≤ at → parameters_from h at ≡ listed []
@@ -119,12 +117,12 @@ turns-known zero h at = tt
 turns-known (suc n) h at = go (ltb at (length h)) (found_at h at) (found-known h at)
     (λ p. turns-known n h (p.start + p.size))
   where
-    go : (t : Bool) (s : Found) → ((p : Parameter) → s ≡ One p → Known h p)
+    go : (t : Bool) (s : Option Parameter) → ((p : Parameter) → s ≡ Some p → Known h p)
         → ((p : Parameter) → EachListed (Known h) (turns n h (p.start + p.size)))
         → EachListed (Known h) (pick t (follow s (λ p. turns n h (p.start + p.size))) (listed []))
     go false s k r = tt
-    go true Nothing k r = tt
-    go true (One p) k r = put-each (Known h) p (turns n h (p.start + p.size)) (k p refl) (r p)
+    go true None k r = tt
+    go true (Some p) k r = put-each (Known h) p (turns n h (p.start + p.size)) (k p refl) (r p)
 
 -- every parameter of a header has its data inside the header
 pub from-known : (h : List ℕ) (at : ℕ) → EachListed (Known h) (parameters_from h at)
@@ -143,27 +141,27 @@ each-fit (p ∷ ps) e = go (width_fits p.identifier p.size) refl (each-fit ps)
     go false f r = let b : false ≡ true = rw f at e in let z : ◌≡◌ {A = ℕ} 0 1 = cc in absurd (omega arith)
 
 -- what is found by its identifier is one of them
-pub find-each : (P : Parameter → Type 0) (i : ℕ) (ps : List Parameter) (p : Parameter) → Each P ps → find i ps ≡ One p
+pub find-each : (P : Parameter → Type 0) (i : ℕ) (ps : List Parameter) (p : Parameter) → Each P ps → find i ps ≡ Some p
     → P p × (p.identifier ≡ i)
 unfolding find
 find-each P i [] p k e = let z : ◌≡◌ {A = ℕ} 0 1 = cc in absurd (omega arith)
 find-each P i (q ∷ ps) p k e = go (find i ps) refl (λ f. find-each P i ps p k.1 f) (ℕ_discrete q.identifier i)
   where
-    go : (s : Found) → find i ps ≡ s → (find i ps ≡ One p → P p × (p.identifier ≡ i)) → Dec (q.identifier ≡ i) → P p
-        × (p.identifier ≡ i)
-    go (One r) f rest d = let m : One r ≡ One p = rw f at e in rest (f ∙ m)
-    go Nothing f rest (yes d) =
-        let m : One q ≡ One p = rw (f, eq-eqb q.identifier i d) at e in
+    go : (s : Option Parameter) → find i ps ≡ s → (find i ps ≡ Some p → P p × (p.identifier ≡ i))
+        → Dec (q.identifier ≡ i) → P p × (p.identifier ≡ i)
+    go (Some r) f rest d = let m : Some r ≡ Some p = rw f at e in rest (f ∙ m)
+    go None f rest (yes d) =
+        let m : Some q ≡ Some p = rw (f, eq-eqb q.identifier i d) at e in
         let s : q ≡ p = cc in
         (subst P s k.0, cc)
-    go Nothing f rest (no d) =
-        let m : Nothing ≡ One p = rw (f, ne_eqb q.identifier i d) at e in
+    go None f rest (no d) =
+        let m : ◌≡◌ {A = Option Parameter} None (Some p) = rw (f, ne_eqb q.identifier i d) at e in
         let z : ◌≡◌ {A = ℕ} 0 1 = cc in
         absurd (omega arith)
 
 -- Priority's data is one byte inside the header
 pub priority-inside : (h : List ℕ) (ps : List Parameter) (p : Parameter) → Each (Known h) ps → all_fit ps ≡ true
-    → find 0x0A ps ≡ One p → (p.start < length h) × (p.size ≡ 1)
+    → find 0x0A ps ≡ Some p → (p.start < length h) × (p.size ≡ 1)
 unfolding width_fits
 priority-inside h ps p k f e =
     let a = find-each (Known h) 0x0A ps p k e in

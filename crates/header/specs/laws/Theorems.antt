@@ -1,6 +1,6 @@
 -- What a reading means: the order of the refusals, that what is read stands inside the header, that a single parameter
 -- that is read is the only one, and when a name matches.
-use Rattle.std.specs.Prelude.{◌≡◌, Bool, true, false, List, [], ◌∷◌, ◌++◌, ◌⊎◌, ◌↔◌, drop}
+use Rattle.std.specs.Prelude.{◌≡◌, Bool, true, false, List, [], ◌∷◌, ◌++◌, Option, Some, None, Result, Ok, Err, ◌⊎◌, ◌↔◌, drop}
 use Rattle.std.proofs.Math.Path.{refl}
 use Rattle.std.proofs.Common.{sym, ap, ◌∙◌, subst, inl, inr, arith, lt-ltb, le-ltb, eq-eqb, ne_eqb, ltb-true}
 use Prim.Native.Nat.{ℕ, zero, suc, ◌+◌, ◌/◌, ◌%◌, ◌≤◌, ◌<◌}
@@ -8,14 +8,10 @@ use Rattle.std.proofs.Math.Decide.{ℕ_discrete, dec_lt}
 use Rattle.std.proofs.Math.ListN.{length, get_or, length-append, get_or-append}
 use Rattle.octets.specs.laws.Marks.{equal-exactly}
 use Rattle.header.specs.declared.Parameter.{Parameter}
-use Rattle.header.specs.declared.Found.{Found}
-use Rattle.header.specs.declared.Found.TheVariants.{Nothing, One}
-use Rattle.header.specs.declared.Priority.TheVariants.{Byte}
-use Rattle.header.specs.declared.Name.TheVariants.{Data}
+use Rattle.header.specs.declared.Place.{Place}
 use Rattle.header.specs.declared.Fields.{Fields}
+use Rattle.header.specs.declared.Refusal.{Refusal}
 use Rattle.header.specs.declared.Refusal.TheVariants.{Header, Duplicate}
-use Rattle.header.specs.declared.Reading.{Reading}
-use Rattle.header.specs.declared.Reading.TheVariants.{Refused, Read}
 use Rattle.header.specs.Parameters.{pick, length_at, by_code, parameter_at, found_at, Listed, broken, listed, parameters, width_fits, all_fit, singles, among, count, twice, find, priority_of, name_of, fields_of, judged, read_header}
 use Rattle.header.specs.Names.{unslashed, name_matches}
 use Rattle.header.specs.laws.Parameters.{within-is, within-found, length-known, parameter-known, Known, Each, EachListed, from-known, each-fit, find-each, priority-inside}
@@ -30,13 +26,13 @@ pub record Repeats (ps : List Parameter) : Type 0 where
   pub again : 1 < count identifier ps
 
 -- what a reading is given for
-pub data Given (h : List ℕ) : Reading → Type 0 where
-  past_end : parameters h ≡ broken → Given h (Refused Header)
-  width : {ps : List Parameter} → parameters h ≡ listed ps → all_fit ps ≡ false → Given h (Refused Header)
+pub data Given (h : List ℕ) : Result Fields Refusal → Type 0 where
+  past_end : parameters h ≡ broken → Given h (Err Header)
+  width : {ps : List Parameter} → parameters h ≡ listed ps → all_fit ps ≡ false → Given h (Err Header)
   repeated : {ps : List Parameter} → parameters h ≡ listed ps → all_fit ps ≡ true → Repeats ps
-      → Given h (Refused Duplicate)
+      → Given h (Err Duplicate)
   whole : {ps : List Parameter} → parameters h ≡ listed ps → all_fit ps ≡ true → (Repeats ps → ⊥)
-      → Given h (Read (fields_of h (find 0x0A ps) (find 0x0C ps)))
+      → Given h (Ok (fields_of h (find 0x0A ps) (find 0x0C ps)))
 
 not-twice : (ps : List Parameter) → twice singles ps ≡ false → Repeats ps → ⊥
 not-twice ps e r =
@@ -54,15 +50,15 @@ given h = on (parameters h) refl
     on (listed ps) e = fit (all_fit ps) refl (twice singles ps) refl
       where
         fit : (t : Bool) → all_fit ps ≡ t → (u : Bool) → twice singles ps ≡ u
-            → Given h (pick t (pick u (Refused Duplicate) (Read (fields_of h (find 0x0A ps) (find 0x0C ps))))
-            (Refused Header))
+            → Given h (pick t (pick u (Err Duplicate) (Ok (fields_of h (find 0x0A ps) (find 0x0C ps))))
+            (Err Header))
         fit false f u x = width e f
         fit true f true x = let a = twice_there singles ps x in
             repeated e f (record { identifier = a.0; single = a.1; again = a.2 })
         fit true f false x = whole e f (not-twice ps x)
 
 -- and for nothing else
-pub given-only : (h : List ℕ) {r : Reading} → Given h r → read_header h ≡ r
+pub given-only : (h : List ℕ) {r : Result Fields Refusal} → Given h r → read_header h ≡ r
 unfolding read_header judged
 given-only h (past_end e) = rw e
 given-only h (width e f) = rw (e, f)
@@ -85,32 +81,34 @@ pub record ReadFrom (h : List ℕ) (f : Fields) : Type 0 where
   pub once : Repeats ps → ⊥
   pub fields : f ≡ fields_of h (find 0x0A ps) (find 0x0C ps)
 
-pub read-from : (h : List ℕ) (f : Fields) → read_header h ≡ Read f → ReadFrom h f
+pub read-from : (h : List ℕ) (f : Fields) → read_header h ≡ Ok f → ReadFrom h f
 read-from h f e = go (given h) e
   where
     known : (ps : List Parameter) → parameters h ≡ listed ps → Each (Known h) ps
     known ps x = subst (EachListed (Known h)) x (from-known h 7)
 
-    go : {r : Reading} → Given h r → r ≡ Read f → ReadFrom h f
+    go : {r : Result Fields Refusal} → Given h r → r ≡ Ok f → ReadFrom h f
     go (past_end l) x = let z : ◌≡◌ {A = ℕ} 0 1 = cc in absurd (omega arith)
     go (width l a) x = let z : ◌≡◌ {A = ℕ} 0 1 = cc in absurd (omega arith)
     go (repeated l a n) x = let z : ◌≡◌ {A = ℕ} 0 1 = cc in absurd (omega arith)
     go (whole {ps} l a n) x = record { ps = ps; lists = l; known = known ps l; fit = a; once = n; fields = cc }
 
 -- ContentName's data has its character set byte at least, and lies inside the header
-pub name-inside : (h : List ℕ) (f : Fields) (start size : ℕ) → read_header h ≡ Read f → f.name ≡ Data start size
-    → (0 < size) × (start + size ≤ length h)
+pub name-inside : (h : List ℕ) (f : Fields) (place : Place) → read_header h ≡ Ok f → f.name ≡ Some place
+    → (0 < place.size) × (place.start + place.size ≤ length h)
 unfolding fields_of width_fits
-name-inside h f start size e d = go (find 0x0C r.ps) refl (sym (ap (λ (g : Fields). g.name) r.fields) ∙ d)
+name-inside h f place e d = go (find 0x0C r.ps) refl (sym (ap (λ (g : Fields). g.name) r.fields) ∙ d)
   where
     r : ReadFrom h f
     r = read-from h f e
 
-    go : (g : Found) → find 0x0C r.ps ≡ g → name_of g ≡ Data start size → (0 < size) × (start + size ≤ length h)
-    go Nothing x y = let z : ◌≡◌ {A = ℕ} 0 1 = cc in absurd (omega arith)
-    go (One p) x y =
-        let a : p.start ≡ start = cc in
-        let b : p.size ≡ size = cc in
+    go : (g : Option Parameter) → find 0x0C r.ps ≡ g → name_of g ≡ Some place → (0 < place.size)
+        × (place.start + place.size ≤ length h)
+    go None x y = let z : ◌≡◌ {A = ℕ} 0 1 = cc in absurd (omega arith)
+    go (Some p) x y =
+        let same : ◌≡◌ {A = Place} (record { start = p.start; size = p.size }) place = cc in
+        let a : p.start ≡ place.start = ap (λ (q : Place). q.start) same in
+        let b : p.size ≡ place.size = ap (λ (q : Place). q.size) same in
         let k = find-each (Known h) 0x0C r.ps p r.known x in
         let w = find-each (λ q. width_fits q.identifier q.size ≡ true) 0x0C r.ps p (each-fit r.ps r.fit) x
         in
@@ -118,7 +116,7 @@ name-inside h f start size e d = go (find 0x0C r.ps) refl (sym (ap (λ (g : Fiel
         (omega arith, omega (arith, k.0.inside))
 
 -- Priority's byte is a byte of the header
-pub priority-byte : (h : List ℕ) (f : Fields) (b : ℕ) → read_header h ≡ Read f → f.priority ≡ Byte b → (at : ℕ)
+pub priority-byte : (h : List ℕ) (f : Fields) (b : ℕ) → read_header h ≡ Ok f → f.priority ≡ Some b → (at : ℕ)
     × (at < length h) × (get_or h at 0 ≡ b)
 unfolding fields_of
 priority-byte h f b e d = go (find 0x0A r.ps) refl (sym (ap (λ (g : Fields). g.priority) r.fields) ∙ d)
@@ -126,9 +124,10 @@ priority-byte h f b e d = go (find 0x0A r.ps) refl (sym (ap (λ (g : Fields). g.
     r : ReadFrom h f
     r = read-from h f e
 
-    go : (g : Found) → find 0x0A r.ps ≡ g → priority_of h g ≡ Byte b → (at : ℕ) × (at < length h) × (get_or h at 0 ≡ b)
-    go Nothing x y = let z : ◌≡◌ {A = ℕ} 0 1 = cc in absurd (omega arith)
-    go (One p) x y = (p.start, (priority-inside h r.ps p r.known r.fit x).0, cc)
+    go : (g : Option Parameter) → find 0x0A r.ps ≡ g → priority_of h g ≡ Some b → (at : ℕ) × (at < length h)
+        × (get_or h at 0 ≡ b)
+    go None x y = let z : ◌≡◌ {A = ℕ} 0 1 = cc in absurd (omega arith)
+    go (Some p) x y = (p.start, (priority-inside h r.ps p r.known r.fit x).0, cc)
 
 -- ---- the only one
 
@@ -144,22 +143,22 @@ each-among (q ∷ qs) = (inl refl, later qs (each-among qs))
     later [] k = tt
     later (p ∷ ps) k = (inr k.0, later ps k.1)
 
-pub find_none : (i : ℕ) (ps : List Parameter) → count i ps ≡ 0 → find i ps ≡ Nothing
+pub find_none : (i : ℕ) (ps : List Parameter) → count i ps ≡ 0 → find i ps ≡ None
 unfolding find
 find_none i [] e = refl
 find_none i (q ∷ qs) e = go (ℕ_discrete q.identifier i) (find_none i qs)
   where
-    go : Dec (q.identifier ≡ i) → (count i qs ≡ 0 → find i qs ≡ Nothing) → find i (q ∷ qs) ≡ Nothing
+    go : Dec (q.identifier ≡ i) → (count i qs ≡ 0 → find i qs ≡ None) → find i (q ∷ qs) ≡ None
     go (yes d) r = absurd (omega (arith, count_same q qs i d))
     go (no d) r = rw (r (omega (arith, count-other q qs i d)), ne_eqb q.identifier i d)
 
 find-back : (i : ℕ) (ps : List Parameter) (p : Parameter) → count i ps ≤ 1 → Among p ps → p.identifier ≡ i → find i ps
-    ≡ One p
+    ≡ Some p
 unfolding find
 find-back i [] p c a e = absurd a
 find-back i (q ∷ qs) p c (inl a) e =
     let d : q.identifier ≡ i = rw a at e in
-    rw (find_none i qs (omega (arith, count_same q qs i d)), eq-eqb q.identifier i d) (ap One (sym a))
+    rw (find_none i qs (omega (arith, count_same q qs i d)), eq-eqb q.identifier i d) (ap Some (sym a))
 find-back i (q ∷ qs) p c (inr a) e = rw (find-back i qs p (fewer (ℕ_discrete q.identifier i)) a e)
   where
     fewer : Dec (q.identifier ≡ i) → count i qs ≤ 1
@@ -167,7 +166,7 @@ find-back i (q ∷ qs) p c (inr a) e = rw (find-back i qs p (fewer (ℕ_discrete
     fewer (no d) = omega (arith, count-other q qs i d)
 
 -- where an identifier comes at most once, what is found by it is the one parameter that has it
-pub find-only : (i : ℕ) (ps : List Parameter) (p : Parameter) → count i ps ≤ 1 → (find i ps ≡ One p)
+pub find-only : (i : ℕ) (ps : List Parameter) (p : Parameter) → count i ps ≤ 1 → (find i ps ≡ Some p)
     ↔ (Among p ps × (p.identifier ≡ i))
 find-only i ps p c = (find-each (λ q. Among q ps) i ps p (each-among ps), λ a. find-back i ps p c a.0 a.1)
 
@@ -211,7 +210,7 @@ module _ (h t : List ℕ) where
       go (suc (suc (suc c))) i k = length_front i (at + 1) k
 
   -- a parameter that is whole stays the same whatever follows it
-  pub found_front : (at : ℕ) (p : Parameter) → found_at h at ≡ One p → found_at (h ++ t) at ≡ One p
+  pub found_front : (at : ℕ) (p : Parameter) → found_at h at ≡ Some p → found_at (h ++ t) at ≡ Some p
   unfolding found_at
   found_front at p e =
       let w = within-found (length h) (parameter_at h at) p e in

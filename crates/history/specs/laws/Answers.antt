@@ -1,5 +1,5 @@
 -- Demand 3: what a group that passes the reading checks is answered, in a state whose slots hold just what was stored.
-use Rattle.std.specs.Prelude.{◌≡◌, refl, ◌⊎◌, ◌↔◌, List, [], ℕ, ◌≤◌}
+use Rattle.std.specs.Prelude.{◌≡◌, refl, ◌⊎◌, ◌↔◌, Option, None, Some, List, [], ℕ, ◌≤◌}
 use Rattle.std.proofs.Common.{sym, ap, inl, inr, arith}
 use Rattle.answer.specs.declared.Answer.{Answer}
 use Rattle.answer.specs.declared.Answer.TheVariants as Answer
@@ -17,8 +17,6 @@ use Rattle.object.specs.laws.Held.{Gathers}
 use Rattle.object.specs.laws.StateExact.{sound-holds}
 use Rattle.object.specs.laws.Step.{conflict-exactly, repeat-exactly, complete-exactly, stored-exactly}
 use Rattle.object.specs.Parts.{Lent, parts_of}
-use Rattle.slots.specs.declared.Found.{Found}
-use Rattle.slots.specs.declared.Found.TheVariants.{Nothing, At}
 use Rattle.slots.specs.Stores.{fresh_slot}
 use Rattle.collector.specs.State.{Reply, State, find, free}
 use Rattle.collector.specs.Calls.{answer_for}
@@ -88,7 +86,7 @@ never-full Complete arrived e = let z : ◌≡◌ {A = ℕ} 0 1 = cc in absurd (
 never-full Repeat arrived e = let z : ◌≡◌ {A = ℕ} 0 1 = cc in absurd (omega arith)
 never-full Conflict arrived e = let z : ◌≡◌ {A = ℕ} 0 1 = cc in absurd (omega arith)
 
-unlike : {found : Found} (i : ℕ) → found ≡ At i → found ≡ Nothing → ⊥
+unlike : {found : Option ℕ} (i : ℕ) → found ≡ Some i → found ≡ None → ⊥
 unlike i e f = let z : ◌≡◌ {A = ℕ} 0 1 = cc in absurd (omega arith)
 
 -- a slot is there for what is offered to one
@@ -129,7 +127,7 @@ alone-exactly Conflict arrived s limit n = ((λ e. (n, tt)), (λ m. refl))
 -- nothing is stored, the segment fits, and no slot is there
 full-never : (o : Outcome) (arrived : Arrival) (s : State) (limit : ℕ)
     → Fits limit (headers_with arrived.part arrived.segment []) (bodies_with arrived.part arrived.segment [])
-    → find arrived.number s ≡ Nothing → free s ≡ Nothing
+    → find arrived.number s ≡ None → free s ≡ None
     → (Answer.Full (heard_as arrived) ≡ answer_for o arrived)
     ↔ (Meets o arrived.part limit arrived.segment [] [] × Room o arrived.number s)
 full-never Stored arrived s limit f n g =
@@ -180,7 +178,7 @@ module _ (arrived : Arrival) (s : State) (hs bs : List Segment) (y : Bytes arriv
   -- FULL: it fits, its number holds no slot, and none is free
   pub came-full : (t : Reply) → Came arrived s t → (t.answer ≡ Answer.Full (heard_as arrived))
       ↔ (Fits (limit_of s) (headers_with arrived.part arrived.segment hs)
-      (bodies_with arrived.part arrived.segment bs) × (find arrived.number s ≡ Nothing) × (free s ≡ Nothing))
+      (bodies_with arrived.part arrived.segment bs) × (find arrived.number s ≡ None) × (free s ≡ None))
   came-full t (alone n a e) =
       let none = w.rest n in
       rw (e, none.0, none.1) (

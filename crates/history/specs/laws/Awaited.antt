@@ -1,6 +1,6 @@
 -- How many bytes of a number's object are still to come, where the slots hold just what is stored: what the stored
 -- segments give; and it never rises while the number is held.
-use Rattle.std.specs.Prelude.{◌≡◌, ◌≢◌, ◌↔◌, Bool, true, false, List, [], ◌∷◌, ℕ, ◌≤◌, eqb}
+use Rattle.std.specs.Prelude.{◌≡◌, ◌≢◌, ◌↔◌, Option, Bool, true, false, List, [], ◌∷◌, ℕ, ◌≤◌, eqb, Ok, Err, Some, None}
 use Rattle.std.proofs.Math.Path.{refl}
 use Rattle.std.proofs.Common.{sym, ap, ◌∙◌, arith, ne_eqb}
 use Rattle.answer.specs.declared.Answer.{Answer}
@@ -9,18 +9,12 @@ use Rattle.answer.specs.declared.Part.TheVariants.{Header, Body}
 use Rattle.answer.specs.declared.Reason.TheVariants as Reason
 use Rattle.cut.specs.Requirement.{Segment, Fits, Finished}
 use Rattle.cut.specs.Parts.{headers_with, bodies_with}
-use Rattle.cut.specs.declared.Amount.{Amount}
-use Rattle.cut.specs.declared.Amount.TheVariants.{Unknown, Known}
 use Rattle.cut.specs.Lists.{pick, Each}
 use Rattle.cut.specs.Missing.{missing_of, outside_of, amount_of}
 use Rattle.cut.specs.laws.Missing.{missing-outside, missing-none, missing-falls, amount-back}
-use Rattle.slots.specs.declared.Found.{Found}
-use Rattle.slots.specs.declared.Found.TheVariants.{Nothing, At}
 use Rattle.collector.specs.State.{State, find}
 use Rattle.collector.specs.Calls.{drop_number, sound}
 use Rattle.collector.specs.Arrival.{Arrival}
-use Rattle.queries.specs.declared.Awaited.{Awaited}
-use Rattle.queries.specs.declared.Awaited.TheVariants as Awaited
 use Rattle.queries.specs.Missing.{missing}
 use Rattle.history.specs.Handed.{Handed, Brought, arrives, refused, brought_by}
 use Rattle.history.specs.Held.{limit_of}
@@ -33,85 +27,85 @@ use Rattle.history.specs.laws.Stands.{StandsFor, Stands}
 use Rattle.history.specs.laws.Reached.{leaves-intact, leaves-stands}
 
 -- of nothing, nothing is known
-none-unknown : missing_of [] [] ≡ Unknown
+none-unknown : missing_of [] [] ≡ None
 unfolding missing_of
 none-unknown = refl
 
-nothing_known : (hs bs : List Segment) → hs ≡ [] → bs ≡ [] → (bytes : ℕ) → missing_of hs bs ≢ Known bytes
+nothing_known : (hs bs : List Segment) → hs ≡ [] → bs ≡ [] → (bytes : ℕ) → missing_of hs bs ≢ Some bytes
 nothing_known hs bs h b bytes f =
-    let g : Unknown ≡ Known bytes = sym none-unknown ∙ (rw (h, b) at f) in
+    let g = sym none-unknown ∙ (rw (h, b) at f) in
     let z : ◌≡◌ {A = ℕ} 0 1 = cc in
     absurd (omega arith)
 
 -- ---- one number
 
 module _ (number : ℕ) (s : State) (hs bs : List Segment) (good : sound s ≡ true) (w : StandsFor number s hs bs) where
-  awaited-held : (i : ℕ) → find number s ≡ At i → missing number s ≡ Awaited.Bytes (missing_of hs bs)
+  awaited-held : (i : ℕ) → find number s ≡ Some i → missing number s ≡ Ok (missing_of hs bs)
   unfolding missing
   awaited-held i e =
-      rw (good, e) (ap Awaited.Bytes (ap amount_of (w.held i e).missing ∙ amount-back (missing_of hs bs)))
+      rw (good, e) (ap Ok (ap amount_of (w.held i e).missing ∙ amount-back (missing_of hs bs)))
 
-  awaited-unheld : find number s ≡ Nothing → missing number s ≡ Awaited.Denied Reason.NotHeld
+  awaited-unheld : find number s ≡ None → missing number s ≡ Err Reason.NotHeld
   unfolding missing
   awaited-unheld e = rw (good, e) refl
 
-  pub awaited-exactly : find number s ≢ Nothing → missing number s ≡ Awaited.Bytes (missing_of hs bs)
+  pub awaited-exactly : find number s ≢ None → missing number s ≡ Ok (missing_of hs bs)
   awaited-exactly d = go (find number s) refl
     where
-      go : (found : Found) → find number s ≡ found → missing number s ≡ Awaited.Bytes (missing_of hs bs)
-      go Nothing e = absurd (d e)
-      go (At i) e = awaited-held i e
+      go : (found : Option ℕ) → find number s ≡ found → missing number s ≡ Ok (missing_of hs bs)
+      go None e = absurd (d e)
+      go (Some i) e = awaited-held i e
 
-  pub awaited-not-held : (missing number s ≡ Awaited.Denied Reason.NotHeld) ↔ (find number s ≡ Nothing)
+  pub awaited-not-held : (missing number s ≡ Err Reason.NotHeld) ↔ (find number s ≡ None)
   awaited-not-held = (λ e. go (find number s) refl e, awaited-unheld)
     where
-      go : (found : Found) → find number s ≡ found → missing number s ≡ Awaited.Denied Reason.NotHeld
-          → find number s ≡ Nothing
-      go Nothing f e = f
-      go (At i) f e = let held = awaited-held i f in let z : ◌≡◌ {A = ℕ} 0 1 = cc in absurd (omega arith)
+      go : (found : Option ℕ) → find number s ≡ found → missing number s ≡ Err Reason.NotHeld
+          → find number s ≡ None
+      go None f e = f
+      go (Some i) f e = let held = awaited-held i f in let z : ◌≡◌ {A = ℕ} 0 1 = cc in absurd (omega arith)
 
   -- a number of bytes is told of a number that is held, and is what the segments give
-  pub awaited-known : (bytes : ℕ) → missing number s ≡ Awaited.Bytes (Known bytes) → missing_of hs bs ≡ Known bytes
+  pub awaited-known : (bytes : ℕ) → missing number s ≡ Ok (Some bytes) → missing_of hs bs ≡ Some bytes
   awaited-known bytes e = go (find number s) refl
     where
-      go : (found : Found) → find number s ≡ found → missing_of hs bs ≡ Known bytes
-      go Nothing f = let none = awaited-unheld f in let z : ◌≡◌ {A = ℕ} 0 1 = cc in absurd (omega arith)
-      go (At i) f = let held : Awaited.Bytes (missing_of hs bs) ≡ Awaited.Bytes (Known bytes) = sym (awaited-held i f)
+      go : (found : Option ℕ) → find number s ≡ found → missing_of hs bs ≡ Some bytes
+      go None f = let none = awaited-unheld f in let z : ◌≡◌ {A = ℕ} 0 1 = cc in absurd (omega arith)
+      go (Some i) f = let held : Ok (missing_of hs bs) ≡ Ok (Some bytes) = sym (awaited-held i f)
           ∙ e in cc
 
-  pub none-awaited : (missing number s ≡ Awaited.Bytes (Known 0)) ↔ ((f : Fits (limit_of s) hs bs) × Finished f)
+  pub none-awaited : (missing number s ≡ Ok (Some 0)) ↔ ((f : Fits (limit_of s) hs bs) × Finished f)
   none-awaited = (λ e. there (find number s) refl e, λ r. back (find number s) refl r.0 r.1)
     where
-      there : (found : Found) → find number s ≡ found → missing number s ≡ Awaited.Bytes (Known 0)
+      there : (found : Option ℕ) → find number s ≡ found → missing number s ≡ Ok (Some 0)
           → (f : Fits (limit_of s) hs bs) × Finished f
-      there Nothing f e = let none = awaited-unheld f in let z : ◌≡◌ {A = ℕ} 0 1 = cc in absurd (omega arith)
-      there (At i) f e =
+      there None f e = let none = awaited-unheld f in let z : ◌≡◌ {A = ℕ} 0 1 = cc in absurd (omega arith)
+      there (Some i) f e =
           let object = (w.held i f).gathers.object in
           (object, (missing-none (limit_of s) hs bs object).0 (awaited-known 0 e))
 
-      back : (found : Found) → find number s ≡ found → (f : Fits (limit_of s) hs bs) → Finished f
-          → missing number s ≡ Awaited.Bytes (Known 0)
-      back Nothing e f d = absurd (none-finished (limit_of s) hs bs f d (w.rest e).0)
-      back (At i) e f d = awaited-held i e ∙ ap Awaited.Bytes ((missing-none (limit_of s) hs bs f).1 d)
+      back : (found : Option ℕ) → find number s ≡ found → (f : Fits (limit_of s) hs bs) → Finished f
+          → missing number s ≡ Ok (Some 0)
+      back None e f d = absurd (none-finished (limit_of s) hs bs f d (w.rest e).0)
+      back (Some i) e f d = awaited-held i e ∙ ap Ok ((missing-none (limit_of s) hs bs f).1 d)
 
-  pub outside-exactly : (bytes : ℕ) → missing number s ≡ Awaited.Bytes (Known bytes) → (f : Fits (limit_of s) hs bs)
+  pub outside-exactly : (bytes : ℕ) → missing number s ≡ Ok (Some bytes) → (f : Fits (limit_of s) hs bs)
       → outside_of f ≡ bytes
   outside-exactly bytes e f = sym (missing-outside (limit_of s) hs bs f bytes (awaited-known bytes e))
 
   -- where the segments give a number, it is told: some are stored, so the number is held
-  pub known-awaited : (bytes : ℕ) → missing_of hs bs ≡ Known bytes → missing number s ≡ Awaited.Bytes (Known bytes)
+  pub known-awaited : (bytes : ℕ) → missing_of hs bs ≡ Some bytes → missing number s ≡ Ok (Some bytes)
   known-awaited bytes e = go (find number s) refl
     where
-      go : (found : Found) → find number s ≡ found → missing number s ≡ Awaited.Bytes (Known bytes)
-      go Nothing f = absurd (nothing_known hs bs (w.rest f).0 (w.rest f).1 bytes e)
-      go (At i) f = awaited-held i f ∙ ap Awaited.Bytes e
+      go : (found : Option ℕ) → find number s ≡ found → missing number s ≡ Ok (Some bytes)
+      go None f = absurd (nothing_known hs bs (w.rest f).0 (w.rest f).1 bytes e)
+      go (Some i) f = awaited-held i f ∙ ap Ok e
 
 -- ---- it never rises
 
 -- of two lists of segments: what the first give is known of the second too, and no larger
 abbrev Falls : List Segment → List Segment → List Segment → List Segment → Type 0
-Falls hs bs hs' bs' = (bytes : ℕ) → missing_of hs bs ≡ Known bytes
-    → (fewer : ℕ) × (missing_of hs' bs' ≡ Known fewer) × (fewer ≤ bytes)
+Falls hs bs hs' bs' = (bytes : ℕ) → missing_of hs bs ≡ Some bytes
+    → (fewer : ℕ) × (missing_of hs' bs' ≡ Some fewer) × (fewer ≤ bytes)
 
 falls-self : (hs bs : List Segment) → Falls hs bs hs bs
 falls-self hs bs bytes e = (bytes, e, omega arith)
@@ -129,12 +123,12 @@ stored_falls : (part : Part) (segment : Segment) (number : ℕ) (s : State) (hs 
     → Falls hs bs (headers_with part segment hs) (bodies_with part segment bs)
 stored_falls part segment number s hs bs w = go (find number s) refl part w
   where
-    go : (found : Found) → find number s ≡ found → (part : Part)
+    go : (found : Option ℕ) → find number s ≡ found → (part : Part)
         → StandsFor number s (headers_with part segment hs) (bodies_with part segment bs)
         → Falls hs bs (headers_with part segment hs) (bodies_with part segment bs)
-    go Nothing e Header w = let none = (w.rest e).0 in let z : ◌≡◌ {A = ℕ} 0 1 = cc in absurd (omega arith)
-    go Nothing e Body w = let none = (w.rest e).1 in let z : ◌≡◌ {A = ℕ} 0 1 = cc in absurd (omega arith)
-    go (At i) e part w = missing-falls part (limit_of s) segment hs bs (w.held i e).gathers.object
+    go None e Header w = let none = (w.rest e).0 in let z : ◌≡◌ {A = ℕ} 0 1 = cc in absurd (omega arith)
+    go None e Body w = let none = (w.rest e).1 in let z : ◌≡◌ {A = ℕ} 0 1 = cc in absurd (omega arith)
+    go (Some i) e part w = missing-falls part (limit_of s) segment hs bs (w.held i e).gathers.object
 
 -- a group or a segment
 module _ (number : ℕ) (s : State) (hs bs : List Segment) where
@@ -207,8 +201,8 @@ lasts number (call ∷ more) s events y d whole w =
 
 -- IT NEVER RISES while the number is held
 pub never-rises : (number bytes : ℕ) (more : List Call) (s : State) (events : List Event) → Each CallBytes more
-    → Each (Keeps number) more → Intact s → Stands s events → missing number s ≡ Awaited.Bytes (Known bytes)
-    → (fewer : ℕ) × (missing number (after defined more s) ≡ Awaited.Bytes (Known fewer)) × (fewer ≤ bytes)
+    → Each (Keeps number) more → Intact s → Stands s events → missing number s ≡ Ok (Some bytes)
+    → (fewer : ℕ) × (missing number (after defined more s) ≡ Ok (Some fewer)) × (fewer ≤ bytes)
 never-rises number bytes more s events y d whole w e =
     let l = lasts number more s events y d whole w in
     let known = awaited-known number s (stored_under Header number events) (stored_under Body number events)

@@ -1,5 +1,5 @@
 -- What a call can come to, case by case: the words in which all theorems here speak of the collector's own definitions.
-use Rattle.std.specs.Prelude.{◌≡◌, Bool, true, false, List, ℕ, ◌+◌, ◌*◌, ◌≤◌, length, drop, set}
+use Rattle.std.specs.Prelude.{◌≡◌, Option, None, Some, Bool, true, false, Result, Ok, Err, List, ℕ, ◌+◌, ◌*◌, ◌≤◌, length, drop, set}
 use Rattle.std.proofs.Math.Path.{refl}
 use Rattle.std.proofs.Common.{subst, append_assoc, arith, take-append-drop, drop-drop}
 use Rattle.octets.specs.Octets.{over, zeros, share}
@@ -10,15 +10,11 @@ use Rattle.answer.specs.declared.Reason.TheVariants as Reason
 use Rattle.answer.specs.declared.Refusal.{Refusal}
 use Rattle.counts.specs.Counted.{none_yet, counted}
 use Rattle.wire.specs.declared.Carried.{Carried}
-use Rattle.wire.specs.declared.Reading.{Reading}
-use Rattle.wire.specs.declared.Reading.TheVariants.{Read, Refused}
 use Rattle.wire.specs.Reading.{reading_of}
 use Rattle.cut.specs.Requirement.{header_most}
 use Rattle.object.specs.declared.Slot.{Slot}
 use Rattle.object.specs.Take.{Taken, take_into}
 use Rattle.object.specs.Parts.{Lent}
-use Rattle.slots.specs.declared.Found.{Found}
-use Rattle.slots.specs.declared.Found.TheVariants.{Nothing, At}
 use Rattle.slots.specs.Stores.{slot_marks, Stores, lent_at, with_lent, free_slot, fresh_slot}
 use Rattle.slots.specs.Alone.{fits_alone}
 use Rattle.slots.specs.Take.{Inside, take_at, take_new, drop_at}
@@ -65,38 +61,38 @@ offering arrived i s taken = replacing (answer_for taken.outcome arrived) i take
 -- what the segment of a group that was read comes to
 pub data Came (arrived : Arrival) (s : State) (t : Reply) : Type 0 where
   -- no slot holds its number, and it conflicts alone
-  alone : find arrived.number s ≡ Nothing → fits_alone arrived.part (limit_of s) arrived.segment ≡ false
+  alone : find arrived.number s ≡ None → fits_alone arrived.part (limit_of s) arrived.segment ≡ false
       → t ≡ answering (Answer.Conflict (heard_as arrived)) s → Came arrived s t
   -- no slot holds its number, it fits, and none is free
-  full : find arrived.number s ≡ Nothing → fits_alone arrived.part (limit_of s) arrived.segment ≡ true
-      → free s ≡ Nothing → t ≡ answering (Answer.Full (heard_as arrived)) s → Came arrived s t
+  full : find arrived.number s ≡ None → fits_alone arrived.part (limit_of s) arrived.segment ≡ true
+      → free s ≡ None → t ≡ answering (Answer.Full (heard_as arrived)) s → Came arrived s t
   -- it takes the lowest free slot
-  first : (i : ℕ) → find arrived.number s ≡ Nothing → fits_alone arrived.part (limit_of s) arrived.segment ≡ true
-      → free s ≡ At i
+  first : (i : ℕ) → find arrived.number s ≡ None → fits_alone arrived.part (limit_of s) arrived.segment ≡ true
+      → free s ≡ Some i
       → t ≡ offering arrived i s (take_into arrived.part (limit_of s) arrived.segment (fresh_slot arrived.number)
       (lent_of i s)) → Came arrived s t
   -- it is offered to the slot that holds its number
-  more : (i : ℕ) → find arrived.number s ≡ At i
+  more : (i : ℕ) → find arrived.number s ≡ Some i
       → t ≡ offering arrived i s (take_into arrived.part (limit_of s) arrived.segment (slot_of i s) (lent_of i s))
       → Came arrived s t
 
-came-free : (arrived : Arrival) (s : State) → find arrived.number s ≡ Nothing
-    → fits_alone arrived.part (limit_of s) arrived.segment ≡ true → (found : Found) → free s ≡ found
+came-free : (arrived : Arrival) (s : State) → find arrived.number s ≡ None
+    → fits_alone arrived.part (limit_of s) arrived.segment ≡ true → (found : Option ℕ) → free s ≡ found
     → Came arrived s (into_free found arrived s)
 unfolding take_new
-came-free arrived s n a Nothing e = full n a e refl
-came-free arrived s n a (At i) e = first i n a e refl
+came-free arrived s n a None e = full n a e refl
+came-free arrived s n a (Some i) e = first i n a e refl
 
-came-alone : (arrived : Arrival) (s : State) → find arrived.number s ≡ Nothing → (fits : Bool)
+came-alone : (arrived : Arrival) (s : State) → find arrived.number s ≡ None → (fits : Bool)
     → fits_alone arrived.part (limit_of s) arrived.segment ≡ fits → Came arrived s (if_alone fits arrived s)
 came-alone arrived s n false e = alone n e refl
 came-alone arrived s n true e = came-free arrived s n e (free s) refl
 
-came_held : (arrived : Arrival) (s : State) (found : Found) → find arrived.number s ≡ found
+came_held : (arrived : Arrival) (s : State) (found : Option ℕ) → find arrived.number s ≡ found
     → Came arrived s (into_held found arrived s)
 unfolding take_at
-came_held arrived s Nothing e = came-alone arrived s e (fits_alone arrived.part (limit_of s) arrived.segment) refl
-came_held arrived s (At i) e = more i e refl
+came_held arrived s None e = came-alone arrived s e (fits_alone arrived.part (limit_of s) arrived.segment) refl
+came_held arrived s (Some i) e = more i e refl
 
 -- a segment comes in
 module _ (arrived : Arrival) (s : State) where
@@ -115,12 +111,12 @@ module _ (bytes : List ℕ) (s : State) where
   group-damaged d = rw d refl
 
   module _ (good : sound s ≡ true) where
-    group-unread : (why : Refusal) → reading_of bytes ≡ Refused why
+    group-unread : (why : Refusal) → reading_of bytes ≡ Err why
         → take_group bytes s ≡ answering (Answer.Refused why) s
     unfolding take_group
     group-unread why e = rw (good, e) refl
 
-    group-came : (carried : Carried) → reading_of bytes ≡ Read carried
+    group-came : (carried : Carried) → reading_of bytes ≡ Ok carried
         → Came (arrival_in bytes carried) s (take_group bytes s)
     unfolding take_group
     group-came carried e = rw (good, e) (segment-came (arrival_in bytes carried) s good)
@@ -135,20 +131,20 @@ pub unread : (given : Handed) (s : State) → sound s ≡ true → (why : Refusa
     → take given s ≡ answering (Answer.Refused why) s
 unread (group bytes) s good why e = go (reading_of bytes) refl e
   where
-    go : (reading : Reading) → reading_of bytes ≡ reading → brought_in reading bytes ≡ refused why
+    go : (reading : Result Carried Refusal) → reading_of bytes ≡ reading → brought_in reading bytes ≡ refused why
         → take_group bytes s ≡ answering (Answer.Refused why) s
-    go (Refused other) r f = let same : other ≡ why = cc in rw same at (group-unread bytes s good other r)
-    go (Read carried) r f = let z : ◌≡◌ {A = ℕ} 0 1 = cc in absurd (omega arith)
+    go (Err other) r f = let same : other ≡ why = cc in rw same at (group-unread bytes s good other r)
+    go (Ok carried) r f = let z : ◌≡◌ {A = ℕ} 0 1 = cc in absurd (omega arith)
 unread (segment heard last bytes) s good why e = let z : ◌≡◌ {A = ℕ} 0 1 = cc in absurd (omega arith)
 
 pub came : (given : Handed) (s : State) → sound s ≡ true → (arrived : Arrival) → brought_by given ≡ arrives arrived
     → Came arrived s (take given s)
 came (group bytes) s good arrived e = go (reading_of bytes) refl e
   where
-    go : (reading : Reading) → reading_of bytes ≡ reading → brought_in reading bytes ≡ arrives arrived
+    go : (reading : Result Carried Refusal) → reading_of bytes ≡ reading → brought_in reading bytes ≡ arrives arrived
         → Came arrived s (take_group bytes s)
-    go (Refused why) r f = let z : ◌≡◌ {A = ℕ} 0 1 = cc in absurd (omega arith)
-    go (Read carried) r f =
+    go (Err why) r f = let z : ◌≡◌ {A = ℕ} 0 1 = cc in absurd (omega arith)
+    go (Ok carried) r f =
         let same : arrival_in bytes carried ≡ arrived = cc in
         subst (λ (a : Arrival). Came a s (take_group bytes s)) same (group-came bytes s good carried r)
 came (segment heard last bytes) s good arrived e =
@@ -197,11 +193,11 @@ module _ (number : ℕ) (s : State) where
   drop-damaged d = rw d refl
 
   module _ (good : sound s ≡ true) where
-    pub none_dropped : find number s ≡ Nothing → drop_number number s ≡ answering (Answer.Denied Reason.NotHeld) s
+    pub none_dropped : find number s ≡ None → drop_number number s ≡ answering (Answer.Denied Reason.NotHeld) s
     unfolding drop_number
     none_dropped e = rw (good, e) refl
 
-    pub found-dropped : (i : ℕ) → Inside (limit_of s) i s.stores → find number s ≡ At i
+    pub found-dropped : (i : ℕ) → Inside (limit_of s) i s.stores → find number s ≡ Some i
         → drop_number number s ≡ replacing (Answer.Dropped number) i free_slot (cleared (lent_of i s)) s
     unfolding drop_number drop_at
     found-dropped i inside e = rw (good, e, lent-cleared (limit_of s) i s.stores inside) refl

@@ -1,33 +1,27 @@
 -- WRONG OPENINGS, and groups and drops that go wrong in what they leave, in a damaged state, or in a state that no run
 -- reaches. Each is the collector's own definitions with one piece that is wrong, and is proved to break the promise
 -- that shuts it out.
-use Rattle.std.specs.Prelude.{◌≡◌, refl, ◌≢◌, List, [], ◌∷◌, ℕ, suc, ◌+◌, ◌*◌, eqb, leb, ltb, length, get_or, replicate}
+use Rattle.std.specs.Prelude.{◌≡◌, refl, ◌≢◌, Result, Ok, Err, Option, None, Some, List, [], ◌∷◌, ℕ, suc, ◌+◌, ◌*◌, eqb, leb, ltb, length, get_or, replicate}
 use Rattle.std.proofs.Common.{ap, arith}
 use Rattle.std.proofs.lemmas.List.{length-replicate}
 use Rattle.octets.specs.Octets.{over, zeros, largest_of}
 use Rattle.answer.specs.declared.Answer.TheVariants as Answer
-use Rattle.answer.specs.declared.Reason.TheVariants as Reason
+use Rattle.answer.specs.declared.Reason.{Reason}
+use Rattle.answer.specs.declared.Refusal.{Refusal}
 use Rattle.answer.specs.declared.Refusal.TheVariants as Refusal
 use Rattle.answer.specs.Table.{number_of}
 use Rattle.counts.specs.Counted.{ceiling, none_yet, one_taken, one_refused}
 use Rattle.wire.specs.declared.Carried.{Carried}
-use Rattle.wire.specs.declared.Reading.{Reading}
-use Rattle.wire.specs.declared.Reading.TheVariants.{Read, Refused}
 use Rattle.wire.specs.Reading.{reading_of}
 use Rattle.cut.specs.laws.Lists.{bytes-zeros}
 use Rattle.cut.specs.Requirement.{header_most, limit_least}
 use Rattle.cut.specs.Lists.{both, pick}
-use Rattle.slots.specs.declared.Found.{Found}
-use Rattle.slots.specs.declared.Found.TheVariants.{Nothing, At}
 use Rattle.slots.specs.Stores.{slots_most, Stores}
 use Rattle.slots.specs.State.{sound_slots}
-use Rattle.collector.specs.declared.Opening.TheVariants as Opening
 use Rattle.collector.specs.State.{Start, Opened, Reply, State, all_free, find, free}
 use Rattle.collector.specs.Calls.{drop_found, drop_number, in_limits, open_with, into_held, take_group, answering, sound}
 use Rattle.collector.specs.Arrival.{segment_in, arrival_in}
 use Rattle.queries.specs.Questions as queries
-use Rattle.queries.specs.declared.Sought.{Sought}
-use Rattle.queries.specs.declared.Sought.TheVariants as Sought
 use Rattle.history.specs.Handed.{group}
 use Rattle.history.specs.Held.{limit_of}
 use Rattle.history.specs.laws.State.{in-order-exactly}
@@ -45,7 +39,7 @@ use Rattle.history.specs.laws.Call.{defined}
 -- open, whatever was asked for
 abbrev open_for : Start → Opened
 open_for start = record {
-  opening = Opening.Open;
+  opening = Ok tt;
   left = record {
     collector = all_free start.limit start.count;
     counts = none_yet;
@@ -56,7 +50,7 @@ open_for start = record {
 -- refused, with a collector of limit 0 and no slots
 abbrev refused_for : Start → Opened
 refused_for start = record {
-  opening = Opening.Denied Reason.Limits;
+  opening = Err Reason.Limits;
   left = record { collector = all_free 0 0; counts = start.counts; stores = start.stores };
 }
 
@@ -189,7 +183,7 @@ raises_limit start =
     pick (leb limit_least start.limit)
     (open_with start)
     (record {
-      opening = Opening.Denied Reason.Limits;
+      opening = Err Reason.Limits;
       left = record { collector = all_free limit_least start.count; counts = start.counts; stores = start.stores };
     })
 
@@ -212,9 +206,9 @@ raises-limit-breaks p =
 -- ---- what a drop leaves
 
 -- a drop clears the header of the object that it drops
-abbrev cleared_in : Found → Stores → Stores
-cleared_in Nothing stores = stores
-cleared_in (At i) stores = with_header (over stores.header (i * header_most) (zeros header_most)) stores
+abbrev cleared_in : Option ℕ → Stores → Stores
+cleared_in None stores = stores
+cleared_in (Some i) stores = with_header (over stores.header (i * header_most) (zeros header_most)) stores
 
 abbrev pub clears_header : ℕ → State → Reply
 clears_header number s = record {
@@ -277,16 +271,16 @@ repeat-taken-breaks p =
 
 -- its bytes are written once more, at its number times its own length
 abbrev place_in : ℕ → Carried → State → ℕ
-place_in i carried s = i * limit_of s + carried.segment * carried.length
+place_in i carried s = i * limit_of s + carried.heard.segment * carried.bytes.length
 
-abbrev written_in : Found → Carried → List ℕ → State → State
-written_in Nothing carried bytes s = s
-written_in (At i) carried bytes s =
+abbrev written_in : Option ℕ → Carried → List ℕ → State → State
+written_in None carried bytes s = s
+written_in (Some i) carried bytes s =
     with_stores (with_body (over s.stores.body (place_in i carried s) (segment_in bytes carried).bytes) s.stores) s
 
-abbrev written_as : Reading → List ℕ → State → State
-written_as (Read carried) bytes s = written_in (find carried.number s) carried bytes s
-written_as (Refused why) bytes s = s
+abbrev written_as : Result Carried Refusal → List ℕ → State → State
+written_as (Ok carried) bytes s = written_in (find carried.heard.number s) carried bytes s
+written_as (Err why) bytes s = s
 
 abbrev pub repeat_written : List ℕ → State → Reply
 repeat_written bytes s =
@@ -306,9 +300,9 @@ repeat-written-breaks p =
 -- ---- in a damaged state
 
 -- a group does not look at the counts
-abbrev read_uncounted : Reading → List ℕ → State → Reply
-read_uncounted (Refused why) bytes s = answering (Answer.Refused why) s
-read_uncounted (Read carried) bytes s = into_held (find carried.number s) (arrival_in bytes carried) s
+abbrev read_uncounted : Result Carried Refusal → List ℕ → State → Reply
+read_uncounted (Err why) bytes s = answering (Answer.Refused why) s
+read_uncounted (Ok carried) bytes s = into_held (find carried.heard.number s) (arrival_in bytes carried) s
 
 abbrev pub takes_uncounted : List ℕ → State → Reply
 takes_uncounted bytes s =
@@ -402,7 +396,7 @@ by-marks k p = p uncounted (recounted-bytes one) (recounted one none_yet refl)
 -- where nothing was taken yet the first slot is free: a group meets the marks of the object there, and is CONFLICT
 abbrev pub first_slot_free : List ℕ → State → Reply
 first_slot_free bytes s =
-    choosing (λ carried t. pick (eqb t.counts.taken 0) (At 0) (free t)) (reading_of bytes) bytes s
+    choosing (λ carried t. pick (eqb t.counts.taken 0) (Some 0) (free t)) (reading_of bytes) bytes s
 
 -- it is FULL
 pub first-slot-free-breaks : ¬ (MarkedExactly (taking_by first_slot_free))
@@ -431,13 +425,13 @@ none-taken-breaks p =
     let e : ◌≡◌ {A = ℕ} 19 3 = ap number_of (((by-marks (dropping_by none_taken) p).dropping 5).0.1 held) in
     absurd (omega arith)
   where
-    held : find 5 uncounted ≢ Nothing
+    held : find 5 uncounted ≢ None
     held e = let z : ◌≡◌ {A = ℕ} 0 16 = ap found_slot e in absurd (omega arith)
 
 -- where nothing was completed yet no object has a name
-abbrev pub none_completed : List ℕ → State → Sought
+abbrev pub none_completed : List ℕ → State → Result ℕ Reason
 none_completed sought s =
-    pick (both (sound s) (eqb s.counts.completed 0)) (Sought.Denied Reason.NotFound) (queries.find sought s)
+    pick (both (sound s) (eqb s.counts.completed 0)) (Err Reason.NotFound) (queries.find sought s)
 
 abbrev named_uncounted : State
 named_uncounted = with_counts none_yet (reached_by defined named)

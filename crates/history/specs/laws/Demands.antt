@@ -1,11 +1,12 @@
 -- What is answered in a state whose slots hold just what is stored, call by call; then so after any run, and so by
 -- the marks of any state that is not damaged.
-use Rattle.std.specs.Prelude.{◌≡◌, refl, ◌≢◌, ◌⊎◌, ◌↔◌, List, [], ◌∷◌, ℕ, ◌≤◌, length}
+use Rattle.std.specs.Prelude.{◌≡◌, refl, ◌≢◌, ◌⊎◌, ◌↔◌, Result, Option, None, List, [], ◌∷◌, ℕ, ◌≤◌, length, Ok, Some}
 use Rattle.std.proofs.Common.{ap, subst, inl, inr, arith}
 use Rattle.answer.specs.declared.Answer.TheVariants as Answer
 use Rattle.answer.specs.declared.Reason.TheVariants as Reason
 use Rattle.answer.specs.declared.Part.{Part}
 use Rattle.answer.specs.declared.Part.TheVariants.{Header, Body}
+use Rattle.answer.specs.declared.Refusal.{Refusal}
 use Rattle.cut.specs.Requirement.{Segment, empty, Fits, Finished}
 use Rattle.cut.specs.Parts.{those}
 use Rattle.cut.specs.Lists.{Each, Among}
@@ -13,12 +14,8 @@ use Rattle.object.specs.declared.Stage.TheVariants as Stage
 use Rattle.object.specs.declared.Outcome.{Outcome}
 use Rattle.object.specs.declared.Outcome.TheVariants.{Stored, Complete, Repeat, Conflict}
 use Rattle.object.specs.laws.Step.{late}
-use Rattle.slots.specs.declared.Found.{Found}
-use Rattle.slots.specs.declared.Found.TheVariants.{Nothing, At}
 use Rattle.collector.specs.State.{Start, Reply, State, find}
 use Rattle.collector.specs.Calls.{answer_for, show}
-use Rattle.cut.specs.declared.Amount.TheVariants.{Known}
-use Rattle.queries.specs.declared.Awaited.TheVariants as Awaited
 use Rattle.queries.specs.Missing.{missing}
 use Rattle.queries.specs.laws.Theorems.{core-shown}
 use Rattle.history.specs.Held.{SlotFor, Same, limit_of, stage_for, marked_under}
@@ -26,7 +23,7 @@ use Rattle.history.specs.laws.Call.{drop_answer, unread, came, none_dropped, fou
 use Rattle.history.specs.laws.Ready.{used-inside, found-used}
 use Rattle.history.specs.laws.Sound.{Intact, brought-bytes, handed-intact}
 use Rattle.history.specs.laws.State.{in-order-exactly, drop-never, located-never, told-never, found-never, awaited-never, handed-never}
-use Rattle.wire.specs.declared.Reading.{Reading}
+use Rattle.wire.specs.declared.Carried.{Carried}
 use Rattle.wire.specs.laws.Theorems.{ignored, read-repetition}
 use Rattle.collector.specs.Arrival.{segment_in, heard_in, arrival_in}
 use Rattle.history.specs.laws.Numbers.{byte_low}
@@ -81,16 +78,16 @@ module _ (s : State) (kept : Part → ℕ → List Segment) (whole : Intact s)
   resent-by : ResentBy defined (holding s kept)
   resent-by bytes again carried y e i same holds =
       let x = ignored bytes again carried same (byte_low again 0 y) holds e in
-      let there : Among (segment_in again x.0) (kept x.0.part x.0.number) =
-      rw (x.2.number, x.2.part, x.2.segment, x.2.last, x.2.bytes) i in
+      let there : Among (segment_in again x.0) (kept x.0.heard.part x.0.heard.number) =
+      rw (x.2.heard, x.2.last, x.2.bytes) i in
       let repeats : (take (group again) s).answer ≡ Answer.Repeat (heard_in x.0) x.0.repetition =
       (repeat-by (record {
         given = group again;
         are_bytes = y;
         arrived = arrival_in again x.0;
-        brought = ap (λ (r : Reading). brought_in r again) x.1;
+        brought = ap (λ (r : Result Carried Refusal). brought_in r again) x.1;
       })).1 there in
-      rw (x.2.number, x.2.part, x.2.segment, read-repetition again x.0 x.1) at repeats
+      rw (x.2.heard, read-repetition again x.0 x.1) at repeats
 
   complete-by : CompleteBy defined (holding s kept)
   complete-by g = (
@@ -143,19 +140,19 @@ module _ (s : State) (kept : Part → ℕ → List Segment) (whole : Intact s)
   unread-by : UnreadBy defined (holding s kept)
   unread-by bytes why e =
       ap (λ (t : Reply). t.answer)
-      (unread (group bytes) s whole.undamaged why (ap (λ (r : Reading). brought_in r bytes) e))
+      (unread (group bytes) s whole.undamaged why (ap (λ (r : Result Carried Refusal). brought_in r bytes) e))
 
   drop-by : DropBy defined (holding s kept)
   drop-by number = go (find number s) refl
     where
-      go : (found : Found) → find number s ≡ found
-          → ((drop_answer number s ≡ Answer.Dropped number) ↔ (find number s ≢ Nothing))
-          × ((drop_answer number s ≡ Answer.Denied Reason.NotHeld) ↔ (find number s ≡ Nothing))
-      go Nothing e =
+      go : (found : Option ℕ) → find number s ≡ found
+          → ((drop_answer number s ≡ Answer.Dropped number) ↔ (find number s ≢ None))
+          × ((drop_answer number s ≡ Answer.Denied Reason.NotHeld) ↔ (find number s ≡ None))
+      go None e =
           let a : drop_answer number s ≡ Answer.Denied Reason.NotHeld =
           ap (λ (t : Reply). t.answer) (none_dropped number s whole.undamaged e) in
           (((λ d. let z : ◌≡◌ {A = ℕ} 0 1 = cc in absurd (omega arith)), (λ n. absurd (n e))), ((λ d. e), (λ n. a)))
-      go (At i) e =
+      go (Some i) e =
           let a : drop_answer number s ≡ Answer.Dropped number =
           ap (λ (t : Reply). t.answer) (found-dropped number s whole.undamaged i
           (used-inside s whole.undamaged i (found-used s whole.undamaged number i e)) e) in (
@@ -316,8 +313,8 @@ module _ (r : Run) where
 
   -- calls that do not drop a number
   pub never-more : (number bytes : ℕ) (more : List Call) → Each CallBytes more → Each (Keeps number) more
-      → missing number (reached_by defined r) ≡ Awaited.Bytes (Known bytes) → (fewer : ℕ)
-      × (missing number (after defined more (reached_by defined r)) ≡ Awaited.Bytes (Known fewer)) × (fewer ≤ bytes)
+      → missing number (reached_by defined r) ≡ Ok (Some bytes) → (fewer : ℕ)
+      × (missing number (after defined more (reached_by defined r)) ≡ Ok (Some fewer)) × (fewer ≤ bytes)
   never-more number bytes more y d e =
       never-rises number bytes more (reached_by defined r) (told defined r.start r.calls) y d whole stands e
 

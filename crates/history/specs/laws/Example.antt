@@ -2,12 +2,10 @@
 -- another number, a conflict and each question. It meets all that the promises ask, and a part of it comes from one
 -- cut of one object. A text card with nothing in it, document 02, Item 2, its empty segment before and after its
 -- header. And a segment that comes by itself, then in a group whose sender says something of repeats, Item 6.
-use Rattle.std.specs.Prelude.{◌≡◌, refl, true, List, [], ◌∷◌, ℕ}
+use Rattle.std.specs.Prelude.{◌≡◌, refl, true, List, [], ◌∷◌, None, ℕ, Ok, Err, Some}
 use Rattle.std.proofs.Common.{arith}
 use Rattle.answer.specs.declared.Answer.TheVariants as Answer
 use Rattle.answer.specs.declared.Reason.TheVariants as Reason
-use Rattle.cut.specs.declared.Amount.TheVariants.{Unknown, Known}
-use Rattle.queries.specs.declared.Awaited.TheVariants as Awaited
 use Rattle.answer.specs.declared.Heard.{Heard}
 use Rattle.answer.specs.declared.Part.{Part}
 use Rattle.answer.specs.declared.Part.TheVariants.{Header, Body}
@@ -15,13 +13,8 @@ use Rattle.answer.specs.declared.Refusal.TheVariants as Refusal
 use Rattle.cut.specs.Requirement.{Segment}
 use Rattle.cut.specs.Lists.{Each, Among}
 use Rattle.header.specs.declared.Fields.{Fields}
-use Rattle.header.specs.declared.Name.TheVariants as Name
-use Rattle.header.specs.declared.Priority.TheVariants as Priority
 use Rattle.object.specs.declared.Stage.TheVariants as Stage
 use Rattle.object.specs.Source.{SegmentOf}
-use Rattle.collector.specs.declared.Located.TheVariants as Located
-use Rattle.queries.specs.declared.Asked.TheVariants as Asked
-use Rattle.queries.specs.declared.Sought.TheVariants as Sought
 use Rattle.collector.specs.Calls.{show}
 use Rattle.collector.specs.Arrival.{no_repetition}
 use Rattle.history.specs.Handed.{group, segment}
@@ -92,18 +85,17 @@ core = record {
   header_size = 7;
   content_type = 0;
   content_sub_type = 0;
-  priority =
-      Priority.Absent;
-  name = Name.Absent;
+  priority = None;
+  name = None;
 }
 
 pub answers : told ours small calls
     ≡ dropped 5 (Answer.Dropped 5)
     ∷ dropped 6 (Answer.Denied Reason.NotHeld)
-    ∷ asked (Question.find (0x61 ∷ [])) (found (Sought.Denied Reason.NotFound))
-    ∷ asked (Question.name 5) (named (Asked.Fields core) [])
-    ∷ asked (Question.parameters 5) (read (Asked.Fields core))
-    ∷ asked (Question.show 5 Body) (shown (Located.At 0)
+    ∷ asked (Question.find (0x61 ∷ [])) (found (Err Reason.NotFound))
+    ∷ asked (Question.name 5) (named (Ok core) [])
+    ∷ asked (Question.parameters 5) (read (Ok core))
+    ∷ asked (Question.show 5 Body) (shown (Ok 0)
     (0x61 ∷ 0x62 ∷ 0x63 ∷ 0x64 ∷ 0x65 ∷ 0x66 ∷ 0x67 ∷ 0x68 ∷ 0x69 ∷ 0x6A ∷ 0x6B ∷ 0x6C ∷ 0x6D ∷ 0x6E ∷ 0x6F ∷ 0x70
     ∷ 0x74 ∷ 0x75 ∷ 0x76 ∷ 0x77 ∷ []))
     ∷ handed (group (0 ∷ [])) (Answer.Refused Refusal.Length)
@@ -140,13 +132,13 @@ pub progress : told ours small
     ∷ hand (group body_last)
     ∷ ask (Question.missing 5)
     ∷ [])
-    ≡ asked (Question.missing 5) (awaited (Awaited.Bytes (Known 0)))
+    ≡ asked (Question.missing 5) (awaited (Ok (Some 0)))
     ∷ handed (group body_first) (Answer.Complete (in_body 0) no_repetition)
-    ∷ asked (Question.missing 5) (awaited (Awaited.Bytes (Known 16)))
+    ∷ asked (Question.missing 5) (awaited (Ok (Some 16)))
     ∷ handed (group header) (Answer.Stored (in_header 5) no_repetition)
-    ∷ asked (Question.missing 5) (awaited (Awaited.Bytes Unknown))
+    ∷ asked (Question.missing 5) (awaited (Ok None))
     ∷ handed (group body_last) (Answer.Stored (in_body 1) no_repetition)
-    ∷ asked (Question.missing 5) (awaited (Awaited.Denied Reason.NotHeld))
+    ∷ asked (Question.missing 5) (awaited (Err Reason.NotHeld))
     ∷ []
 unfolding computing small
 progress = refl

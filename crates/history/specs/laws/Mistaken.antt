@@ -1,47 +1,34 @@
 -- WRONG ANSWERS TO QUESTIONS. Each is the collector's own definitions with one question that is answered wrongly, and
 -- is proved to break the promise that shuts it out. What the collector itself answers after the same run is right.
-use Rattle.std.specs.Prelude.{◌≡◌, refl, Bool, List, [], ◌∷◌, ℕ, suc, ◌+◌, ◌-◌, ◌*◌, min, eqb, ltb, length, get_or, take, drop}
+use Rattle.std.specs.Prelude.{◌≡◌, refl, Bool, Result, Ok, Err, List, [], ◌∷◌, ℕ, suc, ◌+◌, ◌-◌, ◌*◌, min, eqb, ltb, length, get_or, take, drop, Option, Some, None}
 use Rattle.std.proofs.Common.{sym, ap, ◌∙◌, arith}
 use Rattle.octets.specs.Octets.{equal, part}
 use Rattle.answer.specs.declared.Answer.TheVariants as Answer
-use Rattle.answer.specs.declared.Reason.TheVariants as Reason
+use Rattle.answer.specs.declared.Reason.{Reason}
 use Rattle.answer.specs.declared.Part.{Part}
 use Rattle.answer.specs.declared.Part.TheVariants.{Header, Body}
 use Rattle.answer.specs.Table.{number_of}
 use Rattle.counts.specs.Counted.{ceiling, none_yet, one_refused}
-use Rattle.wire.specs.declared.Reading.{Reading as WireReading}
-use Rattle.wire.specs.declared.Reading.TheVariants.{Read, Refused}
+use Rattle.answer.specs.declared.Refusal.{Refusal}
 use Rattle.answer.specs.declared.Refusal.TheVariants.{BadCheck}
+use Rattle.wire.specs.declared.Carried.{Carried}
 use Rattle.wire.specs.Wire.{end_user_address, end_user_address_length}
 use Rattle.wire.specs.Reading.{reading_of}
 use Rattle.cut.specs.Requirement.{header_size}
-use Rattle.cut.specs.declared.Amount.TheVariants.{Unknown, Known}
 use Rattle.cut.specs.laws.Theorem.{fits-sent}
 use Rattle.cut.specs.Lists.{pick}
-use Rattle.header.specs.declared.Reading.TheVariants as Reading
+use Rattle.header.specs.declared.Fields.{Fields}
 use Rattle.header.specs.declared.Refusal.TheVariants as Refusal
 use Rattle.header.specs.Parameters.{read_header}
 use Rattle.header.specs.Names.{name_data, has_name}
 use Rattle.object.specs.declared.Slot.{Slot}
 use Rattle.object.specs.declared.Stage.{Stage}
 use Rattle.object.specs.declared.Stage.TheVariants as Stage
-use Rattle.slots.specs.declared.Found.{Found}
-use Rattle.slots.specs.declared.Found.TheVariants.{Nothing, At}
-use Rattle.name_search.specs.declared.Holder.{Holder}
-use Rattle.name_search.specs.declared.Holder.TheVariants.{Nobody, Number}
 use Rattle.name_search.specs.Finding.{lower, holds_name, found_by_name}
-use Rattle.collector.specs.declared.Located.{Located}
-use Rattle.collector.specs.declared.Located.TheVariants as Located
 use Rattle.collector.specs.State.{State, find}
 use Rattle.collector.specs.Calls.{locate, located_in, show, shown_at}
 use Rattle.queries.specs.Questions as queries
-use Rattle.queries.specs.declared.Asked.{Asked}
-use Rattle.queries.specs.declared.Asked.TheVariants as Asked
-use Rattle.queries.specs.declared.Awaited.{Awaited}
-use Rattle.queries.specs.declared.Awaited.TheVariants as Awaited
 use Rattle.queries.specs.Missing.{awaited_in, missing}
-use Rattle.queries.specs.declared.Sought.{Sought}
-use Rattle.queries.specs.declared.Sought.TheVariants as Sought
 use Rattle.queries.specs.Questions.{asked_of, sought_as}
 use Rattle.queries.specs.Said.{asked_as}
 use Rattle.history.specs.Held.{lent_of, stage_for}
@@ -57,7 +44,7 @@ use Rattle.history.specs.laws.Call.{defined}
 -- ---- in a damaged state
 
 -- the counts are never looked at
-abbrev pub counts_unasked : ℕ → State → Located
+abbrev pub counts_unasked : ℕ → State → Result ℕ Reason
 counts_unasked number s = locate number (with_counts none_yet s)
 
 pub counts-unasked-breaks : ¬ (StateAskExactly (locating_by counts_unasked))
@@ -67,7 +54,7 @@ counts-unasked-breaks p =
     absurd (omega arith)
 
 -- a name is looked for in any state
-abbrev pub searches_damaged : List ℕ → State → Sought
+abbrev pub searches_damaged : List ℕ → State → Result ℕ Reason
 searches_damaged sought s = sought_as (found_by_name sought s.collector.count s.collector.slots s.stores.header)
 
 pub searches-damaged-breaks : ¬ (StateAskExactly (finding_by searches_damaged))
@@ -87,9 +74,9 @@ shows-damaged-breaks p =
     absurd (omega arith)
 
 -- STATE where more objects were completed than segments taken
-abbrev pub doubts_counts : ℕ → State → Asked
+abbrev pub doubts_counts : ℕ → State → Result Fields Reason
 doubts_counts number s =
-    pick (ltb s.counts.taken s.counts.completed) (Asked.Denied Reason.State) (queries.parameters number s)
+    pick (ltb s.counts.taken s.counts.completed) (Err Reason.State) (queries.parameters number s)
 
 pub doubts-counts-breaks : ¬ (StateAskExactly (telling_by doubts_counts))
 unfolding computing small
@@ -98,9 +85,9 @@ doubts-counts-breaks p = ((p doubted (recounted-bytes one)).1 5).0 refl (recount
 -- ---- what a question leaves
 
 -- a question that is refused is counted so
-abbrev counted_as : Located → State → State
-counted_as (Located.At i) s = s
-counted_as (Located.Denied why) s = with_counts (one_refused s.counts) s
+abbrev counted_as : Result ℕ Reason → State → State
+counted_as (Ok i) s = s
+counted_as (Err why) s = with_counts (one_refused s.counts) s
 
 abbrev pub counts_questions : Question → State → State
 counts_questions (Question.show number part) s = counted_as (locate number s) s
@@ -135,11 +122,11 @@ mends-counts-breaks p =
 -- ---- NOTHELD
 
 -- UNFINISHED for a number that holds no slot
-abbrev unfinished_as : Found → ℕ → State → Located
-unfinished_as Nothing number s = Located.Denied Reason.Unfinished
-unfinished_as (At i) number s = locate number s
+abbrev unfinished_as : Option ℕ → ℕ → State → Result ℕ Reason
+unfinished_as None number s = Err Reason.Unfinished
+unfinished_as (Some i) number s = locate number s
 
-abbrev pub unfinished_unheld : ℕ → State → Located
+abbrev pub unfinished_unheld : ℕ → State → Result ℕ Reason
 unfinished_unheld number s = unfinished_as (find number s) number s
 
 pub unfinished-unheld-breaks : ¬ (NotHeldExactly (locating_by unfinished_unheld))
@@ -149,7 +136,7 @@ unfinished-unheld-breaks p =
     absurd (omega arith)
 
 -- what is shown is read, and nobody asks whether anything is: fields of no bytes
-abbrev pub reads_nothing : ℕ → State → Asked
+abbrev pub reads_nothing : ℕ → State → Result Fields Reason
 reads_nothing number s = asked_as (read_header (show number Header s))
 
 pub reads-nothing-breaks : ¬ (NotHeldExactly (telling_by reads_nothing))
@@ -161,11 +148,11 @@ reads-nothing-breaks p =
 -- ---- UNFINISHED
 
 -- NOTHELD for an object until it is finished
-abbrev not_held_as : Located → Located
-not_held_as (Located.At i) = Located.At i
-not_held_as (Located.Denied why) = Located.Denied Reason.NotHeld
+abbrev not_held_as : Result ℕ Reason → Result ℕ Reason
+not_held_as (Ok i) = Ok i
+not_held_as (Err why) = Err Reason.NotHeld
 
-abbrev pub not_held_unfinished : ℕ → State → Located
+abbrev pub not_held_unfinished : ℕ → State → Result ℕ Reason
 not_held_unfinished number s = not_held_as (locate number s)
 
 pub not-held-unfinished-breaks : ¬ (UnfinishedExactly (locating_by not_held_unfinished))
@@ -179,12 +166,12 @@ abbrev header_early : ℕ → State → List ℕ
 header_early i s =
     pick (eqb (get_or (lent_of i s).marks 0 0) 1) (take (header_size (lent_of i s).header) (lent_of i s).header) []
 
-abbrev early_in : Found → State → List ℕ
-early_in Nothing s = []
-early_in (At i) s = header_early i s
+abbrev early_in : Option ℕ → State → List ℕ
+early_in None s = []
+early_in (Some i) s = header_early i s
 
 -- a header is read as soon as its segment 0 is in, and the body is not waited for
-abbrev pub reads_early : ℕ → State → Asked
+abbrev pub reads_early : ℕ → State → Result Fields Reason
 reads_early number s = asked_as (read_header (early_in (find number s) s))
 
 pub reads-early-breaks : ¬ (UnfinishedExactly (telling_by reads_early))
@@ -196,11 +183,11 @@ reads-early-breaks p =
 -- ---- where an object is
 
 -- nobody asks whether it is finished
-abbrev held_as : Found → Located
-held_as Nothing = Located.Denied Reason.NotHeld
-held_as (At i) = Located.At i
+abbrev held_as : Option ℕ → Result ℕ Reason
+held_as None = Err Reason.NotHeld
+held_as (Some i) = Ok i
 
-abbrev pub locates_held : ℕ → State → Located
+abbrev pub locates_held : ℕ → State → Result ℕ Reason
 locates_held number s = held_as (find number s)
 
 pub locates-held-breaks : ¬ (LocatedExactly (locating_by locates_held))
@@ -210,11 +197,11 @@ locates-held-breaks p =
     (((run-answered waiting).unfinished 5).0.0 refl).1 m.1 m.2
 
 -- slots counted from 1
-abbrev from_one_as : Located → Located
-from_one_as (Located.At i) = Located.At (suc i)
-from_one_as (Located.Denied why) = Located.Denied why
+abbrev from_one_as : Result ℕ Reason → Result ℕ Reason
+from_one_as (Ok i) = Ok (suc i)
+from_one_as (Err why) = Err why
 
-abbrev pub slots_from_one : ℕ → State → Located
+abbrev pub slots_from_one : ℕ → State → Result ℕ Reason
 slots_from_one number s = from_one_as (locate number s)
 
 pub slots-from-one-breaks : ¬ (LocatedExactly (locating_by slots_from_one))
@@ -245,7 +232,7 @@ locates-held-coreless p = absurd (omega (arith, p waiting 5 0 refl))
 -- ---- what a header says
 
 -- it is read off the body
-abbrev pub reads_body : ℕ → State → Asked
+abbrev pub reads_body : ℕ → State → Result Fields Reason
 reads_body number s = asked_of (locate number s) (show number Body s)
 
 pub reads-body-breaks : ¬ (ReadExactly (telling_by reads_body))
@@ -256,18 +243,18 @@ reads-body-breaks p =
     absurd (omega arith)
 
 -- a broken list of parameters is called DUPLICATE
-abbrev duplicate_as : Asked → Asked
-duplicate_as (Asked.Fields fields) = Asked.Fields fields
-duplicate_as (Asked.Denied why) = Asked.Denied (pick (eqb (number_of (Answer.Denied why)) 21) Reason.Duplicate why)
+abbrev duplicate_as : Result Fields Reason → Result Fields Reason
+duplicate_as (Ok fields) = Ok fields
+duplicate_as (Err why) = Err (pick (eqb (number_of (Answer.Denied why)) 21) Reason.Duplicate why)
 
-abbrev pub broken_duplicate : ℕ → State → Asked
+abbrev pub broken_duplicate : ℕ → State → Result Fields Reason
 broken_duplicate number s = duplicate_as (queries.parameters number s)
 
 pub broken-duplicate-breaks : ¬ (ReadExactly (telling_by broken_duplicate))
 unfolding computing small
 broken-duplicate-breaks p =
-    let m = ((run-answered spoilt).reading 5 (Reading.Refused Refusal.Header)).0 refl in
-    let e : ◌≡◌ {A = ℕ} 22 21 = ap asked_number ((p spoilt 5 (Reading.Refused Refusal.Header)).1 m) in
+    let m = ((run-answered spoilt).reading 5 (Err Refusal.Header)).0 refl in
+    let e : ◌≡◌ {A = ℕ} 22 21 = ap asked_number ((p spoilt 5 (Err Refusal.Header)).1 m) in
     absurd (omega arith)
 
 -- ---- its name
@@ -297,20 +284,20 @@ names-early-breaks p =
 -- ---- whose a name is
 
 -- the lowest number among the slots that pass a test, the first of the list being number i
-abbrev lowest_by : (ℕ → Slot → Bool) → ℕ → List Slot → Holder
-lowest_by test i [] = Nobody
-lowest_by test i (slot ∷ slots) = lower (pick (test i slot) (Number slot.number) Nobody) (lowest_by test (suc i) slots)
+abbrev lowest_by : (ℕ → Slot → Bool) → ℕ → List Slot → Option ℕ
+lowest_by test i [] = None
+lowest_by test i (slot ∷ slots) = lower (pick (test i slot) (Some slot.number) None) (lowest_by test (suc i) slots)
 
 abbrev in_use : State → List Slot
 in_use s = take s.collector.count s.collector.slots
 
 -- the number in the first slot that passes it
-abbrev first_by : (ℕ → Slot → Bool) → ℕ → List Slot → Holder
-first_by test i [] = Nobody
-first_by test i (slot ∷ slots) = pick (test i slot) (Number slot.number) (first_by test (suc i) slots)
+abbrev first_by : (ℕ → Slot → Bool) → ℕ → List Slot → Option ℕ
+first_by test i [] = None
+first_by test i (slot ∷ slots) = pick (test i slot) (Some slot.number) (first_by test (suc i) slots)
 
 -- the first slot that has the name is taken, and not the lowest number
-abbrev pub first_slot_wins : List ℕ → State → Sought
+abbrev pub first_slot_wins : List ℕ → State → Result ℕ Reason
 first_slot_wins sought s =
     sought_as (first_by (λ i slot. holds_name sought i slot s.stores.header) 0 (in_use s))
 
@@ -322,7 +309,7 @@ first-slot-wins-breaks p =
     absurd (omega (arith, six.lowest 5 five.object five.finished five.named))
 
 -- objects that are not finished are found too
-abbrev pub finds_unfinished : List ℕ → State → Sought
+abbrev pub finds_unfinished : List ℕ → State → Result ℕ Reason
 finds_unfinished sought s = sought_as (lowest_by (λ i slot. has_name sought (header_early i s)) 0 (in_use s))
 
 pub finds-unfinished-breaks : ¬ (FoundExactly (finding_by finds_unfinished))
@@ -332,11 +319,11 @@ finds-unfinished-breaks p =
     (((run-answered named_waiting).unfinished 5).0.0 refl).1 m.object m.finished
 
 -- NOTHELD for a name that nobody has
-abbrev not_held_for : Sought → Sought
-not_held_for (Sought.Number number) = Sought.Number number
-not_held_for (Sought.Denied why) = Sought.Denied Reason.NotHeld
+abbrev not_held_for : Result ℕ Reason → Result ℕ Reason
+not_held_for (Ok number) = Ok number
+not_held_for (Err why) = Err Reason.NotHeld
 
-abbrev pub nobody_not_held : List ℕ → State → Sought
+abbrev pub nobody_not_held : List ℕ → State → Result ℕ Reason
 nobody_not_held sought s = not_held_for (queries.find sought s)
 
 pub nobody-not-held-breaks : ¬ (NotFoundExactly (finding_by nobody_not_held))
@@ -347,7 +334,7 @@ nobody-not-held-breaks p =
     absurd (omega arith)
 
 -- no slash is dropped
-abbrev pub slash_kept : List ℕ → State → Sought
+abbrev pub slash_kept : List ℕ → State → Result ℕ Reason
 slash_kept sought s =
     sought_as (lowest_by (λ i slot. equal (drop 1 (queries.name slot.number s)) sought) 0 (in_use s))
 
@@ -360,9 +347,9 @@ slash-kept-breaks p =
 -- ---- the end user address of a group
 
 -- it starts a byte late
-abbrev late_in : WireReading → List ℕ → List ℕ
-late_in (Read carried) bytes = part bytes (carried.address_start + 1) carried.address_length
-late_in (Refused why) bytes = []
+abbrev late_in : Result Carried Refusal → List ℕ → List ℕ
+late_in (Ok carried) bytes = part bytes (carried.address.start + 1) carried.address.length
+late_in (Err why) bytes = []
 
 abbrev pub addresses_late : List ℕ → State → List ℕ
 addresses_late bytes s = late_in (reading_of bytes) bytes
@@ -388,12 +375,12 @@ addresses-unread-breaks p =
 -- ---- how many bytes are still to come
 
 -- where that is not known, none
-abbrev zero_for : Awaited → Awaited
-zero_for (Awaited.Bytes Unknown) = Awaited.Bytes (Known 0)
-zero_for (Awaited.Bytes (Known bytes)) = Awaited.Bytes (Known bytes)
-zero_for (Awaited.Denied why) = Awaited.Denied why
+abbrev zero_for : Result (Option ℕ) Reason → Result (Option ℕ) Reason
+zero_for (Ok None) = Ok (Some 0)
+zero_for (Ok (Some bytes)) = Ok (Some bytes)
+zero_for (Err why) = Err why
 
-abbrev pub unknown_as_none : ℕ → State → Awaited
+abbrev pub unknown_as_none : ℕ → State → Result (Option ℕ) Reason
 unknown_as_none number s = zero_for (missing number s)
 
 -- the last segment of a body alone
@@ -407,12 +394,12 @@ unknown-as-none-breaks p =
     none-finished 1024 [] (stored (awaiting_by unknown_as_none) parked Body 5) x.0 x.1 refl
 
 -- all that the object has, whether it has arrived or not
-abbrev lengths_in : Stage → Awaited → Awaited
+abbrev lengths_in : Stage → Result (Option ℕ) Reason → Result (Option ℕ) Reason
 lengths_in Stage.Free said = said
 lengths_in Stage.Gathering said = said
-lengths_in (Stage.Finished header body) said = Awaited.Bytes (Known (header + body))
+lengths_in (Stage.Finished header body) said = Ok (Some (header + body))
 
-abbrev pub arrived_uncounted : ℕ → State → Awaited
+abbrev pub arrived_uncounted : ℕ → State → Result (Option ℕ) Reason
 arrived_uncounted number s = lengths_in (stage_for number s) (missing number s)
 
 pub arrived-uncounted-breaks : ¬ (AwaitedExactly (awaiting_by arrived_uncounted))
@@ -423,12 +410,12 @@ arrived-uncounted-breaks p =
     absurd (omega arith)
 
 -- a repeat is counted as if its bytes were new
-abbrev less_by : ℕ → Awaited → Awaited
-less_by count (Awaited.Bytes Unknown) = Awaited.Bytes Unknown
-less_by count (Awaited.Bytes (Known bytes)) = Awaited.Bytes (Known (bytes - count * 7))
-less_by count (Awaited.Denied why) = Awaited.Denied why
+abbrev less_by : ℕ → Result (Option ℕ) Reason → Result (Option ℕ) Reason
+less_by count (Ok None) = Ok None
+less_by count (Ok (Some bytes)) = Ok (Some (bytes - count * 7))
+less_by count (Err why) = Err why
 
-abbrev pub repeats_arrive : ℕ → State → Awaited
+abbrev pub repeats_arrive : ℕ → State → Result (Option ℕ) Reason
 repeats_arrive number s = less_by s.counts.repeated (missing number s)
 
 -- a header of 7 bytes, twice; its body of 20 is still to come
@@ -447,8 +434,8 @@ repeats-arrive-breaks p =
     absurd (omega arith)
 
 -- as many as segments were taken
-abbrev pub counts_up : ℕ → State → Awaited
-counts_up number s = Awaited.Bytes (Known s.counts.taken)
+abbrev pub counts_up : ℕ → State → Result (Option ℕ) Reason
+counts_up number s = Ok (Some s.counts.taken)
 
 pub counts-up-breaks : ¬ (NeverRises (awaiting_by counts_up))
 unfolding computing small
@@ -458,7 +445,7 @@ counts-up-breaks p =
     absurd (omega (arith, x.2))
 
 -- a question is answered in any state
-abbrev pub awaits_damaged : ℕ → State → Awaited
+abbrev pub awaits_damaged : ℕ → State → Result (Option ℕ) Reason
 awaits_damaged number s = awaited_in (find number s) s
 
 pub awaits-damaged-breaks : ¬ (StateAskExactly (awaiting_by awaits_damaged))
@@ -468,11 +455,11 @@ awaits-damaged-breaks p =
     absurd (omega arith)
 
 -- of a number that holds no slot, that it is not known
-abbrev unheld_as : Found → Awaited → Awaited
-unheld_as Nothing said = Awaited.Bytes Unknown
-unheld_as (At i) said = said
+abbrev unheld_as : Option ℕ → Result (Option ℕ) Reason → Result (Option ℕ) Reason
+unheld_as None said = Ok None
+unheld_as (Some i) said = said
 
-abbrev pub unheld_unknown : ℕ → State → Awaited
+abbrev pub unheld_unknown : ℕ → State → Result (Option ℕ) Reason
 unheld_unknown number s = unheld_as (find number s) (missing number s)
 
 pub unheld-unknown-breaks : ¬ (NotHeldExactly (awaiting_by unheld_unknown))

@@ -1,16 +1,16 @@
 -- After any run each slot's transport number has 16 bits, as every one that is read off a group has, and its number of
 -- bytes still to come has 32.
-use Rattle.std.specs.Prelude.{◌≡◌, ℕ, zero, suc, ◌≤◌, ◌<◌, get_or, set, replicate}
+use Rattle.std.specs.Prelude.{◌≡◌, Result, Ok, Err, Option, None, Some, ℕ, zero, suc, ◌≤◌, ◌<◌, get_or, set, replicate}
 use Rattle.std.proofs.Math.Path.{refl}
 use Rattle.std.proofs.Common.{subst}
 use mathlib.Core.List.{List, [], ◌∷◌}
 use native.Mathlib.Omega.{arith}
-use Rattle.wire.specs.declared.Reading.{Reading}
-use Rattle.wire.specs.declared.Reading.TheVariants.{Read, Refused}
+use Rattle.wire.specs.declared.Carried.{Carried}
 use Rattle.wire.specs.Reading.{reading_of}
 use Rattle.wire.specs.laws.Theorems.{narrow}
 use Rattle.answer.specs.declared.Part.{Part}
 use Rattle.answer.specs.declared.Part.TheVariants.{Header, Body}
+use Rattle.answer.specs.declared.Refusal.{Refusal}
 use Rattle.cut.specs.Lists.{Each, Bytes}
 use Rattle.cut.specs.Requirement.{limit_most, Segment}
 use Rattle.cut.specs.Parts.{headers_with, bodies_with}
@@ -22,8 +22,6 @@ use Rattle.object.specs.Take.{Taken, take_into}
 use Rattle.object.specs.Parts.{Lent, parts_of}
 use Rattle.object.specs.laws.Held.{Gathers}
 use Rattle.object.specs.laws.Step.{Tells, outcome-tells}
-use Rattle.slots.specs.declared.Found.{Found}
-use Rattle.slots.specs.declared.Found.TheVariants.{Nothing, At}
 use Rattle.slots.specs.Stores.{slots_most, free_slot, fresh_slot, slot_at}
 use Rattle.collector.specs.State.{Start, Reply, State, find}
 use Rattle.collector.specs.Calls.{drop_number}
@@ -52,10 +50,10 @@ brought-low : (given : Handed) (arrived : Arrival) → HandedBytes given → bro
     → Sixteen arrived.number
 brought-low (group bytes) arrived y e = go (reading_of bytes) refl e
   where
-    go : (reading : Reading) → reading_of bytes ≡ reading → brought_in reading bytes ≡ arrives arrived
+    go : (reading : Result Carried Refusal) → reading_of bytes ≡ reading → brought_in reading bytes ≡ arrives arrived
         → Sixteen arrived.number
-    go (Refused why) r f = let z : ◌≡◌ {A = ℕ} 0 1 = cc in absurd (omega arith)
-    go (Read carried) r f =
+    go (Err why) r f = let z : ◌≡◌ {A = ℕ} 0 1 = cc in absurd (omega arith)
+    go (Ok carried) r f =
         let same : arrival_in bytes carried ≡ arrived = cc in
         subst (λ (a : Arrival). Sixteen a.number) same (narrow bytes carried (λ at. byte_low bytes at y) r).number
 brought-low (segment heard last bytes) arrived y e =
@@ -143,9 +141,9 @@ module _ (s : State) (low : (j : ℕ) → Narrow (slot_of j s)) (whole : Intact 
           (brought-bytes given arrived y e) (came given s whole.undamaged arrived e)
   leaves-low (drop number) y = go (find number s) refl
     where
-      go : (found : Found) → find number s ≡ found → (j : ℕ) → Narrow (slot_of j (drop_number number s).left)
-      go Nothing e = rw (none_dropped number s whole.undamaged e) low
-      go (At i) e = rw (found-dropped number s whole.undamaged i
+      go : (found : Option ℕ) → find number s ≡ found → (j : ℕ) → Narrow (slot_of j (drop_number number s).left)
+      go None e = rw (none_dropped number s whole.undamaged e) low
+      go (Some i) e = rw (found-dropped number s whole.undamaged i
           (used-inside s whole.undamaged i (found-used s whole.undamaged number i e)) e)
           (set-low s.collector.slots i free_slot (omega arith, omega arith) low)
   leaves-low (ask question) y = low

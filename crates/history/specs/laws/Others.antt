@@ -1,20 +1,17 @@
 -- Calls under other numbers change nothing that is held for a number: its slot's record and stage, its marks, its
 -- shares of the stores and what is shown of it.
-use Rattle.std.specs.Prelude.{◌≡◌, refl, ◌≢◌, Bool, true, false, ℕ}
+use Rattle.std.specs.Prelude.{◌≡◌, refl, ◌≢◌, Option, None, Some, Bool, true, false, ℕ}
 use Rattle.std.proofs.Math.Path.{sym}
 use Rattle.std.proofs.Common.{◌∙◌, subst}
 use Rattle.answer.specs.declared.Answer.{Answer}
 use Rattle.answer.specs.declared.Answer.TheVariants as Answer
 use Rattle.answer.specs.declared.Reason.TheVariants as Reason
 use Rattle.answer.specs.declared.Part.{Part}
-use Rattle.wire.specs.declared.Reading.TheVariants.{Refused}
 use Rattle.cut.specs.Lists.{Bytes}
 use Rattle.cut.specs.laws.Decision.{false-true}
 use Rattle.object.specs.declared.Slot.{Slot}
 use Rattle.object.specs.Take.{Taken, take_into}
 use Rattle.object.specs.Parts.{Lent}
-use Rattle.slots.specs.declared.Found.{Found}
-use Rattle.slots.specs.declared.Found.TheVariants.{Nothing, At}
 use Rattle.slots.specs.Stores.{free_slot, fresh_slot}
 use Rattle.slots.specs.Find.{is_free, holds, find_in}
 use Rattle.slots.specs.laws.Shares.{Wide, lent_other}
@@ -51,7 +48,7 @@ same_self number s = record { limit = refl; found = refl; slot = λ i e. refl; l
 module _ (number : ℕ) (answer : Answer) (i : ℕ) (slot : Slot) (lent : Lent) (s : State) (good : sound s ≡ true)
     (u : InUse i s) (wide : Wide (limit_of s) lent) (before : holds number (slot_of i s) ≡ false)
     (after : holds number slot ≡ false) where
-  apart : (j : ℕ) → find number s ≡ At j → j ≢ i
+  apart : (j : ℕ) → find number s ≡ Some j → j ≢ i
   apart j e d = false-true before
       (subst (λ (k : ℕ). holds number (slot_of k s) ≡ true) d (found-holds s good number j e))
 
@@ -115,9 +112,9 @@ pub drop-others : (number other : ℕ) (s : State) → number ≢ other → Inta
 unfolding free_slot is_free
 drop-others number other s d whole = go (find other s) refl
   where
-    go : (found : Found) → find other s ≡ found → Same number s (drop_number other s).left
-    go Nothing e = rw (none_dropped other s whole.undamaged e) (same-all number s (Answer.Denied Reason.NotHeld))
-    go (At i) e =
+    go : (found : Option ℕ) → find other s ≡ found → Same number s (drop_number other s).left
+    go None e = rw (none_dropped other s whole.undamaged e) (same-all number s (Answer.Denied Reason.NotHeld))
+    go (Some i) e =
         let u = found-used s whole.undamaged other i e in
         rw (found-dropped other s whole.undamaged i (used-inside s whole.undamaged i u) e)
         (replaced-same number (Answer.Dropped other) i free_slot (cleared (lent_of i s)) s whole.undamaged u
@@ -132,9 +129,9 @@ pub same-shown : (number : ℕ) (part : Part) (s t : State) → sound s ≡ true
     → show number part t ≡ show number part s
 same-shown number part s t good good' same = go (find number s) refl
   where
-    go : (found : Found) → find number s ≡ found → show number part t ≡ show number part s
-    go Nothing e = unheld-shown number part t good' (same.found ∙ e) ∙ sym (unheld-shown number part s good e)
-    go (At i) e = held-shown number part t good' i (same.found ∙ e) ∙ rw (same.slot i e, same.lent i e)
+    go : (found : Option ℕ) → find number s ≡ found → show number part t ≡ show number part s
+    go None e = unheld-shown number part t good' (same.found ∙ e) ∙ sym (unheld-shown number part s good e)
+    go (Some i) e = held-shown number part t good' i (same.found ∙ e) ∙ rw (same.slot i e, same.lent i e)
         (sym (held-shown number part s good i e))
 
 pub handed-others-shown : (number : ℕ) (part : Part) (given : Handed) (s : State)

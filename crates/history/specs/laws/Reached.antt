@@ -1,12 +1,10 @@
 -- Every state that is reached since an opening, by any calls: it is not damaged, and each slot holds just what was
 -- stored under its number.
-use Rattle.std.specs.Prelude.{◌≡◌, refl, List, [], ◌∷◌, ℕ, length, replicate}
+use Rattle.std.specs.Prelude.{◌≡◌, refl, Option, None, Some, List, [], ◌∷◌, ℕ, length, replicate}
 use Rattle.std.proofs.Common.{◌∙◌, arith}
 use Rattle.std.proofs.lemmas.List.{length-replicate, get_or-replicate}
 use Rattle.octets.specs.Octets.{zeros}
 use Rattle.cut.specs.Lists.{Each}
-use Rattle.slots.specs.declared.Found.{Found}
-use Rattle.slots.specs.declared.Found.TheVariants.{Nothing, At}
 use Rattle.slots.specs.Stores.{slots_most, free_slot, slot_at}
 use Rattle.slots.specs.Find.{is_free, holds, find_in}
 use Rattle.counts.specs.Counted.{none_yet}
@@ -47,7 +45,7 @@ start_is start a = opened-all start
     (limits-within start.limit start.count (length start.stores.header) (length start.stores.body)
     (length start.stores.marks) a.limits)
 
-start-free : (count number : ℕ) → find_in number count (replicate slots_most free_slot) ≡ Nothing
+start-free : (count number : ℕ) → find_in number count (replicate slots_most free_slot) ≡ None
 unfolding find_in slot_at free_slot is_free
 start-free count number = none_found (holds number) count (replicate slots_most free_slot)
     (λ i u. rw (get_or-replicate slots_most i free_slot free_slot
@@ -82,9 +80,9 @@ leaves-bounds (hand given) s whole = go (brought_by given) refl
         (came given s whole.undamaged arrived e)
 leaves-bounds (drop number) s whole = go (find number s) refl
   where
-    go : (found : Found) → find number s ≡ found → SameBounds s (drop_number number s).left
-    go Nothing e = rw (none_dropped number s whole.undamaged e) (record { limit = refl; count = refl })
-    go (At i) e = rw (found-dropped number s whole.undamaged i
+    go : (found : Option ℕ) → find number s ≡ found → SameBounds s (drop_number number s).left
+    go None e = rw (none_dropped number s whole.undamaged e) (record { limit = refl; count = refl })
+    go (Some i) e = rw (found-dropped number s whole.undamaged i
         (used-inside s whole.undamaged i (found-used s whole.undamaged number i e)) e)
         (record { limit = refl; count = refl })
 leaves-bounds (ask question) s whole = record { limit = refl; count = refl }

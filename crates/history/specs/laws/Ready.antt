@@ -1,6 +1,6 @@
 -- What the test of a state gives, where it passes: of each slot in use, of the one that holds a number and of a free
 -- one.
-use Rattle.std.specs.Prelude.{◌≡◌, true, false, ℕ, ◌*◌, ◌≤◌, length, drop}
+use Rattle.std.specs.Prelude.{◌≡◌, None, Some, true, false, ℕ, ◌*◌, ◌≤◌, length, drop}
 use Rattle.std.proofs.Common.{arith}
 use Rattle.octets.specs.Octets.{sum_of}
 use Rattle.counts.specs.Counted.{within}
@@ -9,7 +9,6 @@ use Rattle.cut.specs.Requirement.{header_most, limit_most}
 use Rattle.cut.specs.laws.Decision.{both_true}
 use Rattle.object.specs.Sound.{sound_slot}
 use Rattle.object.specs.laws.Shape.{IsLent}
-use Rattle.slots.specs.declared.Found.TheVariants.{Nothing, At}
 use Rattle.slots.specs.Stores.{slot_marks, lent_at, Limits}
 use Rattle.slots.specs.Find.{is_free, holds, find_in, free_in}
 use Rattle.slots.specs.State.{sound_slots}
@@ -75,31 +74,31 @@ module _ (s : State) (good : sound s ≡ true) where
   used-lent i u b = limits-lent s i slots-right.limits u b
 
   -- the slot that holds a number
-  pub found-used : (number i : ℕ) → find number s ≡ At i → InUse i s
+  pub found-used : (number i : ℕ) → find number s ≡ Some i → InUse i s
   unfolding find_in
   found-used number i e = (found_at (holds number) s.collector.count s.collector.slots i e).0
 
-  pub found-holds : (number i : ℕ) → find number s ≡ At i → holds number (slot_of i s) ≡ true
+  pub found-holds : (number i : ℕ) → find number s ≡ Some i → holds number (slot_of i s) ≡ true
   unfolding find_in
   found-holds number i e = (found_at (holds number) s.collector.count s.collector.slots i e).1
 
-  pub found-sound : (number i : ℕ) → find number s ≡ At i → sound_slot (limit_of s) (slot_of i s) (lent_of i s) ≡ true
+  pub found-sound : (number i : ℕ) → find number s ≡ Some i → sound_slot (limit_of s) (slot_of i s) (lent_of i s) ≡ true
   found-sound number i e = held-sound (limit_of s) number (slot_of i s) (lent_of i s) (found-holds number i e)
       (slots-right.right i (found-used number i e))
 
-  pub none-holds : (number i : ℕ) → find number s ≡ Nothing → InUse i s → holds number (slot_of i s) ≡ false
+  pub none-holds : (number i : ℕ) → find number s ≡ None → InUse i s → holds number (slot_of i s) ≡ false
   unfolding find_in
   none-holds number i e u = found_none (holds number) s.collector.count s.collector.slots e i u
 
   -- the lowest slot that is free
-  pub free-used : (i : ℕ) → free s ≡ At i → InUse i s
+  pub free-used : (i : ℕ) → free s ≡ Some i → InUse i s
   unfolding free_in
   free-used i e = (found_at is_free s.collector.count s.collector.slots i e).0
 
-  pub free-free : (i : ℕ) → free s ≡ At i → is_free (slot_of i s) ≡ true
+  pub free-free : (i : ℕ) → free s ≡ Some i → is_free (slot_of i s) ≡ true
   unfolding free_in
   free-free i e = (found_at is_free s.collector.count s.collector.slots i e).1
 
-  pub free-marks : (i : ℕ) → free s ≡ At i → sum_of (lent_of i s).marks ≡ 0
+  pub free-marks : (i : ℕ) → free s ≡ Some i → sum_of (lent_of i s).marks ≡ 0
   free-marks i e = free-unmarked (limit_of s) (slot_of i s) (lent_of i s) (free-free i e)
       (slots-right.right i (free-used i e))

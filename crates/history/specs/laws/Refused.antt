@@ -1,8 +1,8 @@
 -- A refusal leaves every store byte, every mark and every slot's record as they were, in any state, and no count but
 -- the refused one rises; what an opening and a drop leave, in any state.
 use Rattle.std.proofs.Math.Path.{◌≡◌, refl}
-use Rattle.std.proofs.Common.{ap, ◌∙◌, arith}
-use Rattle.std.specs.Prelude.{Bool, ◌↔◌, ℕ, zero, suc, ◌≤◌, length}
+use Rattle.std.proofs.Common.{ap, ◌∙◌, arith, Option, None, Some}
+use Rattle.std.specs.Prelude.{Bool, ◌↔◌, ℕ, zero, suc, ◌≤◌, length, Ok, Err}
 use Rattle.std.proofs.Math.Bool.{true, false}
 use Rattle.std.proofs.lemmas.List.{set-get_or}
 use Rattle.octets.specs.Octets.{zeros}
@@ -16,7 +16,6 @@ use Rattle.answer.specs.Table.{number_of}
 use Rattle.answer.specs.laws.Table.{refusal-to, reason-from}
 use Rattle.counts.specs.declared.Counts.{Counts}
 use Rattle.counts.specs.Counted.{none_yet, one_repeated, one_refused, counted}
-use Rattle.wire.specs.declared.Reading.TheVariants.{Refused}
 use Rattle.cut.specs.Lists.{pick}
 use Rattle.cut.specs.Requirement.{limit_least, Segment}
 use Rattle.cut.specs.laws.Decision.{false-true}
@@ -31,13 +30,10 @@ use Rattle.object.specs.Take.{decided, parts_with, outcome_by, Taken, unchanged,
 use Rattle.object.specs.laws.Decided.{if_new}
 use Rattle.object.specs.Parts.{Lent, parts_of}
 use Rattle.object.specs.Stage.{stage_of}
-use Rattle.slots.specs.declared.Found.{Found}
-use Rattle.slots.specs.declared.Found.TheVariants.{Nothing, At}
 use Rattle.slots.specs.Stores.{free_slot, fresh_slot, slot_at}
 use Rattle.slots.specs.Alone.{fits_alone}
 use Rattle.slots.specs.laws.Fresh.{fresh-taken}
 use Rattle.slots.specs.laws.StateTests.{limits-hold}
-use Rattle.collector.specs.declared.Opening.TheVariants as Opening
 use Rattle.collector.specs.State.{Start, Reply, State, all_free, find}
 use Rattle.collector.specs.Calls.{answer_for, drop_found, drop_number, in_limits, open_with, answering, sound}
 use Rattle.collector.specs.Arrival.{Arrival, heard_as}
@@ -147,10 +143,11 @@ handed-kept given s k = go (sound s) refl (brought_by given) refl
 pub drop-kept : (number : ℕ) (s : State) → Kept (drop_number number s).answer → (drop_number number s).left ≡ s
 drop-kept number s k = go (sound s) refl (find number s) refl
   where
-    go : (b : Bool) → sound s ≡ b → (found : Found) → find number s ≡ found → (drop_number number s).left ≡ s
+    go : (b : Bool) → sound s ≡ b → (found : Option ℕ) → find number s ≡ found → (drop_number number s).left ≡ s
     go false d found e = rw (drop-damaged number s d) refl
-    go true d Nothing e = rw (none_dropped number s d e) refl
-    go true d (At i) e = absurd (rw (found-dropped number s d i (used-inside s d i (found-used s d number i e)) e) at k)
+    go true d None e = rw (none_dropped number s d e) refl
+    go true d (Some i) e =
+        absurd (rw (found-dropped number s d i (used-inside s d i (found-used s d number i e)) e) at k)
 
 -- ---- demand 1, by the numbers of the answers
 
@@ -223,13 +220,13 @@ pub drop-stores : (number : ℕ) (s : State) → ((drop_leaves number s).stores.
 unfolding drop_number
 drop-stores number s = go (sound s) (find number s)
   where
-    go : (b : Bool) (found : Found)
+    go : (b : Bool) (found : Option ℕ)
         → ((pick b (drop_found found number s) (answering (Answer.Denied Reason.State) s)).left.stores.header
         ≡ s.stores.header) × ((pick b (drop_found found number s)
         (answering (Answer.Denied Reason.State) s)).left.stores.body ≡ s.stores.body)
     go false found = (refl, refl)
-    go true Nothing = (refl, refl)
-    go true (At i) = (refl, refl)
+    go true None = (refl, refl)
+    go true (Some i) = (refl, refl)
 
 -- ---- an opening
 
@@ -251,14 +248,14 @@ module _ (start : Start) where
   not-kept true e n = absurd (n (kept-within e))
 
   -- LIMITS exactly when it is outside them
-  pub limits-exactly : (((open_with start).opening ≡ Opening.Denied Reason.Limits) ↔ (¬ (Within start)))
-      × (((open_with start).opening ≡ Opening.Open) ↔ Within start)
+  pub limits-exactly : (((open_with start).opening ≡ Err Reason.Limits) ↔ (¬ (Within start)))
+      × (((open_with start).opening ≡ Ok tt) ↔ Within start)
   unfolding open_with
   limits-exactly = go kept-limits refl
     where
       go : (b : Bool) → kept-limits ≡ b
-          → (((open_with start).opening ≡ Opening.Denied Reason.Limits) ↔ (¬ (Within start)))
-          × (((open_with start).opening ≡ Opening.Open) ↔ Within start)
+          → (((open_with start).opening ≡ Err Reason.Limits) ↔ (¬ (Within start)))
+          × (((open_with start).opening ≡ Ok tt) ↔ Within start)
       go true e = rw e (
         (
           (λ d. let z : ◌≡◌ {A = ℕ} 0 1 = cc in absurd (omega arith)),

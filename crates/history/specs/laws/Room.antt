@@ -1,5 +1,5 @@
 -- Which numbers hold a slot, and when none is free: told by what was stored.
-use Rattle.std.specs.Prelude.{◌≡◌, ◌↔◌, false, List, [], ◌∷◌, length, take, drop, get_or}
+use Rattle.std.specs.Prelude.{◌≡◌, ◌↔◌, Option, None, Some, false, List, [], ◌∷◌, length, take, drop, get_or}
 use Rattle.std.proofs.Math.Path.{refl}
 use Rattle.std.proofs.Common.{◌∙◌, arith, length-set}
 use Rattle.std.proofs.Math.Bool.{true}
@@ -13,8 +13,6 @@ use Rattle.cut.specs.laws.Marks.{Marked}
 use Rattle.object.specs.laws.Inside.{sound-slot}
 use Rattle.object.specs.laws.Held.{Holds}
 use Rattle.object.specs.Parts.{parts_of}
-use Rattle.slots.specs.declared.Found.{Found}
-use Rattle.slots.specs.declared.Found.TheVariants.{Nothing, At}
 use Rattle.slots.specs.Stores.{slots_most, free_slot}
 use Rattle.slots.specs.Find.{is_free, holds, find_in, free_in}
 use Rattle.collector.specs.State.{Start, Reply, State, find, free}
@@ -54,12 +52,12 @@ nothing-marked s i hs bs h e f =
     omega (arith, sum-split (lent_of i s).marks header_numbers)
 
 pub unheld-exactly : (number : ℕ) (s : State) (hs bs : List Segment) → sound s ≡ true → StandsFor number s hs bs
-    → (find number s ≡ Nothing) ↔ ((hs ≡ []) × (bs ≡ []))
+    → (find number s ≡ None) ↔ ((hs ≡ []) × (bs ≡ []))
 unheld-exactly number s hs bs good w = (w.rest, (λ none. go none (find number s) refl))
   where
-    go : (hs ≡ []) × (bs ≡ []) → (found : Found) → find number s ≡ found → find number s ≡ Nothing
-    go none Nothing e = e
-    go none (At i) e =
+    go : (hs ≡ []) × (bs ≡ []) → (found : Option ℕ) → find number s ≡ found → find number s ≡ None
+    go none None e = e
+    go none (Some i) e =
         absurd (omega (
           arith,
           nothing-marked s i hs bs (w.held i e) none.0 none.1,
@@ -88,9 +86,9 @@ leaves-slots (hand given) s whole = go (brought_by given) refl
         (came given s whole.undamaged arrived e)
 leaves-slots (Call.drop number) s whole = go (find number s) refl
   where
-    go : (found : Found) → find number s ≡ found → slots-of (drop_number number s).left ≡ slots-of s
-    go Nothing e = rw (none_dropped number s whole.undamaged e) refl
-    go (At i) e = rw (found-dropped number s whole.undamaged i
+    go : (found : Option ℕ) → find number s ≡ found → slots-of (drop_number number s).left ≡ slots-of s
+    go None e = rw (none_dropped number s whole.undamaged e) refl
+    go (Some i) e = rw (found-dropped number s whole.undamaged i
         (used-inside s whole.undamaged i (found-used s whole.undamaged number i e)) e)
         (length-set s.collector.slots i free_slot)
 leaves-slots (ask question) s whole = refl
@@ -122,7 +120,7 @@ module _ (start : Start) (allowed : Allowed start) (calls : List Call) (y : Each
   unfolding now
   use-in i u = omega (arith, reached-count start allowed calls y, u.counted)
 
-  held_number : (i : ℕ) → InUse i now → is_free (slot_of i now) ≡ false → find (slot_of i now).number now ≡ At i
+  held_number : (i : ℕ) → InUse i now → is_free (slot_of i now) ≡ false → find (slot_of i now).number now ≡ Some i
   unfolding find_in
   held_number i u f =
       let n : ℕ = (slot_of i now).number in
@@ -130,8 +128,8 @@ module _ (start : Start) (allowed : Allowed start) (calls : List Call) (y : Each
       only-found (holds n) now.collector.count now.collector.slots i u own
       (λ j v h. (slots-right now good).once n j i v u h own)
 
-  pub none-free-exactly : (free (reached defined start calls) ≡ Nothing)
-      ↔ ((i : ℕ) → i < start.count → (number : ℕ) × (find number (reached defined start calls) ≡ At i))
+  pub none-free-exactly : (free (reached defined start calls) ≡ None)
+      ↔ ((i : ℕ) → i < start.count → (number : ℕ) × (find number (reached defined start calls) ≡ Some i))
   unfolding now free_in
   none-free-exactly = (
     (λ e i h. let u = in_use i h in (

@@ -1,5 +1,5 @@
 -- Groups, an object and a small collector, with which histories are computed.
-use Rattle.std.specs.Prelude.{◌≡◌, refl, Bool, true, false, List, [], ◌∷◌, ℕ, zero, suc, ◌*◌, ◌<◌, length, replicate}
+use Rattle.std.specs.Prelude.{◌≡◌, refl, Bool, true, false, Ok, List, [], ◌∷◌, ℕ, zero, suc, ◌*◌, ◌<◌, length, replicate}
 use Rattle.std.proofs.Common.{inl, inr, arith}
 use Rattle.crc.specs.CheckWord.{step, entered, bits_entered, divided, check_word}
 use Rattle.octets.specs.Octets.{over, zeros, equal, largest_of}
@@ -7,7 +7,6 @@ use Rattle.answer.specs.declared.Part.{Part}
 use Rattle.answer.specs.declared.Part.TheVariants.{Header, Body}
 use Rattle.counts.specs.Counted.{none_yet, risen, within}
 use Rattle.wire.specs.declared.Carried.{Carried}
-use Rattle.wire.specs.declared.Reading.TheVariants.{Read}
 use Rattle.wire.specs.Reading.{kind_of, check_holds, size_wrong, segment_of, reading_of, address_of}
 use Rattle.cut.specs.laws.Lists.{bytes-zeros}
 use Rattle.cut.specs.Requirement.{body_size, header_size, content_type, content_sub_type, Segment, joined}
@@ -173,19 +172,15 @@ one_cut =
 -- what is read off a group that says nothing of repeats and has no end user address
 abbrev pub read_as : ℕ → Part → ℕ → Bool → ℕ → Carried
 read_as number part segment last size = record {
-  number = number;
-  part = part;
-  segment = segment;
+  heard = record { number = number; part = part; segment = segment };
   last = last;
-  start = 9;
-  length = size;
+  bytes = record { start = 9; length = size };
   repetition = no_repetition;
-  address_start = 7;
-  address_length = 0;
+  address = record { start = 7; length = 0 };
 }
 
-reads : (reading_of body_last ≡ Read (read_as 5 Body 1 true 4)) × (reading_of body_first ≡ Read (read_as 5 Body 0 false 16))
-    × (reading_of header ≡ Read (read_as 5 Header 0 true 7)) × (reading_of other_number ≡ Read (read_as 6 Header 0 true 7))
+reads : (reading_of body_last ≡ Ok (read_as 5 Body 1 true 4)) × (reading_of body_first ≡ Ok (read_as 5 Body 0 false 16))
+    × (reading_of header ≡ Ok (read_as 5 Header 0 true 7)) × (reading_of other_number ≡ Ok (read_as 6 Header 0 true 7))
 unfolding reading_of kind_of check_holds size_wrong segment_of check_word divided bits_entered entered step
 reads = (refl, refl, refl, refl)
 

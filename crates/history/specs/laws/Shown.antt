@@ -1,6 +1,6 @@
 -- What is shown of a number, in a state that is not damaged: the start of the shares of the slot that holds it, as
 -- long as its stage says.
-use Rattle.std.specs.Prelude.{◌≡◌, true, List, [], ℕ, ◌+◌, ◌*◌, ◌≤◌, length, take, drop}
+use Rattle.std.specs.Prelude.{◌≡◌, None, Some, true, List, [], ℕ, ◌+◌, ◌*◌, ◌≤◌, length, take, drop}
 use Rattle.std.proofs.Math.Path.{refl}
 use Rattle.std.proofs.Common.{sym, ap, ◌∙◌, take-take}
 use Rattle.answer.specs.declared.Part.{Part}
@@ -10,7 +10,6 @@ use Rattle.object.specs.declared.Stage.{Stage}
 use Rattle.object.specs.declared.Stage.TheVariants.{Free, Gathering, Finished}
 use Rattle.object.specs.laws.StageInside.{Lengths}
 use Rattle.object.specs.Parts.{Lent}
-use Rattle.slots.specs.declared.Found.TheVariants.{Nothing, At}
 use Rattle.slots.specs.Stores.{Stores, lent_at}
 use Rattle.slots.specs.Take.{Inside}
 use Rattle.slots.specs.Show.{start_of, shown_as, shown_of}
@@ -46,7 +45,7 @@ staged-front Body (Finished header body) limit i stores inside h =
 
 module _ (number : ℕ) (s : State) (good : sound s ≡ true) where
   -- a finished object's lengths
-  pub held-lengths : (i : ℕ) → find number s ≡ At i → (header body : ℕ) → (slot_of i s).stage ≡ Finished header body
+  pub held-lengths : (i : ℕ) → find number s ≡ Some i → (header body : ℕ) → (slot_of i s).stage ≡ Finished header body
       → Lengths (limit_of s) header body
   held-lengths i e header body f =
       finished-lengths (limit_of s) s.collector.count s.collector.slots s.stores (slots-sound s good) i header
@@ -54,12 +53,13 @@ module _ (number : ℕ) (s : State) (good : sound s ≡ true) where
 
 module _ (number : ℕ) (part : Part) (s : State) (good : sound s ≡ true) where
   -- nothing of a number that holds no slot
-  pub unheld-shown : find number s ≡ Nothing → show number part s ≡ []
+  pub unheld-shown : find number s ≡ None → show number part s ≡ []
   unfolding show locate
   unheld-shown e = rw (good, e) refl
 
   -- the front of the shares of the slot that holds it
-  pub held-shown : (i : ℕ) → find number s ≡ At i → show number part s ≡ front_of part (slot_of i s).stage (lent_of i s)
+  pub held-shown : (i : ℕ) → find number s ≡ Some i
+      → show number part s ≡ front_of part (slot_of i s).stage (lent_of i s)
   unfolding show locate shown_of
   held-shown i e = rw (good, e) (go (slot_of i s).stage refl)
     where

@@ -1,6 +1,6 @@
 -- The slots one by one: what the test of a state says of each, which slot a search finds, and what changes when one
 -- slot and its shares are replaced.
-use Rattle.std.specs.Prelude.{◌≡◌, refl, ◌≢◌, Bool, true, false, List, [], ◌∷◌, ℕ, zero, suc, ◌+◌, ◌-◌, ◌*◌, ◌<◌, eqb, leb, length, take, set}
+use Rattle.std.specs.Prelude.{◌≡◌, refl, ◌≢◌, Option, None, Some, Bool, true, false, List, [], ◌∷◌, ℕ, zero, suc, ◌+◌, ◌-◌, ◌*◌, ◌<◌, eqb, leb, length, take, set}
 use Rattle.std.proofs.Common.{sym, ◌∙◌, subst, arith, length-take, length-set, eqb-true, eq-eqb, le-leb}
 use Rattle.std.proofs.Math.Path.{ap}
 use Rattle.std.proofs.Math.Nat.{zero-add}
@@ -12,8 +12,6 @@ use Rattle.cut.specs.laws.Decision.{false-true, both_true, true-both, all_true, 
 use Rattle.cut.specs.Lists.{pick}
 use Rattle.object.specs.declared.Slot.{Slot}
 use Rattle.object.specs.Parts.{Lent}
-use Rattle.slots.specs.declared.Found.{Found}
-use Rattle.slots.specs.declared.Found.TheVariants.{Nothing, At}
 use Rattle.slots.specs.Stores.{slots_most, slot_marks, Stores, lent_at, with_lent, free_slot, slot_at, Limits}
 use Rattle.slots.specs.Find.{free_stage, is_free, holds, first_from}
 use Rattle.slots.specs.State.{within_limits, held_among, unlike, distinct, right_slot, right_from, sound_slots}
@@ -49,41 +47,41 @@ free-holds number slot f = rw f refl
 
 -- ---- searching
 
-first-none : (test : Slot → Bool) (first : ℕ) (l : List Slot) → first_from test first l ≡ Nothing → (i : ℕ)
+first-none : (test : Slot → Bool) (first : ℕ) (l : List Slot) → first_from test first l ≡ None → (i : ℕ)
     → i < length l → test (get_or l i free_slot) ≡ false
 unfolding first_from
 first-none test first [] e i h = absurd (omega arith)
 first-none test first (slot ∷ l) e i h = go (test slot) refl e i h (first-none test (suc first) l)
   where
-    go : (b : Bool) → test slot ≡ b → pick b (At first) (first_from test (suc first) l) ≡ Nothing → (i : ℕ)
+    go : (b : Bool) → test slot ≡ b → pick b (Some first) (first_from test (suc first) l) ≡ None → (i : ℕ)
         → i < suc (length l)
-        → (first_from test (suc first) l ≡ Nothing → (j : ℕ) → j < length l → test (get_or l j free_slot) ≡ false)
+        → (first_from test (suc first) l ≡ None → (j : ℕ) → j < length l → test (get_or l j free_slot) ≡ false)
         → test (get_or (slot ∷ l) i free_slot) ≡ false
     go true f e i h later = let z : ◌≡◌ {A = ℕ} 0 1 = cc in absurd (omega arith)
     go false f e zero h later = f
     go false f e (suc i) h later = later e i (omega arith)
 
 none_first : (test : Slot → Bool) (first : ℕ) (l : List Slot)
-    → ((i : ℕ) → i < length l → test (get_or l i free_slot) ≡ false) → first_from test first l ≡ Nothing
+    → ((i : ℕ) → i < length l → test (get_or l i free_slot) ≡ false) → first_from test first l ≡ None
 unfolding first_from
 none_first test first [] f = refl
 none_first test first (slot ∷ l) f =
     rw (f 0 (omega arith)) (none_first test (suc first) l (λ i h. f (suc i) (omega arith)))
 
 -- none below the first that passes does
-first_below : (test : Slot → Bool) (first i : ℕ) (l : List Slot) → first_from test first l ≡ At (first + i) → (j : ℕ)
+first_below : (test : Slot → Bool) (first i : ℕ) (l : List Slot) → first_from test first l ≡ Some (first + i) → (j : ℕ)
     → j < i → test (get_or l j free_slot) ≡ false
 unfolding first_from
 first_below test first i [] e = λ j h. let z : ◌≡◌ {A = ℕ} 0 1 = cc in absurd (omega arith)
 first_below test first i (slot ∷ l) e = go (test slot) refl e (first_below test (suc first) (i - 1) l)
   where
-    go : (b : Bool) → test slot ≡ b → pick b (At first) (first_from test (suc first) l) ≡ At (first + i)
-        → (first_from test (suc first) l ≡ At (suc first + (i - 1)) → (j : ℕ) → j < i - 1
+    go : (b : Bool) → test slot ≡ b → pick b (Some first) (first_from test (suc first) l) ≡ Some (first + i)
+        → (first_from test (suc first) l ≡ Some (suc first + (i - 1)) → (j : ℕ) → j < i - 1
         → test (get_or l j free_slot) ≡ false) → (j : ℕ) → j < i → test (get_or (slot ∷ l) j free_slot) ≡ false
     go true f e later j h = let same : first ≡ first + i = cc in absurd (omega arith)
     go false f e later zero h = f
     go false f e later (suc j) h = let same : first + i ≡ suc first + (i - 1) = omega arith in
-        later (e ∙ ap At same) j (omega arith)
+        later (e ∙ ap Some same) j (omega arith)
 
 first-same : (test : Slot → Bool) (first i : ℕ) (slot : Slot) (l : List Slot) → test slot ≡ test (get_or l i free_slot)
     → first_from test first (set l i slot) ≡ first_from test first l
@@ -93,7 +91,7 @@ first-same test first zero slot (x ∷ l) e = rw e refl
 first-same test first (suc i) slot (x ∷ l) e = rw (first-same test (suc first) i slot l e) refl
 
 module _ (test : Slot → Bool) (count : ℕ) (slots : List Slot) where
-  pub found_at : (i : ℕ) → first_from test 0 (take count slots) ≡ At i → Used count i slots
+  pub found_at : (i : ℕ) → first_from test 0 (take count slots) ≡ Some i → Used count i slots
       × (test (slot_at i slots) ≡ true)
   unfolding slot_at
   found_at i e =
@@ -104,22 +102,22 @@ module _ (test : Slot → Bool) (count : ℕ) (slots : List Slot) where
       get_or-take count slots i free_slot u.counted in
       (u, rw at at (rw (← same) at r.3))
 
-  pub found_first : (i : ℕ) → first_from test 0 (take count slots) ≡ At i → (j : ℕ) → j < i
+  pub found_first : (i : ℕ) → first_from test 0 (take count slots) ≡ Some i → (j : ℕ) → j < i
       → test (slot_at j slots) ≡ false
   unfolding slot_at
   found_first i e j h =
       let u = (found_at i e).0 in
       rw (get_or-take count slots j free_slot (omega (arith, u.counted))) at
-      (first_below test 0 i (take count slots) (e ∙ ap At (sym (zero-add i))) j h)
+      (first_below test 0 i (take count slots) (e ∙ ap Some (sym (zero-add i))) j h)
 
-  pub found_none : first_from test 0 (take count slots) ≡ Nothing → (i : ℕ) → Used count i slots
+  pub found_none : first_from test 0 (take count slots) ≡ None → (i : ℕ) → Used count i slots
       → test (slot_at i slots) ≡ false
   unfolding slot_at
   found_none e i u = rw (get_or-take count slots i free_slot u.counted) at
       (first-none test 0 (take count slots) e i (used-taken count i slots u))
 
   pub none_found : ((i : ℕ) → Used count i slots → test (slot_at i slots) ≡ false)
-      → first_from test 0 (take count slots) ≡ Nothing
+      → first_from test 0 (take count slots) ≡ None
   unfolding slot_at
   none_found f = none_first test 0 (take count slots)
       (λ i h. let u = taken-used count i slots h in rw (get_or-take count slots i free_slot u.counted) (f i u))
@@ -127,12 +125,12 @@ module _ (test : Slot → Bool) (count : ℕ) (slots : List Slot) where
   -- a slot that passes alone is the one that is found
   pub only-found : (i : ℕ) → Used count i slots → test (slot_at i slots) ≡ true
       → ((j : ℕ) → Used count j slots → test (slot_at j slots) ≡ true → j ≡ i)
-      → first_from test 0 (take count slots) ≡ At i
+      → first_from test 0 (take count slots) ≡ Some i
   only-found i u e only = go (first_from test 0 (take count slots)) refl
     where
-      go : (found : Found) → first_from test 0 (take count slots) ≡ found → found ≡ At i
-      go Nothing f = absurd (false-true (found_none f i u) e)
-      go (At j) f = let r = found_at j f in ap At (only j r.0 r.1)
+      go : (found : Option ℕ) → first_from test 0 (take count slots) ≡ found → found ≡ Some i
+      go None f = absurd (false-true (found_none f i u) e)
+      go (Some j) f = let r = found_at j f in ap Some (only j r.0 r.1)
 
 -- ---- no two slots hold one number
 

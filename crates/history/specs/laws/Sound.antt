@@ -1,6 +1,6 @@
 -- No state so reached is damaged: an opening within the limits gives a state that is not, and every call leaves it so.
-use Rattle.std.proofs.Common.{subst, sym, ◌∙◌, arith, eq-eqb}
-use Rattle.std.specs.Prelude.{◌≡◌, refl, true, length, drop, set, replicate}
+use Rattle.std.proofs.Common.{subst, sym, ◌∙◌, arith, eq-eqb, Option, None, Some}
+use Rattle.std.specs.Prelude.{◌≡◌, refl, true, Result, Ok, Err, length, drop, set, replicate}
 use mathlib.Core.List.{List, []}
 use Prim.Native.Nat.{ℕ, ◌*◌, ◌≤◌}
 use Rattle.std.proofs.lemmas.List.{length-replicate, get_or-replicate}
@@ -11,10 +11,9 @@ use Rattle.answer.specs.declared.Answer.{Answer}
 use Rattle.answer.specs.declared.Answer.TheVariants as Answer
 use Rattle.answer.specs.declared.Reason.TheVariants as Reason
 use Rattle.answer.specs.declared.Part.{Part}
+use Rattle.answer.specs.declared.Refusal.{Refusal}
 use Rattle.counts.specs.Counted.{none_yet, counted, within}
 use Rattle.wire.specs.declared.Carried.{Carried}
-use Rattle.wire.specs.declared.Reading.{Reading}
-use Rattle.wire.specs.declared.Reading.TheVariants.{Read, Refused}
 use Rattle.wire.specs.Reading.{reading_of}
 use Rattle.cut.specs.laws.Lists.{bytes_take, bytes_drop, over-bytes}
 use Rattle.cut.specs.Requirement.{header_most, limit_most, Segment}
@@ -26,8 +25,6 @@ use Rattle.object.specs.laws.Shape.{IsLent}
 use Rattle.object.specs.laws.StepSound.{taken-lent, added-sound}
 use Rattle.object.specs.laws.StateAnswered.{sound-stays, lent-stays}
 use Rattle.object.specs.Parts.{Lent}
-use Rattle.slots.specs.declared.Found.{Found}
-use Rattle.slots.specs.declared.Found.TheVariants.{Nothing, At}
 use Rattle.slots.specs.Stores.{slots_most, slot_marks, Stores, lent_at, with_lent, free_slot, fresh_slot, slot_at}
 use Rattle.slots.specs.Find.{is_free, holds}
 use Rattle.slots.specs.Alone.{fits_alone}
@@ -109,14 +106,14 @@ module _ (s : State) (whole : Intact s) where
   low = limit-low s whole.undamaged
 
   -- what is lent for the slot is as it has to be afterwards
-  pub more-lent : (number i : ℕ) (part : Part) (piece : Segment) → Bytes piece.bytes → find number s ≡ At i
+  pub more-lent : (number i : ℕ) (part : Part) (piece : Segment) → Bytes piece.bytes → find number s ≡ Some i
       → IsLent (limit_of s) (take_into part (limit_of s) piece (slot_of i s) (lent_of i s)).lent
   more-lent number i part piece y e =
       lent-stays part (limit_of s) piece (slot_of i s) (lent_of i s) low y
       (used-lent s whole.undamaged i (found-used s whole.undamaged number i e) whole.bytes)
       (found-sound s whole.undamaged number i e)
 
-  pub first-lent : (number i : ℕ) (part : Part) (piece : Segment) → Bytes piece.bytes → free s ≡ At i
+  pub first-lent : (number i : ℕ) (part : Part) (piece : Segment) → Bytes piece.bytes → free s ≡ Some i
       → IsLent (limit_of s) (take_into part (limit_of s) piece (fresh_slot number) (lent_of i s)).lent
   first-lent number i part piece y e =
       let lends = used-lent s whole.undamaged i (free-used s whole.undamaged i e) whole.bytes in
@@ -125,7 +122,7 @@ module _ (s : State) (whole : Intact s) where
 
   -- a segment offered to the slot that holds its number
   more-intact : (answer : Answer) (number i : ℕ) (part : Part) (piece : Segment) → Bytes piece.bytes
-      → find number s ≡ At i
+      → find number s ≡ Some i
       → Intact (replacing answer i (take_into part (limit_of s) piece (slot_of i s) (lent_of i s)).slot
       (take_into part (limit_of s) piece (slot_of i s) (lent_of i s)).lent s).left
   more-intact answer number i part piece y e =
@@ -159,7 +156,7 @@ module _ (s : State) (whole : Intact s) where
 
   -- the first segment of a number, in a free slot
   first-intact : (answer : Answer) (number i : ℕ) (part : Part) (piece : Segment) → Bytes piece.bytes
-      → find number s ≡ Nothing → fits_alone part (limit_of s) piece ≡ true → free s ≡ At i
+      → find number s ≡ None → fits_alone part (limit_of s) piece ≡ true → free s ≡ Some i
       → Intact (replacing answer i (take_into part (limit_of s) piece (fresh_slot number) (lent_of i s)).slot
       (take_into part (limit_of s) piece (fresh_slot number) (lent_of i s)).lent s).left
   unfolding fresh_slot
@@ -197,7 +194,7 @@ module _ (s : State) (whole : Intact s) where
           absurd (false-true (rw same at (none-holds s whole.undamaged number j n v)) g)
 
   -- a slot that is dropped
-  drop-left : (answer : Answer) (number i : ℕ) → find number s ≡ At i
+  drop-left : (answer : Answer) (number i : ℕ) → find number s ≡ Some i
       → Intact (replacing answer i free_slot (cleared (lent_of i s)) s).left
   unfolding right_slot is_free free_slot
   drop-left answer number i e = replaced-intact answer i free_slot (cleared (lent_of i s)) s whole u
@@ -213,16 +210,16 @@ module _ (s : State) (whole : Intact s) where
 -- the segment of a group of bytes is bytes
 segment-bytes : (bytes : List ℕ) (carried : Carried) → Bytes bytes → Bytes (segment_in bytes carried).bytes
 segment-bytes bytes carried y =
-    bytes_take carried.length (drop carried.start bytes) (bytes_drop carried.start bytes y)
+    bytes_take carried.bytes.length (drop carried.bytes.start bytes) (bytes_drop carried.bytes.start bytes y)
 
 pub brought-bytes : (given : Handed) (arrived : Arrival) → HandedBytes given → brought_by given ≡ arrives arrived
     → Bytes arrived.segment.bytes
 brought-bytes (group bytes) arrived y e = go (reading_of bytes) refl e
   where
-    go : (reading : Reading) → reading_of bytes ≡ reading → brought_in reading bytes ≡ arrives arrived
+    go : (reading : Result Carried Refusal) → reading_of bytes ≡ reading → brought_in reading bytes ≡ arrives arrived
         → Bytes arrived.segment.bytes
-    go (Refused why) r f = let z : ◌≡◌ {A = ℕ} 0 1 = cc in absurd (omega arith)
-    go (Read carried) r f =
+    go (Err why) r f = let z : ◌≡◌ {A = ℕ} 0 1 = cc in absurd (omega arith)
+    go (Ok carried) r f =
         let same : arrival_in bytes carried ≡ arrived = cc in
         subst (λ (a : Arrival). Bytes a.segment.bytes) same (segment-bytes bytes carried y)
 brought-bytes (segment heard last bytes) arrived y e =
@@ -255,10 +252,10 @@ handed-intact given s y whole = go (brought_by given) refl
 pub drop-intact : (number : ℕ) (s : State) → Intact s → Intact (drop_leaves number s)
 drop-intact number s whole = go (find number s) refl
   where
-    go : (found : Found) → find number s ≡ found → Intact (drop_number number s).left
-    go Nothing e = rw (none_dropped number s whole.undamaged e)
+    go : (found : Option ℕ) → find number s ≡ found → Intact (drop_number number s).left
+    go None e = rw (none_dropped number s whole.undamaged e)
         (answered-intact (Answer.Denied Reason.NotHeld) s whole)
-    go (At i) e = rw (found-dropped number s whole.undamaged i
+    go (Some i) e = rw (found-dropped number s whole.undamaged i
         (used-inside s whole.undamaged i (found-used s whole.undamaged number i e)) e)
         (drop-left s whole (Answer.Dropped number) number i e)
 

@@ -1,5 +1,5 @@
 -- The stage of a number's slot and what is shown of it, where the slots hold just what was stored.
-use Rattle.std.specs.Prelude.{◌≡◌, refl, true, List, [], ℕ, length}
+use Rattle.std.specs.Prelude.{◌≡◌, refl, Option, None, Some, true, List, [], ℕ, length}
 use Rattle.std.proofs.Common.{sym, ap, ◌∙◌, subst, zero-mul, arith}
 use Rattle.answer.specs.declared.Part.{Part}
 use Rattle.answer.specs.declared.Part.TheVariants.{Header, Body}
@@ -10,8 +10,6 @@ use Rattle.object.specs.declared.Stage.TheVariants as Stage
 use Rattle.object.specs.State.{StageFor}
 use Rattle.object.specs.laws.Held.{Holds}
 use Rattle.object.specs.laws.Shown.{holds-shows}
-use Rattle.slots.specs.declared.Found.{Found}
-use Rattle.slots.specs.declared.Found.TheVariants.{Nothing, At}
 use Rattle.collector.specs.State.{State, find}
 use Rattle.collector.specs.Calls.{show, sound}
 use Rattle.history.specs.Held.{lent_of, limit_of, slot_of, stage_at, stage_for}
@@ -49,10 +47,10 @@ module _ (number : ℕ) (s : State) (hs bs : List Segment) (w : StandsFor number
       → stage_for number s ≡ Stage.Finished (length f.header) (length f.body)
   all_finished f d = go (find number s) refl
     where
-      go : (found : Found) → find number s ≡ found
+      go : (found : Option ℕ) → find number s ≡ found
           → stage_at found s ≡ Stage.Finished (length f.header) (length f.body)
-      go Nothing e = absurd (none-finished (limit_of s) hs bs f d (w.rest e).0)
-      go (At i) e = let h = w.held i e in
+      go None e = absurd (none-finished (limit_of s) hs bs f d (w.rest e).0)
+      go (Some i) e = let h = w.held i e in
           stage-finished (limit_of s) hs bs f (slot_of i s).stage
           (stage-every (limit_of s) hs bs h.gathers.object f (slot_of i s).stage h.stage) d
 
@@ -60,10 +58,10 @@ module _ (number : ℕ) (s : State) (hs bs : List Segment) (w : StandsFor number
   pub finished-all : (h b : ℕ) → stage_for number s ≡ Stage.Finished h b → (f : Fits (limit_of s) hs bs) × Finished f
   finished-all h b = go (find number s) refl
     where
-      go : (found : Found) → find number s ≡ found → stage_at found s ≡ Stage.Finished h b → (f : Fits (limit_of s) hs bs)
-          × Finished f
-      go Nothing e g = let z : ◌≡◌ {A = ℕ} 0 1 = cc in absurd (omega arith)
-      go (At i) e g = let k = w.held i e in (
+      go : (found : Option ℕ) → find number s ≡ found → stage_at found s ≡ Stage.Finished h b
+          → (f : Fits (limit_of s) hs bs) × Finished f
+      go None e g = let z : ◌≡◌ {A = ℕ} 0 1 = cc in absurd (omega arith)
+      go (Some i) e g = let k = w.held i e in (
         k.gathers.object,
         finished-fits (limit_of s) hs bs k.gathers.object (slot_of i s).stage h b
             k.stage g,
@@ -76,12 +74,12 @@ module _ (number : ℕ) (s : State) (hs bs : List Segment) (w : StandsFor number
       × (show number Body s ≡ joined body_numbers bs)
   finished-shown good f d = go (find number s) refl (all_finished f d)
     where
-      go : (found : Found) → find number s ≡ found
+      go : (found : Option ℕ) → find number s ≡ found
           → stage_at found s ≡ Stage.Finished (length f.header) (length f.body)
           → (show number Header s ≡ f.header) × (show number Body s ≡ f.body)
           × (show number Header s ≡ joined header_numbers hs) × (show number Body s ≡ joined body_numbers bs)
-      go Nothing e g = absurd (none-finished (limit_of s) hs bs f d (w.rest e).0)
-      go (At i) e g =
+      go None e g = absurd (none-finished (limit_of s) hs bs f d (w.rest e).0)
+      go (Some i) e g =
           let shows = holds-shows (limit_of s) (slot_of i s) (lent_of i s) hs bs (w.held i e) (length f.header)
           (length f.body) g in
           let front : (part : Part) → show number part s
@@ -106,6 +104,6 @@ module _ (number : ℕ) (s : State) (hs bs : List Segment) (w : StandsFor number
           absurd (none h.gathers.object
           (finished-fits (limit_of s) hs bs h.gathers.object (slot_of i s).stage x y h.stage e))
 
-      go : (found : Found) → find number s ≡ found → show number part s ≡ []
-      go Nothing e = unheld-shown number part s good e
-      go (At i) e = held-shown number part s good i e ∙ staged i (w.held i e) (slot_of i s).stage refl
+      go : (found : Option ℕ) → find number s ≡ found → show number part s ≡ []
+      go None e = unheld-shown number part s good e
+      go (Some i) e = held-shown number part s good i e ∙ staged i (w.held i e) (slot_of i s).stage refl

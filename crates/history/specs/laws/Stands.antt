@@ -1,7 +1,7 @@
 -- Each slot holds just what was stored under its number, and nothing was stored under any other number: kept by every
 -- call.
 use Rattle.std.proofs.Math.Path.{◌≡◌}
-use Rattle.std.specs.Prelude.{refl, ◌≢◌, Bool, true, false, List, [], ◌∷◌, ℕ, ◌≤◌, ◌<◌, eqb, set}
+use Rattle.std.specs.Prelude.{refl, ◌≢◌, Option, None, Some, Bool, true, false, List, [], ◌∷◌, ℕ, ◌≤◌, ◌<◌, eqb, set}
 use Rattle.std.proofs.Common.{sym, ◌∙◌, subst, arith, eq-eqb, ne_eqb}
 use Rattle.std.proofs.Math.Decide.{ℕ_discrete}
 use Rattle.octets.specs.Octets.{sum_of}
@@ -21,8 +21,6 @@ use Rattle.object.specs.laws.Shape.{IsLent}
 use Rattle.object.specs.laws.Held.{Holds, Added}
 use Rattle.object.specs.laws.Step.{Tells, outcome-tells}
 use Rattle.object.specs.Parts.{Lent}
-use Rattle.slots.specs.declared.Found.{Found}
-use Rattle.slots.specs.declared.Found.TheVariants.{Nothing, At}
 use Rattle.slots.specs.Stores.{free_slot, fresh_slot, slot_at}
 use Rattle.slots.specs.Find.{is_free, holds, find_in, free_in}
 use Rattle.slots.specs.Alone.{fits_alone}
@@ -44,8 +42,8 @@ use Rattle.history.specs.Taking.{take}
 
 -- the slot that holds a number holds just these segments; if none holds it, there are none
 pub record StandsFor (number : ℕ) (s : State) (hs bs : List Segment) : Type 0 where
-  pub held : (i : ℕ) → find number s ≡ At i → Holds (limit_of s) (slot_of i s) (lent_of i s) hs bs
-  pub rest : find number s ≡ Nothing → (hs ≡ []) × (bs ≡ [])
+  pub held : (i : ℕ) → find number s ≡ Some i → Holds (limit_of s) (slot_of i s) (lent_of i s) hs bs
+  pub rest : find number s ≡ None → (hs ≡ []) × (bs ≡ [])
 
 -- ... for every number, and the segments that were stored under it
 abbrev pub Stands : State → List Event → Type 0
@@ -54,7 +52,7 @@ Stands s events = (number : ℕ) → StandsFor number s (stored_under Header num
 same-stands : (number : ℕ) (s t : State) (hs bs : List Segment) → Same number s t → StandsFor number s hs bs
     → StandsFor number t hs bs
 same-stands number s t hs bs same w = record {
-  held = λ i e. let f : find number s ≡ At i = sym same.found ∙ e in
+  held = λ i e. let f : find number s ≡ Some i = sym same.found ∙ e in
       rw (same.slot i f, same.lent i f, same.limit) (w.held i f);
   rest = λ e. w.rest (sym same.found ∙ e);
 }
@@ -74,7 +72,7 @@ module _ (number : ℕ) (answer : Answer) (i : ℕ) (slot : Slot) (lent : Lent) 
   unfolding t
   lends = lent_back (limit_of s) i lent s.stores (lent-is-wide (limit_of s) lent l) (used-inside s good i u)
 
-  replaced-found : holds number slot ≡ true → find number (replacing answer i slot lent s).left ≡ At i
+  replaced-found : holds number slot ≡ true → find number (replacing answer i slot lent s).left ≡ Some i
   unfolding t find_in
   replaced-found h = only-found (holds number) s.collector.count t.collector.slots i v own
       (λ j x g. (slots-right t whole.undamaged).once number j i x v g own)
@@ -94,10 +92,10 @@ module _ (number : ℕ) (answer : Answer) (i : ℕ) (slot : Slot) (lent : Lent) 
         absurd (omega arith);
   }
     where
-      found : find number t ≡ At i
+      found : find number t ≡ Some i
       found = replaced-found (is_held number slot (holds-held (limit_of s) slot lent hs bs h) e)
 
-      held : (j : ℕ) → find number t ≡ At j → Holds (limit_of s) (slot_of j t) (lent_of j t) hs bs
+      held : (j : ℕ) → find number t ≡ Some j → Holds (limit_of s) (slot_of j t) (lent_of j t) hs bs
       held j f =
           let d : i ≡ j = cc found in
           subst (λ (k : ℕ). Holds (limit_of s) (slot_of k t) (lent_of k t) hs bs) d (rw (here, lends) h)
@@ -151,7 +149,7 @@ not-stands arrived answer s hs bs e w = rw e (record { held = w.held; rest = w.r
 more-stands : (arrived : Arrival) (s : State) (i : ℕ) (hs bs : List Segment) (taken : Taken)
     → taken ≡ take_into arrived.part (limit_of s) arrived.segment (slot_of i s) (lent_of i s)
     → Bytes arrived.segment.bytes → Intact s → Intact (offering arrived i s taken).left
-    → StandsFor arrived.number s hs bs → find arrived.number s ≡ At i
+    → StandsFor arrived.number s hs bs → find arrived.number s ≡ Some i
     → StandsFor arrived.number (offering arrived i s taken).left
     (pick (is_stored (answer_for taken.outcome arrived))
     (headers_with arrived.part arrived.segment hs) hs)
@@ -183,7 +181,7 @@ more-stands arrived s i hs bs taken same y whole whole' w n =
 first-stands : (arrived : Arrival) (s : State) (i : ℕ) (taken : Taken)
     → taken ≡ take_into arrived.part (limit_of s) arrived.segment (fresh_slot arrived.number) (lent_of i s)
     → Bytes arrived.segment.bytes → Intact s → Intact (offering arrived i s taken).left
-    → fits_alone arrived.part (limit_of s) arrived.segment ≡ true → free s ≡ At i
+    → fits_alone arrived.part (limit_of s) arrived.segment ≡ true → free s ≡ Some i
     → (is_stored (answer_for taken.outcome arrived) ≡ true)
     × StandsFor arrived.number (offering arrived i s taken).left (headers_with arrived.part arrived.segment [])
     (bodies_with arrived.part arrived.segment [])
@@ -242,8 +240,8 @@ came-own arrived s t hs bs y whole whole' w (more i n e) =
 
 -- a number that held no slot takes the lowest free one
 pub came-lowest : (arrived : Arrival) (s : State) (t : Reply) → Bytes arrived.segment.bytes → Intact s
-    → Intact t.left → Came arrived s t → find arrived.number s ≡ Nothing → number_of t.answer ≤ 1
-    → (i : ℕ) × (find arrived.number t.left ≡ At i) × (is_free (slot_of i s) ≡ true)
+    → Intact t.left → Came arrived s t → find arrived.number s ≡ None → number_of t.answer ≤ 1
+    → (i : ℕ) × (find arrived.number t.left ≡ Some i) × (is_free (slot_of i s) ≡ true)
     × ((j : ℕ) → j < i → is_free (slot_of j s) ≡ false)
 unfolding free_in fresh_slot
 came-lowest arrived s t y whole whole' (alone n a e) none h = absurd (omega (arith, rw e at h))
@@ -319,8 +317,8 @@ handed-stands given s events y whole w number = go (brought_by given) refl
 -- ---- a drop
 
 -- the slot that held the number is free, and no other holds it
-dropped-none : (number i : ℕ) (answer : Answer) (lent : Lent) (s : State) → sound s ≡ true → find number s ≡ At i
-    → find number (replacing answer i free_slot lent s).left ≡ Nothing
+dropped-none : (number i : ℕ) (answer : Answer) (lent : Lent) (s : State) → sound s ≡ true → find number s ≡ Some i
+    → find number (replacing answer i free_slot lent s).left ≡ None
 unfolding find_in free_slot is_free
 dropped-none number i answer lent s good e =
     none_found (holds number) s.collector.count (set s.collector.slots i free_slot)
@@ -354,11 +352,11 @@ drop_own : (number : ℕ) (s : State) (hs bs : List Segment) → Intact s → St
     (pick (is_dropped (drop_number number s).answer) [] bs)
 drop_own number s hs bs whole w = go (find number s) refl
   where
-    go : (found : Found) → find number s ≡ found
+    go : (found : Option ℕ) → find number s ≡ found
         → StandsFor number (drop_number number s).left (pick (is_dropped (drop_number number s).answer) [] hs)
         (pick (is_dropped (drop_number number s).answer) [] bs)
-    go Nothing e = rw (none_dropped number s whole.undamaged e) (record { held = w.held; rest = w.rest })
-    go (At i) e =
+    go None e = rw (none_dropped number s whole.undamaged e) (record { held = w.held; rest = w.rest })
+    go (Some i) e =
         let gone = dropped-none number i (Answer.Dropped number) (cleared (lent_of i s)) s whole.undamaged e in
         rw (found-dropped number s whole.undamaged i
         (used-inside s whole.undamaged i (found-used s whole.undamaged number i e)) e)

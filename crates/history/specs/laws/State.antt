@@ -1,20 +1,20 @@
 -- STATE, exactly: document 01's list, in its words and order, of any state whatever.
-use Rattle.std.specs.Prelude.{◌≡◌, refl, ◌≢◌, ◌↔◌, Bool, true, false, List, [], ℕ, ◌≤◌, get_or}
+use Rattle.std.specs.Prelude.{◌≡◌, refl, ◌≢◌, ◌↔◌, Bool, true, false, List, [], Option, Some, None, Result, Ok, Err, ℕ, ◌≤◌, get_or}
 use Rattle.std.proofs.Common.{ap}
 use native.Mathlib.Omega.{arith}
 use borrow.Author.Tests.{eqb-true, eq-eqb}
 use Rattle.octets.specs.Octets.{largest_of}
 use Rattle.octets.specs.laws.Marks.{largest-each}
 use Rattle.answer.specs.declared.Answer.TheVariants as Answer
-use Rattle.answer.specs.declared.Reason.TheVariants as Reason
+use Rattle.answer.specs.declared.Reason.{Reason}
 use Rattle.answer.specs.declared.Heard.{Heard}
 use Rattle.answer.specs.declared.Part.{Part}
 use Rattle.answer.specs.declared.Part.TheVariants.{Header}
 use Rattle.counts.specs.Counted.{within}
 use Rattle.cut.specs.Requirement.{limit_most}
 use Rattle.cut.specs.laws.Decision.{true-both}
-use Rattle.header.specs.declared.Reading.{Reading as HeaderReading}
-use Rattle.header.specs.declared.Reading.TheVariants as HeaderReading
+use Rattle.header.specs.declared.Fields.{Fields}
+use Rattle.header.specs.declared.Refusal.{Refusal as HeaderRefusal}
 use Rattle.header.specs.declared.Refusal.TheVariants as HeaderRefusal
 use Rattle.header.specs.Parameters.{read_header}
 use Rattle.object.specs.declared.Slot.{Slot}
@@ -27,24 +27,15 @@ use Rattle.object.specs.laws.Shape.{IsLent}
 use Rattle.object.specs.State.{Sound}
 use Rattle.object.specs.laws.StateExact.{sound-exactly}
 use Rattle.object.specs.Parts.{Lent}
-use Rattle.slots.specs.declared.Found.{Found}
-use Rattle.slots.specs.declared.Found.TheVariants.{Nothing, At}
 use Rattle.slots.specs.Stores.{fresh_slot}
 use Rattle.slots.specs.Find.{is_free}
 use Rattle.slots.specs.State.{right_slot, sound_slots}
-use Rattle.collector.specs.declared.Located.{Located}
-use Rattle.collector.specs.declared.Located.TheVariants as Located
-use Rattle.name_search.specs.declared.Holder.{Holder}
-use Rattle.name_search.specs.declared.Holder.TheVariants as Holder
 use Rattle.name_search.specs.Finding.{found_by_name}
 use Rattle.collector.specs.State.{Reply, State, find}
 use Rattle.collector.specs.Calls.{answer_for, drop_number, locate, located_as, located_in, show, sound}
 use Rattle.collector.specs.Arrival.{Arrival, heard_as}
 use Rattle.queries.specs.Questions as queries
-use Rattle.queries.specs.declared.Asked.TheVariants as Asked
-use Rattle.queries.specs.declared.Sought.TheVariants as Sought
 use Rattle.queries.specs.Questions.{asked_of, parameters, name, sought_as, find as find_by_name}
-use Rattle.queries.specs.declared.Awaited.TheVariants as Awaited
 use Rattle.queries.specs.Missing.{awaited_in, missing}
 use Rattle.queries.specs.Said.{asked_as}
 use Rattle.history.specs.laws.Slots.{undamaged-sound}
@@ -132,52 +123,52 @@ handed-never given s good = go (brought_by given) refl
 pub drop-never : (number : ℕ) (s : State) → sound s ≡ true → drop_answer number s ≢ Answer.Denied Reason.State
 drop-never number s good = go (find number s) refl
   where
-    go : (found : Found) → find number s ≡ found → (drop_number number s).answer ≢ Answer.Denied Reason.State
-    go Nothing e d = let f = none_dropped number s good e in let z : ◌≡◌ {A = ℕ} 0 1 = cc in absurd (omega arith)
-    go (At i) e d = let f = found-dropped number s good i (used-inside s good i (found-used s good number i e)) e in
+    go : (found : Option ℕ) → find number s ≡ found → (drop_number number s).answer ≢ Answer.Denied Reason.State
+    go None e d = let f = none_dropped number s good e in let z : ◌≡◌ {A = ℕ} 0 1 = cc in absurd (omega arith)
+    go (Some i) e d = let f = found-dropped number s good i (used-inside s good i (found-used s good number i e)) e in
         let z : ◌≡◌ {A = ℕ} 0 1 = cc in absurd (omega arith)
 
-staged-never : (stage : Stage) (i : ℕ) → located_as stage i ≢ Located.Denied Reason.State
+staged-never : (stage : Stage) (i : ℕ) → located_as stage i ≢ Err Reason.State
 staged-never Stage.Free i e = let z : ◌≡◌ {A = ℕ} 0 1 = cc in absurd (omega arith)
 staged-never Stage.Gathering i e = let z : ◌≡◌ {A = ℕ} 0 1 = cc in absurd (omega arith)
 staged-never (Stage.Finished header body) i e = let z : ◌≡◌ {A = ℕ} 0 1 = cc in absurd (omega arith)
 
-pub located-never : (number : ℕ) (s : State) → sound s ≡ true → locate number s ≢ Located.Denied Reason.State
+pub located-never : (number : ℕ) (s : State) → sound s ≡ true → locate number s ≢ Err Reason.State
 unfolding locate
 located-never number s good d = go (find number s) (rw good at d)
   where
-    go : (found : Found) → located_in found s.collector ≢ Located.Denied Reason.State
-    go Nothing e = let z : ◌≡◌ {A = ℕ} 0 1 = cc in absurd (omega arith)
-    go (At i) e = staged-never (slot_of i s).stage i e
+    go : (found : Option ℕ) → located_in found s.collector ≢ Err Reason.State
+    go None e = let z : ◌≡◌ {A = ℕ} 0 1 = cc in absurd (omega arith)
+    go (Some i) e = staged-never (slot_of i s).stage i e
 
-read-never : (reading : HeaderReading) → asked_as reading ≢ Asked.Denied Reason.State
-read-never (HeaderReading.Read fields) e = let z : ◌≡◌ {A = ℕ} 0 1 = cc in absurd (omega arith)
-read-never (HeaderReading.Refused HeaderRefusal.Header) e = let z : ◌≡◌ {A = ℕ} 0 1 = cc in absurd (omega arith)
-read-never (HeaderReading.Refused HeaderRefusal.Duplicate) e = let z : ◌≡◌ {A = ℕ} 0 1 = cc in absurd (omega arith)
+read-never : (reading : Result Fields HeaderRefusal) → asked_as reading ≢ Err Reason.State
+read-never (Ok fields) e = let z : ◌≡◌ {A = ℕ} 0 1 = cc in absurd (omega arith)
+read-never (Err HeaderRefusal.Header) e = let z : ◌≡◌ {A = ℕ} 0 1 = cc in absurd (omega arith)
+read-never (Err HeaderRefusal.Duplicate) e = let z : ◌≡◌ {A = ℕ} 0 1 = cc in absurd (omega arith)
 
-asked-never : (l : Located) (header : List ℕ) → l ≢ Located.Denied Reason.State
-    → asked_of l header ≢ Asked.Denied Reason.State
-asked-never (Located.Denied why) header n e = let same : why ≡ Reason.State = cc in n (ap Located.Denied same)
-asked-never (Located.At i) header n e = read-never (read_header header) e
+asked-never : (l : Result ℕ Reason) (header : List ℕ) → l ≢ Err Reason.State
+    → asked_of l header ≢ Err Reason.State
+asked-never (Err why) header n e = let same : why ≡ Reason.State = cc in n (ap Err same)
+asked-never (Ok i) header n e = read-never (read_header header) e
 
-pub told-never : (number : ℕ) (s : State) → sound s ≡ true → queries.parameters number s ≢ Asked.Denied Reason.State
+pub told-never : (number : ℕ) (s : State) → sound s ≡ true → queries.parameters number s ≢ Err Reason.State
 unfolding parameters
 told-never number s good = asked-never (locate number s) (show number Header s) (located-never number s good)
 
-sought-never : (holder : Holder) → sought_as holder ≢ Sought.Denied Reason.State
-sought-never (Holder.Number number) e = let z : ◌≡◌ {A = ℕ} 0 1 = cc in absurd (omega arith)
-sought-never Holder.Nobody e = let z : ◌≡◌ {A = ℕ} 0 1 = cc in absurd (omega arith)
+sought-never : (holder : Option ℕ) → sought_as holder ≢ Err Reason.State
+sought-never (Some number) e = let z : ◌≡◌ {A = ℕ} 0 1 = cc in absurd (omega arith)
+sought-never None e = let z : ◌≡◌ {A = ℕ} 0 1 = cc in absurd (omega arith)
 
-pub found-never : (sought : List ℕ) (s : State) → sound s ≡ true → queries.find sought s ≢ Sought.Denied Reason.State
+pub found-never : (sought : List ℕ) (s : State) → sound s ≡ true → queries.find sought s ≢ Err Reason.State
 unfolding find_by_name
 found-never sought s good d = sought-never
     (found_by_name sought s.collector.count s.collector.slots s.stores.header) (rw good at d)
 
-awaited-in : (found : Found) (s : State) → awaited_in found s ≢ Awaited.Denied Reason.State
-awaited-in Nothing s e = let z : ◌≡◌ {A = ℕ} 0 1 = cc in absurd (omega arith)
-awaited-in (At i) s e = let z : ◌≡◌ {A = ℕ} 0 1 = cc in absurd (omega arith)
+awaited-in : (found : Option ℕ) (s : State) → awaited_in found s ≢ Err Reason.State
+awaited-in None s e = let z : ◌≡◌ {A = ℕ} 0 1 = cc in absurd (omega arith)
+awaited-in (Some i) s e = let z : ◌≡◌ {A = ℕ} 0 1 = cc in absurd (omega arith)
 
-pub awaited-never : (number : ℕ) (s : State) → sound s ≡ true → missing number s ≢ Awaited.Denied Reason.State
+pub awaited-never : (number : ℕ) (s : State) → sound s ≡ true → missing number s ≢ Err Reason.State
 unfolding missing
 awaited-never number s good d = awaited-in (find number s) s (rw good at d)
 
@@ -202,7 +193,7 @@ drop-state number s y = (
 )
 
 -- and a question
-located-damaged : (number : ℕ) (s : State) → sound s ≡ false → locate number s ≡ Located.Denied Reason.State
+located-damaged : (number : ℕ) (s : State) → sound s ≡ false → locate number s ≡ Err Reason.State
 unfolding locate
 located-damaged number s d = rw d refl
 
@@ -210,7 +201,7 @@ shown-damaged : (number : ℕ) (part : Part) (s : State) → sound s ≡ false �
 unfolding show
 shown-damaged number part s d = rw (located-damaged number s d) refl
 
-told-damaged : (number : ℕ) (s : State) → sound s ≡ false → queries.parameters number s ≡ Asked.Denied Reason.State
+told-damaged : (number : ℕ) (s : State) → sound s ≡ false → queries.parameters number s ≡ Err Reason.State
 unfolding parameters
 told-damaged number s d = rw (located-damaged number s d) refl
 
@@ -218,20 +209,20 @@ named-damaged : (number : ℕ) (s : State) → sound s ≡ false → queries.nam
 unfolding name
 named-damaged number s d = rw (located-damaged number s d) refl
 
-found-damaged : (sought : List ℕ) (s : State) → sound s ≡ false → queries.find sought s ≡ Sought.Denied Reason.State
+found-damaged : (sought : List ℕ) (s : State) → sound s ≡ false → queries.find sought s ≡ Err Reason.State
 unfolding find_by_name
 found-damaged sought s d = rw d refl
 
-awaited-damaged : (number : ℕ) (s : State) → sound s ≡ false → missing number s ≡ Awaited.Denied Reason.State
+awaited-damaged : (number : ℕ) (s : State) → sound s ≡ false → missing number s ≡ Err Reason.State
 unfolding missing
 awaited-damaged number s d = rw d refl
 
 pub ask-state : (s : State) → OfBytes s.stores
-    → ((number : ℕ) → (locate number s ≡ Located.Denied Reason.State) ↔ (¬ (InOrder s)))
-    × ((number : ℕ) → (queries.parameters number s ≡ Asked.Denied Reason.State) ↔ (¬ (InOrder s)))
-    × ((sought : List ℕ) → (queries.find sought s ≡ Sought.Denied Reason.State) ↔ (¬ (InOrder s)))
+    → ((number : ℕ) → (locate number s ≡ Err Reason.State) ↔ (¬ (InOrder s)))
+    × ((number : ℕ) → (queries.parameters number s ≡ Err Reason.State) ↔ (¬ (InOrder s)))
+    × ((sought : List ℕ) → (queries.find sought s ≡ Err Reason.State) ↔ (¬ (InOrder s)))
     × (¬ (InOrder s) → (number : ℕ) → ((part : Part) → show number part s ≡ []) × (queries.name number s ≡ []))
-    × ((number : ℕ) → (missing number s ≡ Awaited.Denied Reason.State) ↔ (¬ (InOrder s)))
+    × ((number : ℕ) → (missing number s ≡ Err Reason.State) ↔ (¬ (InOrder s)))
 ask-state s y = (
   (λ number. (
     (λ e w. located-never number s ((in-order-exactly s y).1 w) e),

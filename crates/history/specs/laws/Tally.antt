@@ -1,5 +1,5 @@
 -- Each of the five counts is the number of such answers since the opening, or 2147483647 where there were more.
-use Rattle.std.specs.Prelude.{◌≡◌, refl, Bool, true, false, cond, List, [], ◌∷◌, ℕ, suc, ◌+◌, ◌<◌, min, leb, ltb}
+use Rattle.std.specs.Prelude.{◌≡◌, refl, Option, None, Some, Bool, true, false, cond, List, [], ◌∷◌, ℕ, suc, ◌+◌, ◌<◌, min, leb, ltb}
 use Rattle.std.proofs.Common.{ap, ◌∙◌, arith, ltb-true, ltb-false}
 use Rattle.std.proofs.lemmas.Bool.{lt-leb}
 use Rattle.answer.specs.declared.Answer.{Answer}
@@ -10,10 +10,7 @@ use Rattle.answer.specs.Table.{number_of}
 use Rattle.answer.specs.laws.Table.{reason-from}
 use Rattle.counts.specs.declared.Counts.{Counts}
 use Rattle.counts.specs.Counted.{ceiling, risen, counted}
-use Rattle.wire.specs.declared.Reading.TheVariants.{Refused}
 use Rattle.cut.specs.Lists.{pick, both}
-use Rattle.slots.specs.declared.Found.{Found}
-use Rattle.slots.specs.declared.Found.TheVariants.{Nothing, At}
 use Rattle.collector.specs.State.{Start, Reply, State, find}
 use Rattle.collector.specs.Calls.{drop_number, sound}
 use Rattle.collector.specs.Arrival.{Arrival}
@@ -111,11 +108,11 @@ drop-counted : (number : ℕ) (s : State)
     → (drop_number number s).left.counts ≡ counted (drop_number number s).answer s.counts
 drop-counted number s = go (sound s) refl (find number s) refl
   where
-    go : (b : Bool) → sound s ≡ b → (found : Found) → find number s ≡ found
+    go : (b : Bool) → sound s ≡ b → (found : Option ℕ) → find number s ≡ found
         → (drop_number number s).left.counts ≡ counted (drop_number number s).answer s.counts
     go false d found e = rw (drop-damaged number s d) refl
-    go true d Nothing e = rw (none_dropped number s d e) refl
-    go true d (At i) e = rw (found-dropped number s d i (used-inside s d i (found-used s d number i e)) e) refl
+    go true d None e = rw (none_dropped number s d e) refl
+    go true d (Some i) e = rw (found-dropped number s d i (used-inside s d i (found-used s d number i e)) e) refl
 
 tallied-more : (answer : Answer) (events : List Event)
     → counted answer (tallied events)

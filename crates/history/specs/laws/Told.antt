@@ -1,33 +1,25 @@
 -- What the questions are answered in a state whose slots hold just what is stored.
-use Rattle.std.specs.Prelude.{◌≡◌, ◌≢◌, ◌↔◌, true, ℕ, ◌≤◌}
+use Rattle.std.specs.Prelude.{◌≡◌, ◌≢◌, ◌↔◌, Option, None, Some, true, Result, Ok, Err, ℕ, ◌≤◌}
 use Rattle.std.proofs.Math.Path.{refl}
 use Rattle.std.proofs.Common.{sym, ap, ◌∙◌, arith}
 use mathlib.Core.List.{List, []}
-use Rattle.answer.specs.declared.Reason.TheVariants as Reason
+use Rattle.answer.specs.declared.Reason.{Reason}
 use Rattle.answer.specs.declared.Part.{Part}
 use Rattle.answer.specs.declared.Part.TheVariants.{Header, Body}
 use Rattle.cut.specs.Requirement.{Segment, Fits, Finished}
 use Rattle.cut.specs.laws.Decision.{false-true}
-use Rattle.header.specs.declared.Reading.{Reading}
-use Rattle.header.specs.declared.Reading.TheVariants as Reading
+use Rattle.header.specs.declared.Fields.{Fields}
 use Rattle.header.specs.declared.Refusal.{Refusal}
 use Rattle.header.specs.declared.Refusal.TheVariants as Refusal
 use Rattle.header.specs.Parameters.{read_header}
 use Rattle.header.specs.Names.{name_data}
 use Rattle.object.specs.declared.Stage.{Stage}
 use Rattle.object.specs.declared.Stage.TheVariants as Stage
-use Rattle.slots.specs.declared.Found.{Found}
-use Rattle.slots.specs.declared.Found.TheVariants.{Nothing, At}
 use Rattle.slots.specs.Find.{is_free}
 use Rattle.name_search.specs.Requirement.{Named}
-use Rattle.collector.specs.declared.Located.{Located}
-use Rattle.collector.specs.declared.Located.TheVariants as Located
 use Rattle.collector.specs.State.{State, find}
 use Rattle.collector.specs.Calls.{locate, located_as, located_in, show, sound}
 use Rattle.queries.specs.Questions as queries
-use Rattle.queries.specs.declared.Asked.{Asked}
-use Rattle.queries.specs.declared.Asked.TheVariants as Asked
-use Rattle.queries.specs.declared.Sought.TheVariants as Sought
 use Rattle.queries.specs.Questions.{asked_of, parameters, named_of, name}
 use Rattle.queries.specs.laws.Theorems.{find-lowest, find-nobody}
 use Rattle.queries.specs.Said.{reason_of, asked_as}
@@ -39,15 +31,15 @@ use Rattle.history.specs.laws.Stage.{all_finished, finished-all, finished-shown}
 
 -- ---- an answer is of one kind
 
-unheld-unread : (reading : Reading) → asked_as reading ≢ Asked.Denied Reason.NotHeld
-unheld-unread (Reading.Read fields) e = let z : ◌≡◌ {A = ℕ} 0 1 = cc in absurd (omega arith)
-unheld-unread (Reading.Refused Refusal.Header) e = let z : ◌≡◌ {A = ℕ} 0 1 = cc in absurd (omega arith)
-unheld-unread (Reading.Refused Refusal.Duplicate) e = let z : ◌≡◌ {A = ℕ} 0 1 = cc in absurd (omega arith)
+unheld-unread : (reading : Result Fields Refusal) → asked_as reading ≢ Err Reason.NotHeld
+unheld-unread (Ok fields) e = let z : ◌≡◌ {A = ℕ} 0 1 = cc in absurd (omega arith)
+unheld-unread (Err Refusal.Header) e = let z : ◌≡◌ {A = ℕ} 0 1 = cc in absurd (omega arith)
+unheld-unread (Err Refusal.Duplicate) e = let z : ◌≡◌ {A = ℕ} 0 1 = cc in absurd (omega arith)
 
-missing-unread : (reading : Reading) → asked_as reading ≢ Asked.Denied Reason.Unfinished
-missing-unread (Reading.Read fields) e = let z : ◌≡◌ {A = ℕ} 0 1 = cc in absurd (omega arith)
-missing-unread (Reading.Refused Refusal.Header) e = let z : ◌≡◌ {A = ℕ} 0 1 = cc in absurd (omega arith)
-missing-unread (Reading.Refused Refusal.Duplicate) e = let z : ◌≡◌ {A = ℕ} 0 1 = cc in absurd (omega arith)
+missing-unread : (reading : Result Fields Refusal) → asked_as reading ≢ Err Reason.Unfinished
+missing-unread (Ok fields) e = let z : ◌≡◌ {A = ℕ} 0 1 = cc in absurd (omega arith)
+missing-unread (Err Refusal.Header) e = let z : ◌≡◌ {A = ℕ} 0 1 = cc in absurd (omega arith)
+missing-unread (Err Refusal.Duplicate) e = let z : ◌≡◌ {A = ℕ} 0 1 = cc in absurd (omega arith)
 
 refused-once : (a b : Refusal) → reason_of a ≡ reason_of b → a ≡ b
 refused-once Refusal.Header Refusal.Header e = refl
@@ -55,35 +47,36 @@ refused-once Refusal.Header Refusal.Duplicate e = let z : ◌≡◌ {A = ℕ} 0 
 refused-once Refusal.Duplicate Refusal.Header e = let z : ◌≡◌ {A = ℕ} 0 1 = cc in absurd (omega arith)
 refused-once Refusal.Duplicate Refusal.Duplicate e = refl
 
-asked-once : (a b : Reading) → asked_as a ≡ asked_as b → a ≡ b
-asked-once (Reading.Read f) (Reading.Read g) e = let same : f ≡ g = cc in ap Reading.Read same
-asked-once (Reading.Read f) (Reading.Refused why) e = let z : ◌≡◌ {A = ℕ} 0 1 = cc in absurd (omega arith)
-asked-once (Reading.Refused why) (Reading.Read f) e = let z : ◌≡◌ {A = ℕ} 0 1 = cc in absurd (omega arith)
-asked-once (Reading.Refused a) (Reading.Refused b) e = let same : reason_of a ≡ reason_of b = cc in
-    ap Reading.Refused (refused-once a b same)
+asked-once : (a b : Result Fields Refusal) → asked_as a ≡ asked_as b → a ≡ b
+asked-once (Ok f) (Ok g) e = let same : f ≡ g = cc in ap Ok same
+asked-once (Ok f) (Err why) e = let z : ◌≡◌ {A = ℕ} 0 1 = cc in absurd (omega arith)
+asked-once (Err why) (Ok f) e = let z : ◌≡◌ {A = ℕ} 0 1 = cc in absurd (omega arith)
+asked-once (Err a) (Err b) e = let same : reason_of a ≡ reason_of b = cc in
+    ap Err (refused-once a b same)
 
 -- ---- one number
 
 module _ (number : ℕ) (s : State) (hs bs : List Segment) (good : sound s ≡ true) (w : StandsFor number s hs bs) where
   -- a number with no slot, an object that is not finished, a finished one
   pub data Asks : Type 0 where
-    unheld : find number s ≡ Nothing → locate number s ≡ Located.Denied Reason.NotHeld
-        → queries.parameters number s ≡ Asked.Denied Reason.NotHeld → Asks
-    missing : (i : ℕ) → find number s ≡ At i → ((f : Fits (limit_of s) hs bs) → ¬ (Finished f))
-        → locate number s ≡ Located.Denied Reason.Unfinished
-        → queries.parameters number s ≡ Asked.Denied Reason.Unfinished → Asks
-    whole : (i : ℕ) → find number s ≡ At i → (f : Fits (limit_of s) hs bs) → Finished f → locate number s ≡ Located.At i
+    unheld : find number s ≡ None → locate number s ≡ Err Reason.NotHeld
+        → queries.parameters number s ≡ Err Reason.NotHeld → Asks
+    missing : (i : ℕ) → find number s ≡ Some i → ((f : Fits (limit_of s) hs bs) → ¬ (Finished f))
+        → locate number s ≡ Err Reason.Unfinished
+        → queries.parameters number s ≡ Err Reason.Unfinished → Asks
+    whole : (i : ℕ) → find number s ≡ Some i → (f : Fits (limit_of s) hs bs) → Finished f → locate number s ≡ Ok i
         → queries.parameters number s ≡ asked_as (read_header (show number Header s)) → Asks
 
-  held_stage : (i : ℕ) → find number s ≡ At i → (slot_of i s).stage ≢ Stage.Free
+  held_stage : (i : ℕ) → find number s ≡ Some i → (slot_of i s).stage ≢ Stage.Free
   unfolding is_free
   held_stage i e f = false-true (held-is number (slot_of i s) (found-holds s good number i e)).0 (rw f refl)
 
-  located : (found : Found) → find number s ≡ found → locate number s ≡ located_in found s.collector
+  located : (found : Option ℕ) → find number s ≡ found → locate number s ≡ located_in found s.collector
   unfolding locate
   located found e = rw (good, e) refl
 
-  told-as : (l : Located) → locate number s ≡ l → queries.parameters number s ≡ asked_of l (show number Header s)
+  told-as : (l : Result ℕ Reason) → locate number s ≡ l
+      → queries.parameters number s ≡ asked_of l (show number Header s)
   unfolding parameters
   told-as l e = rw e refl
 
@@ -91,41 +84,41 @@ module _ (number : ℕ) (s : State) (hs bs : List Segment) (good : sound s ≡ t
   pub asks : Asks
   asks = go (find number s) refl
     where
-      held : (i : ℕ) → find number s ≡ At i → (stage : Stage) → (slot_of i s).stage ≡ stage → Asks
+      held : (i : ℕ) → find number s ≡ Some i → (stage : Stage) → (slot_of i s).stage ≡ stage → Asks
       held i e Stage.Free f = absurd (held_stage i e f)
       held i e Stage.Gathering f =
-          let at : locate number s ≡ Located.Denied Reason.Unfinished =
-          located (At i) e ∙ ap (λ (x : Stage). located_as x i) f in
-          let stage : stage_for number s ≡ Stage.Gathering = ap (λ (x : Found). stage_at x s) e ∙ f in
+          let at : locate number s ≡ Err Reason.Unfinished =
+          located (Some i) e ∙ ap (λ (x : Stage). located_as x i) f in
+          let stage : stage_for number s ≡ Stage.Gathering = ap (λ (x : Option ℕ). stage_at x s) e ∙ f in
           missing i e (λ g d. let other = all_finished number s hs bs w g d in let z : ◌≡◌ {A = ℕ} 0 1 = cc in
-          absurd (omega arith)) at (told-as (Located.Denied Reason.Unfinished) at)
+          absurd (omega arith)) at (told-as (Err Reason.Unfinished) at)
       held i e (Stage.Finished header body) f =
-          let at : locate number s ≡ Located.At i = located (At i) e ∙ ap (λ (x : Stage). located_as x i) f in
-          let all = finished-all number s hs bs w header body (ap (λ (x : Found). stage_at x s) e ∙ f) in
-          whole i e all.0 all.1 at (told-as (Located.At i) at)
+          let at : locate number s ≡ Ok i = located (Some i) e ∙ ap (λ (x : Stage). located_as x i) f in
+          let all = finished-all number s hs bs w header body (ap (λ (x : Option ℕ). stage_at x s) e ∙ f) in
+          whole i e all.0 all.1 at (told-as (Ok i) at)
 
-      go : (found : Found) → find number s ≡ found → Asks
-      go Nothing e = let at : locate number s ≡ Located.Denied Reason.NotHeld = located Nothing e in
-          unheld e at (told-as (Located.Denied Reason.NotHeld) at)
-      go (At i) e = held i e (slot_of i s).stage refl
+      go : (found : Option ℕ) → find number s ≡ found → Asks
+      go None e = let at : locate number s ≡ Err Reason.NotHeld = located None e in
+          unheld e at (told-as (Err Reason.NotHeld) at)
+      go (Some i) e = held i e (slot_of i s).stage refl
 
-  no_slot : (i : ℕ) → find number s ≡ At i → find number s ≢ Nothing
+  no_slot : (i : ℕ) → find number s ≡ Some i → find number s ≢ None
   no_slot i e d = let z : ◌≡◌ {A = ℕ} 0 1 = cc in absurd (omega arith)
 
   -- no object is finished under a number with no slot
-  unheld-missing : find number s ≡ Nothing → (f : Fits (limit_of s) hs bs) → ¬ (Finished f)
-  unheld-missing e f d = let stage = ap (λ (x : Found). stage_at x s) e in let other =
+  unheld-missing : find number s ≡ None → (f : Fits (limit_of s) hs bs) → ¬ (Finished f)
+  unheld-missing e f d = let stage = ap (λ (x : Option ℕ). stage_at x s) e in let other =
       all_finished number s hs bs w f d in let z : ◌≡◌ {A = ℕ} 0 1 = cc in absurd (omega arith)
 
   shown-header : (f : Fits (limit_of s) hs bs) → Finished f → show number Header s ≡ f.header
   shown-header f d = (finished-shown number s hs bs w good f d).0
 
-  pub not-held : ((locate number s ≡ Located.Denied Reason.NotHeld) ↔ (find number s ≡ Nothing))
-      × ((queries.parameters number s ≡ Asked.Denied Reason.NotHeld) ↔ (find number s ≡ Nothing))
+  pub not-held : ((locate number s ≡ Err Reason.NotHeld) ↔ (find number s ≡ None))
+      × ((queries.parameters number s ≡ Err Reason.NotHeld) ↔ (find number s ≡ None))
   not-held = go asks
     where
-      go : Asks → ((locate number s ≡ Located.Denied Reason.NotHeld) ↔ (find number s ≡ Nothing))
-          × ((queries.parameters number s ≡ Asked.Denied Reason.NotHeld) ↔ (find number s ≡ Nothing))
+      go : Asks → ((locate number s ≡ Err Reason.NotHeld) ↔ (find number s ≡ None))
+          × ((queries.parameters number s ≡ Err Reason.NotHeld) ↔ (find number s ≡ None))
       go (unheld e l t) = ((λ x. e, λ x. l), (λ x. e, λ x. t))
       go (missing i e m l t) = (
         (
@@ -148,16 +141,16 @@ module _ (number : ℕ) (s : State) (hs bs : List Segment) (good : sound s ≡ t
         ),
       )
 
-  pub unfinished : ((locate number s ≡ Located.Denied Reason.Unfinished)
-      ↔ ((find number s ≢ Nothing) × ((f : Fits (limit_of s) hs bs) → ¬ (Finished f))))
-      × ((queries.parameters number s ≡ Asked.Denied Reason.Unfinished)
-      ↔ ((find number s ≢ Nothing) × ((f : Fits (limit_of s) hs bs) → ¬ (Finished f))))
+  pub unfinished : ((locate number s ≡ Err Reason.Unfinished)
+      ↔ ((find number s ≢ None) × ((f : Fits (limit_of s) hs bs) → ¬ (Finished f))))
+      × ((queries.parameters number s ≡ Err Reason.Unfinished)
+      ↔ ((find number s ≢ None) × ((f : Fits (limit_of s) hs bs) → ¬ (Finished f))))
   unfinished = go asks
     where
-      go : Asks → ((locate number s ≡ Located.Denied Reason.Unfinished)
-          ↔ ((find number s ≢ Nothing) × ((f : Fits (limit_of s) hs bs) → ¬ (Finished f))))
-          × ((queries.parameters number s ≡ Asked.Denied Reason.Unfinished)
-          ↔ ((find number s ≢ Nothing) × ((f : Fits (limit_of s) hs bs) → ¬ (Finished f))))
+      go : Asks → ((locate number s ≡ Err Reason.Unfinished)
+          ↔ ((find number s ≢ None) × ((f : Fits (limit_of s) hs bs) → ¬ (Finished f))))
+          × ((queries.parameters number s ≡ Err Reason.Unfinished)
+          ↔ ((find number s ≢ None) × ((f : Fits (limit_of s) hs bs) → ¬ (Finished f))))
       go (unheld e l t) = (
         (λ x. let z : ◌≡◌ {A = ℕ} 0 1 = cc in absurd (omega arith), λ x. absurd (x.0 e)),
         (λ x. let z : ◌≡◌ {A = ℕ} 0 1 = cc in absurd (omega arith), λ x. absurd (x.0 e)),
@@ -168,12 +161,12 @@ module _ (number : ℕ) (s : State) (hs bs : List Segment) (good : sound s ≡ t
         (λ x. absurd (missing-unread (read_header (show number Header s)) (sym t ∙ x)), λ x. absurd (x.1 f d)),
       )
 
-  pub located-exactly : (i : ℕ) → (locate number s ≡ Located.At i)
-      ↔ ((find number s ≡ At i) × (f : Fits (limit_of s) hs bs) × Finished f)
+  pub located-exactly : (i : ℕ) → (locate number s ≡ Ok i)
+      ↔ ((find number s ≡ Some i) × (f : Fits (limit_of s) hs bs) × Finished f)
   located-exactly i = go asks
     where
-      go : Asks → (locate number s ≡ Located.At i)
-          ↔ ((find number s ≡ At i) × (f : Fits (limit_of s) hs bs) × Finished f)
+      go : Asks → (locate number s ≡ Ok i)
+          ↔ ((find number s ≡ Some i) × (f : Fits (limit_of s) hs bs) × Finished f)
       go (unheld e l t) = (λ x. let z : ◌≡◌ {A = ℕ} 0 1 = cc in absurd (omega arith), λ x. absurd (no_slot i x.0 e))
       go (missing j e m l t) = (
         λ x. let z : ◌≡◌ {A = ℕ} 0 1 = cc in absurd (omega arith),
@@ -181,11 +174,11 @@ module _ (number : ℕ) (s : State) (hs bs : List Segment) (good : sound s ≡ t
       )
       go (whole j e f d l t) = (
         λ x. let same : j ≡ i = cc in
-            (e ∙ ap At same, f, d),
-        λ x. let same : j ≡ i = cc x.0 in l ∙ ap Located.At same,
+            (e ∙ ap Some same, f, d),
+        λ x. let same : j ≡ i = cc x.0 in l ∙ ap Ok same,
       )
 
-  pub read-exactly : (reading : Reading) → (queries.parameters number s ≡ asked_as reading)
+  pub read-exactly : (reading : Result Fields Refusal) → (queries.parameters number s ≡ asked_as reading)
       ↔ ((f : Fits (limit_of s) hs bs) × Finished f × (read_header f.header ≡ reading))
   read-exactly reading = go asks
     where
@@ -232,12 +225,12 @@ module _ (s : State) (kept : Part → ℕ → List Segment) (good : sound s ≡ 
   abbrev Has : ℕ → Type 0
   Has number = (f : Fits (limit_of s) (kept Header number) (kept Body number)) × Finished f × Named sought f.header
 
-  finished-located : (number : ℕ) → Has number → (i : ℕ) × (locate number s ≡ Located.At i)
+  finished-located : (number : ℕ) → Has number → (i : ℕ) × (locate number s ≡ Ok i)
       × Named sought (show number Header s)
   finished-located number h = go (asks number s (kept Header number) (kept Body number) good (stands number))
     where
       go : Asks number s (kept Header number) (kept Body number) good (stands number) → (i : ℕ)
-          × (locate number s ≡ Located.At i) × Named sought (show number Header s)
+          × (locate number s ≡ Ok i) × Named sought (show number Header s)
       go (unheld e l t) = absurd (unheld-missing number s (kept Header number) (kept Body number) good (stands number) e
           h.0 h.1)
       go (missing i e m l t) = absurd (m h.0 h.1)
@@ -247,7 +240,7 @@ module _ (s : State) (kept : Part → ℕ → List Segment) (good : sound s ≡ 
         rw (shown-header number s (kept Header number) (kept Body number) good (stands number) h.0 h.1) h.2,
       )
 
-  located-finished : (number i : ℕ) → locate number s ≡ Located.At i → Named sought (show number Header s) → Has number
+  located-finished : (number i : ℕ) → locate number s ≡ Ok i → Named sought (show number Header s) → Has number
   located-finished number i e n =
       let x = (located-exactly number s (kept Header number) (kept Body number) good (stands number) i).0 e in (
         x.1,
@@ -256,7 +249,7 @@ module _ (s : State) (kept : Part → ℕ → List Segment) (good : sound s ≡ 
             at n,
       )
 
-  pub found-exactly : (number : ℕ) → (queries.find sought s ≡ Sought.Number number)
+  pub found-exactly : (number : ℕ) → (queries.find sought s ≡ Ok number)
       ↔ (Has number × ((other : ℕ) → Has other → number ≤ other))
   found-exactly number = (
     λ e. let l = (find-lowest sought s good number).0 e in (
@@ -275,7 +268,7 @@ module _ (s : State) (kept : Part → ℕ → List Segment) (good : sound s ≡ 
         }),
   )
 
-  pub nobody-exactly : (queries.find sought s ≡ Sought.Denied Reason.NotFound) ↔ ((number : ℕ) → ¬ (Has number))
+  pub nobody-exactly : (queries.find sought s ≡ Err Reason.NotFound) ↔ ((number : ℕ) → ¬ (Has number))
   nobody-exactly = (
     λ e number h. let x = finished-located number h in (find-nobody sought s good).0 e number x.0 x.1 x.2,
     λ none. (find-nobody sought s good).1 (λ number i e n. none number (located-finished number i e n)),

@@ -1,47 +1,34 @@
 -- What wrong collectors are tried with: small objects and their groups, runs of a few calls, states that no run
 -- reaches, and the collector's own definitions with one piece replaced.
-use Rattle.std.specs.Prelude.{◌≡◌, refl, true, List, [], ◌∷◌, ℕ, zero, suc, ◌+◌, ◌*◌, ◌<◌, replicate}
+use Rattle.std.specs.Prelude.{◌≡◌, refl, true, Result, Ok, List, [], ◌∷◌, ℕ, zero, suc, ◌+◌, ◌*◌, ◌<◌, replicate, Err, ⊤, Option, Some, None}
 use Rattle.std.proofs.Common.{ap, inl, arith}
 use Rattle.answer.specs.declared.Answer.TheVariants as Answer
 use Rattle.answer.specs.declared.Part.{Part}
 use Rattle.answer.specs.declared.Part.TheVariants.{Header, Body}
+use Rattle.answer.specs.declared.Refusal.{Refusal}
 use Rattle.answer.specs.Table.{number_of}
 use Rattle.counts.specs.declared.Counts.{Counts}
 use Rattle.counts.specs.Counted.{ceiling, none_yet, within}
 use Rattle.wire.specs.declared.Carried.{Carried}
-use Rattle.wire.specs.declared.Reading.{Reading}
-use Rattle.wire.specs.declared.Reading.TheVariants.{Read}
 use Rattle.wire.specs.Ignored.{SameButIgnored}
 use Rattle.wire.specs.Reading.{check_holds, reading_of}
 use Rattle.cut.specs.Requirement as cut
 use Rattle.cut.specs.Requirement.{body_size, header_size, Segment, Fits, Finished}
-use Rattle.cut.specs.declared.Amount.{Amount}
-use Rattle.cut.specs.declared.Amount.TheVariants.{Unknown, Known}
 use Rattle.cut.specs.laws.Segment.{Numbered}
 use Rattle.cut.specs.laws.Decision.{true-both}
 use Rattle.cut.specs.laws.Finished.{whole_numbers, whole-empty}
 use Rattle.cut.specs.laws.Empty.{either}
 use Rattle.cut.specs.Lists.{Bytes}
 use Rattle.object.specs.Source.{Source}
-use Rattle.slots.specs.declared.Found.{Found}
-use Rattle.slots.specs.declared.Found.TheVariants.{Nothing, At}
 use Rattle.slots.specs.Stores.{slots_most, Stores}
 use Rattle.slots.specs.State.{sound_slots}
-use Rattle.collector.specs.declared.Opening.{Opening}
-use Rattle.collector.specs.declared.Opening.TheVariants as Opening
-use Rattle.collector.specs.declared.Located.{Located}
-use Rattle.collector.specs.declared.Located.TheVariants as Located
+use Rattle.answer.specs.declared.Reason.{Reason}
+use Rattle.header.specs.declared.Fields.{Fields}
 use Rattle.collector.specs.State.{Start, Opened, Reply, State}
 use Rattle.collector.specs.Calls.{drop_number, locate, open_with, show, sound, take_segment}
 use Rattle.collector.specs.Arrival.{arrival_in}
 use Rattle.queries.specs.Questions as queries
-use Rattle.queries.specs.declared.Asked.{Asked}
-use Rattle.queries.specs.declared.Asked.TheVariants as Asked
-use Rattle.queries.specs.declared.Awaited.{Awaited}
-use Rattle.queries.specs.declared.Awaited.TheVariants as Awaited
 use Rattle.queries.specs.Missing.{missing}
-use Rattle.queries.specs.declared.Sought.{Sought}
-use Rattle.queries.specs.declared.Sought.TheVariants as Sought
 use Rattle.history.specs.Held.{limit_of}
 use Rattle.history.specs.laws.Ready.{slots-sound}
 use Rattle.history.specs.laws.State.{in-order-exactly}
@@ -175,15 +162,11 @@ five_spoilt = 0x73 ∷ 0x3A ∷ 0x80 ∷ 0x00 ∷ 0x14 ∷ 0x00 ∷ 0x05 ∷ 0xA
 
 abbrev pub read_again : Carried
 read_again = record {
-  number = 5;
-  part = Header;
-  segment = 0;
+  heard = record { number = 5; part = Header; segment = 0 };
   last = true;
-  start = 11;
-  length = 7;
+  bytes = record { start = 11; length = 7 };
   repetition = record { index = 10; continuity = 3; count = 5 };
-  address_start = 7;
-  address_length = 2;
+  address = record { start = 7; length = 2 };
 }
 
 pub sent-again : SameButIgnored five five_again × (check_holds five_again ≡ true) × Bytes five_again
@@ -208,18 +191,18 @@ sent-again = (
 abbrev pub other_kind : List ℕ
 other_kind = 0x75 ∷ 0x00 ∷ 0x15 ∷ 0x5D ∷ []
 
-pub reads : (reading_of five ≡ Read (read_as 5 Header 0 true 7)) × (reading_of six ≡ Read (read_as 6 Header 0 true 7))
-    × (reading_of short ≡ Read (read_as 5 Header 0 true 6)) × (reading_of body_last ≡ Read (read_as 5 Body 1 true 4))
-    × (reading_of empty_five ≡ Read (read_as 5 Body 0 true 0)) × (reading_of five_again ≡ Read read_again)
+pub reads : (reading_of five ≡ Ok (read_as 5 Header 0 true 7)) × (reading_of six ≡ Ok (read_as 6 Header 0 true 7))
+    × (reading_of short ≡ Ok (read_as 5 Header 0 true 6)) × (reading_of body_last ≡ Ok (read_as 5 Body 1 true 4))
+    × (reading_of empty_five ≡ Ok (read_as 5 Body 0 true 0)) × (reading_of five_again ≡ Ok read_again)
 unfolding computing
 reads = (refl, refl, refl, refl, refl, refl)
 
-abbrev passing : (bytes : List ℕ) (carried : Carried) → Bytes bytes → reading_of bytes ≡ Read carried → Passing
+abbrev passing : (bytes : List ℕ) (carried : Carried) → Bytes bytes → reading_of bytes ≡ Ok carried → Passing
 passing bytes carried y e = record {
   given = group bytes;
   are_bytes = y;
   arrived = arrival_in bytes carried;
-  brought = ap (λ (r : Reading). brought_in r bytes) e;
+  brought = ap (λ (r : Result Carried Refusal). brought_in r bytes) e;
 }
 
 unfoldable pub group_five : Passing
@@ -423,38 +406,38 @@ doubted = with_counts uneven (reached_by defined one)
 -- ---- what tells two answers apart: the number of a refusal, 0 where there is none; the length that a header says; the
 -- slot that is found
 
-abbrev pub opening_number : Opening → ℕ
-opening_number Opening.Open = 0
-opening_number (Opening.Denied why) = number_of (Answer.Denied why)
+abbrev pub opening_number : Result ⊤ Reason → ℕ
+opening_number (Ok unit) = 0
+opening_number (Err why) = number_of (Answer.Denied why)
 
-abbrev pub located_number : Located → ℕ
-located_number (Located.At i) = 0
-located_number (Located.Denied why) = number_of (Answer.Denied why)
+abbrev pub located_number : Result ℕ Reason → ℕ
+located_number (Ok i) = 0
+located_number (Err why) = number_of (Answer.Denied why)
 
-abbrev pub asked_number : Asked → ℕ
-asked_number (Asked.Fields fields) = 0
-asked_number (Asked.Denied why) = number_of (Answer.Denied why)
+abbrev pub asked_number : Result Fields Reason → ℕ
+asked_number (Ok fields) = 0
+asked_number (Err why) = number_of (Answer.Denied why)
 
-abbrev pub asked_length : Asked → ℕ
-asked_length (Asked.Fields fields) = fields.header_size
-asked_length (Asked.Denied why) = 0
+abbrev pub asked_length : Result Fields Reason → ℕ
+asked_length (Ok fields) = fields.header_size
+asked_length (Err why) = 0
 
-abbrev pub sought_number : Sought → ℕ
-sought_number (Sought.Number number) = 0
-sought_number (Sought.Denied why) = number_of (Answer.Denied why)
+abbrev pub sought_number : Result ℕ Reason → ℕ
+sought_number (Ok number) = 0
+sought_number (Err why) = number_of (Answer.Denied why)
 
 -- by a number: what is still to come and 100, so that none and unknown differ, or the number of the refusal
-abbrev amount_number : Amount → ℕ
-amount_number Unknown = 99
-amount_number (Known bytes) = 100 + bytes
+abbrev amount_number : Option ℕ → ℕ
+amount_number None = 99
+amount_number (Some bytes) = 100 + bytes
 
-abbrev pub awaited_number : Awaited → ℕ
-awaited_number (Awaited.Bytes amount) = amount_number amount
-awaited_number (Awaited.Denied why) = number_of (Answer.Denied why)
+abbrev pub awaited_number : Result (Option ℕ) Reason → ℕ
+awaited_number (Ok amount) = amount_number amount
+awaited_number (Err why) = number_of (Answer.Denied why)
 
-abbrev pub found_slot : Found → ℕ
-found_slot Nothing = slots_most
-found_slot (At i) = i
+abbrev pub found_slot : Option ℕ → ℕ
+found_slot None = slots_most
+found_slot (Some i) = i
 
 -- ---- the collector's own definitions with one piece replaced
 
@@ -489,8 +472,9 @@ abbrev pub dropping_by : (ℕ → State → Reply) → Collecting
 dropping_by drops = calling open_with take drops
 
 -- a question
-abbrev questioning : (ℕ → State → Located) → (ℕ → Part → State → List ℕ) → (ℕ → State → Asked) → (ℕ → State → List ℕ)
-    → (List ℕ → State → Sought) → (ℕ → State → Awaited) → (List ℕ → State → List ℕ) → (Question → State → State)
+abbrev questioning : (ℕ → State → Result ℕ Reason) → (ℕ → Part → State → List ℕ)
+    → (ℕ → State → Result Fields Reason) → (ℕ → State → List ℕ) → (List ℕ → State → Result ℕ Reason)
+    → (ℕ → State → Result (Option ℕ) Reason) → (List ℕ → State → List ℕ) → (Question → State → State)
     → Collecting
 questioning locates shows tells names finds awaits addresses asks = record {
   opens = open_with;
@@ -506,22 +490,22 @@ questioning locates shows tells names finds awaits addresses asks = record {
   asks = asks;
 }
 
-abbrev pub locating_by : (ℕ → State → Located) → Collecting
+abbrev pub locating_by : (ℕ → State → Result ℕ Reason) → Collecting
 locating_by locates = questioning locates show queries.parameters queries.name queries.find missing address asking
 
 abbrev pub showing_by : (ℕ → Part → State → List ℕ) → Collecting
 showing_by shows = questioning locate shows queries.parameters queries.name queries.find missing address asking
 
-abbrev pub telling_by : (ℕ → State → Asked) → Collecting
+abbrev pub telling_by : (ℕ → State → Result Fields Reason) → Collecting
 telling_by tells = questioning locate show tells queries.name queries.find missing address asking
 
 abbrev pub naming_by : (ℕ → State → List ℕ) → Collecting
 naming_by names = questioning locate show queries.parameters names queries.find missing address asking
 
-abbrev pub finding_by : (List ℕ → State → Sought) → Collecting
+abbrev pub finding_by : (List ℕ → State → Result ℕ Reason) → Collecting
 finding_by finds = questioning locate show queries.parameters queries.name finds missing address asking
 
-abbrev pub awaiting_by : (ℕ → State → Awaited) → Collecting
+abbrev pub awaiting_by : (ℕ → State → Result (Option ℕ) Reason) → Collecting
 awaiting_by awaits =
     questioning locate show queries.parameters queries.name queries.find awaits address asking
 

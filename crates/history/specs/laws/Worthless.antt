@@ -1,7 +1,7 @@
 -- WRONG COLLECTORS, document 01's five worthless ones among them: each is the collector's own definitions with one
 -- piece that is wrong, and is proved to break the promise that shuts it out, by a run that is computed. The edits in
 -- refused/ put that piece into our collector, which is then refused at that promise.
-use Rattle.std.specs.Prelude.{◌≡◌, refl, ◌≢◌, ◌⊎◌, Bool, true, false, List, [], ◌∷◌, ℕ, zero, suc, ◌+◌, ◌-◌, ◌*◌, ◌/◌, ◌%◌, ◌≤◌, ◌<◌, min, length, set, eqb}
+use Rattle.std.specs.Prelude.{◌≡◌, refl, ◌≢◌, ◌⊎◌, Bool, true, false, Option, Some, None, Result, Ok, Err, List, [], ◌∷◌, ℕ, zero, suc, ◌+◌, ◌-◌, ◌*◌, ◌/◌, ◌%◌, ◌≤◌, ◌<◌, min, length, set, eqb}
 use Rattle.std.proofs.Common.{sym, ap, ◌∙◌, inl, inr, arith, leb-true}
 use Rattle.octets.specs.Octets.{zeros}
 use Rattle.answer.specs.declared.Answer.{Answer}
@@ -12,16 +12,13 @@ use Rattle.answer.specs.declared.Returned.TheVariants as Returned
 use Rattle.answer.specs.Table.{number_of, returned_with}
 use Rattle.answer.specs.declared.Answer.TheVariants as Answer
 use Rattle.answer.specs.declared.Reason.TheVariants as Reason
+use Rattle.answer.specs.declared.Refusal.{Refusal}
 use Rattle.answer.specs.declared.Refusal.TheVariants as Refusal
 use Rattle.counts.specs.declared.Counts.{Counts}
 use Rattle.counts.specs.Counted.{ceiling, none_yet, counted}
-use Rattle.wire.specs.declared.Kind.{Kind}
-use Rattle.wire.specs.declared.Kind.TheVariants.{Carries, Other}
 use Rattle.wire.specs.declared.Carried.{Carried}
-use Rattle.wire.specs.declared.Reading.TheVariants.{Read, Refused}
 use Rattle.wire.specs.Wire.{type_number}
 use Rattle.wire.specs.Reading.{kind_of, reading_of}
-use Rattle.wire.specs.declared.Reading.{Reading}
 use Rattle.cut.specs.Requirement as cut
 use Rattle.cut.specs.Requirement.{Segment, Fits, Finished}
 use Rattle.cut.specs.laws.Segment.{sends-sits, sent-ends, inside}
@@ -31,11 +28,8 @@ use Rattle.object.specs.Source.{SegmentOf}
 use Rattle.object.specs.declared.Slot.{Slot}
 use Rattle.object.specs.declared.Stage.{Stage}
 use Rattle.object.specs.declared.Stage.TheVariants as Stage
-use Rattle.slots.specs.declared.Found.{Found}
-use Rattle.slots.specs.declared.Found.TheVariants.{Nothing, At}
 use Rattle.slots.specs.Find.{is_free}
 use Rattle.slots.specs.Alone.{fits_alone}
-use Rattle.collector.specs.declared.Located.TheVariants as Located
 use Rattle.collector.specs.State.{Start, Opened, Reply, State, all_free, find, free}
 use Rattle.collector.specs.Calls.{drop_number, into_free, locate, open_with, take_group, answering, sound, with_slots}
 use Rattle.collector.specs.Arrival.{no_repetition, arrival_in, heard_in, segment_in}
@@ -51,7 +45,7 @@ use Rattle.history.specs.laws.Call.{defined}
 
 -- ---- what cannot be the same
 
-different : (a b : Found) → a ≡ b → a ≡ Nothing → b ≡ At 0 → ⊥
+different : (a b : Option ℕ) → a ≡ b → a ≡ None → b ≡ Some 0 → ⊥
 different a b e n f = let z : ◌≡◌ {A = ℕ} 0 1 = cc in absurd (omega arith)
 
 free-unfinished : (header body : ℕ) → Stage.Free ≢ Stage.Finished header body
@@ -245,10 +239,10 @@ refuses-every-breaks p =
     absurd (omega arith)
 
 -- FULL where no slot is free, though the number holds one
-abbrev full_as : Found → Reading → List ℕ → State → Reply
-full_as Nothing (Read carried) bytes s = answering (Answer.Full (heard_in carried)) s
-full_as Nothing (Refused why) bytes s = take_group bytes s
-full_as (At i) reading bytes s = take_group bytes s
+abbrev full_as : Option ℕ → Result Carried Refusal → List ℕ → State → Reply
+full_as None (Ok carried) bytes s = answering (Answer.Full (heard_in carried)) s
+full_as None (Err why) bytes s = take_group bytes s
+full_as (Some i) reading bytes s = take_group bytes s
 
 abbrev pub full_unless_free : List ℕ → State → Reply
 full_unless_free bytes s = full_as (free s) (reading_of bytes) bytes s
@@ -261,9 +255,9 @@ full-unless-free-breaks p =
     different (find 5 s) (find 5 s) refl ((p one group_five).0 refl).1 refl
 
 -- STORED for every group that can be read, and nothing is stored
-abbrev stored_as : Reading → Answer
-stored_as (Read carried) = Answer.Stored (heard_in carried) carried.repetition
-stored_as (Refused why) = Answer.Refused why
+abbrev stored_as : Result Carried Refusal → Answer
+stored_as (Ok carried) = Answer.Stored (heard_in carried) carried.repetition
+stored_as (Err why) = Answer.Refused why
 
 abbrev pub stores_every : List ℕ → State → Reply
 stores_every bytes s = answering (stored_as (reading_of bytes)) s
@@ -295,11 +289,11 @@ renamed answer bytes s = record {
 }
 
 -- COMPLETE as soon as a last segment is stored
-abbrev complete_as : Reading → Answer → Answer
-complete_as (Read carried) answer =
+abbrev complete_as : Result Carried Refusal → Answer → Answer
+complete_as (Ok carried) answer =
     pick (both carried.last (eqb (number_of answer) 0)) (Answer.Complete (heard_in carried) carried.repetition)
     answer
-complete_as (Refused why) answer = answer
+complete_as (Err why) answer = answer
 
 abbrev pub completes_by_last : List ℕ → State → Reply
 completes_by_last bytes s = renamed (complete_as (reading_of bytes) (take_group bytes s).answer) bytes s
@@ -343,11 +337,11 @@ never-finishes-breaks p =
     free-unfinished stage.0 stage.1 stage.2
 
 -- CONFLICT for a segment that comes again
-abbrev conflict_as : Reading → List ℕ → State → Reply
-conflict_as (Read carried) bytes s =
+abbrev conflict_as : Result Carried Refusal → List ℕ → State → Reply
+conflict_as (Ok carried) bytes s =
     pick (eqb (number_of (take_group bytes s).answer) 2) (answering (Answer.Conflict (heard_in carried)) s)
     (take_group bytes s)
-conflict_as (Refused why) bytes s = take_group bytes s
+conflict_as (Err why) bytes s = take_group bytes s
 
 abbrev pub repeat_conflicts : List ℕ → State → Reply
 repeat_conflicts bytes s = conflict_as (reading_of bytes) bytes s
@@ -389,21 +383,21 @@ stores-first-unshown = shown-breaks (taking_by stores_first) two 6 refl (refl, r
 -- ---- the slots
 
 -- a segment whose number holds no slot is offered to slot `chosen`
-abbrev pub placed_in : Found → Found → Carried → List ℕ → State → Reply
-placed_in (At i) chosen carried bytes s = take_group bytes s
-placed_in Nothing chosen carried bytes s =
-    pick (both (sound s) (fits_alone carried.part (limit_of s) (segment_in bytes carried)))
+abbrev pub placed_in : Option ℕ → Option ℕ → Carried → List ℕ → State → Reply
+placed_in (Some i) chosen carried bytes s = take_group bytes s
+placed_in None chosen carried bytes s =
+    pick (both (sound s) (fits_alone carried.heard.part (limit_of s) (segment_in bytes carried)))
     (into_free chosen (arrival_in bytes carried) s)
     (take_group bytes s)
 
-abbrev pub choosing : (Carried → State → Found) → Reading → List ℕ → State → Reply
-choosing choose (Read carried) bytes s = placed_in (find carried.number s) (choose carried s) carried bytes s
-choosing choose (Refused why) bytes s = take_group bytes s
+abbrev pub choosing : (Carried → State → Option ℕ) → Result Carried Refusal → List ℕ → State → Reply
+choosing choose (Ok carried) bytes s = placed_in (find carried.heard.number s) (choose carried s) carried bytes s
+choosing choose (Err why) bytes s = take_group bytes s
 
 -- the highest free slot
-abbrev highest_free : ℕ → State → Found
-highest_free zero s = Nothing
-highest_free (suc i) s = pick (is_free (slot_of i s)) (At i) (highest_free i s)
+abbrev highest_free : ℕ → State → Option ℕ
+highest_free zero s = None
+highest_free (suc i) s = pick (is_free (slot_of i s)) (Some i) (highest_free i s)
 
 abbrev pub takes_highest : List ℕ → State → Reply
 takes_highest bytes s = choosing (λ carried t. highest_free t.collector.count t) (reading_of bytes) bytes s
@@ -417,12 +411,12 @@ takes-highest-breaks p =
     false-true (m.3 0 (omega arith)) refl
 
 -- the slot that is the number's remainder, or the lowest free one where that is held
-abbrev slot_for : ℕ → State → Found
-slot_for i s = pick (is_free (slot_of i s)) (At i) (free s)
+abbrev slot_for : ℕ → State → Option ℕ
+slot_for i s = pick (is_free (slot_of i s)) (Some i) (free s)
 
 abbrev pub takes_by_number : List ℕ → State → Reply
 takes_by_number bytes s =
-    choosing (λ carried t. slot_for (carried.number % t.collector.count) t) (reading_of bytes) bytes s
+    choosing (λ carried t. slot_for (carried.heard.number % t.collector.count) t) (reading_of bytes) bytes s
 
 pub takes-by-number-breaks : ¬ (LowestFreeTaken (taking_by takes_by_number))
 unfolding computing pair group_five
@@ -432,9 +426,9 @@ takes-by-number-breaks p =
     false-true (m.3 0 (omega arith)) refl
 
 -- every group takes a slot of its own
-abbrev another_as : Reading → List ℕ → State → Reply
-another_as (Read carried) bytes s = placed_in Nothing (free s) carried bytes s
-another_as (Refused why) bytes s = take_group bytes s
+abbrev another_as : Result Carried Refusal → List ℕ → State → Reply
+another_as (Ok carried) bytes s = placed_in None (free s) carried bytes s
+another_as (Err why) bytes s = take_group bytes s
 
 abbrev pub takes_another : List ℕ → State → Reply
 takes_another bytes s = another_as (reading_of bytes) bytes s
@@ -444,7 +438,7 @@ pub takes-another-breaks : ¬ (NoneFreeExactly (taking_by takes_another))
 unfolding computing pair
 takes-another-breaks p = let m = (p twice).0 refl 1 (omega arith) in never (eqb 5 m.0) m.1
   where
-    never : (b : Bool) → pick b (At 0) (pick b (At 1) Nothing) ≢ At 1
+    never : (b : Bool) → pick {A = Option ℕ} b (Some 0) (pick {A = Option ℕ} b (Some 1) None) ≢ Some 1
     never true e = let z : ◌≡◌ {A = ℕ} 0 1 = ap found_slot e in absurd (omega arith)
     never false e = let z : ◌≡◌ {A = ℕ} 16 1 = ap found_slot e in absurd (omega arith)
 
@@ -476,21 +470,21 @@ drops-unsaid-breaks p =
 -- ---- the stage's two lengths
 
 -- the slot in which an object was finished, changed
-abbrev changed_in : (Slot → Slot) → Found → State → State
-changed_in change Nothing s = s
-changed_in change (At i) s = record {
+abbrev changed_in : (Slot → Slot) → Option ℕ → State → State
+changed_in change None s = s
+changed_in change (Some i) s = record {
   collector = with_slots (set s.collector.slots i (change (slot_of i s))) s.collector;
   counts = s.counts;
   stores = s.stores;
 }
 
-abbrev changing : (Slot → Slot) → Reading → List ℕ → State → Reply
-changing change (Refused why) bytes s = take_group bytes s
-changing change (Read carried) bytes s =
+abbrev changing : (Slot → Slot) → Result Carried Refusal → List ℕ → State → Reply
+changing change (Err why) bytes s = take_group bytes s
+changing change (Ok carried) bytes s =
     pick (eqb (number_of (take_group bytes s).answer) 1)
     (record {
       answer = (take_group bytes s).answer;
-      left = changed_in change (find carried.number (take_group bytes s).left) (take_group bytes s).left;
+      left = changed_in change (find carried.heard.number (take_group bytes s).left) (take_group bytes s).left;
     })
     (take_group bytes s)
 
@@ -520,7 +514,7 @@ body_length (Stage.Finished header body) = body
 -- by the lengths of the object that our collector finishes with the same segments
 lengths-break : (k : Collecting) (r : Run) (number slot : ℕ) (hs bs : List Segment) → (stored k r Header number ≡ hs)
     × (stored k r Body number ≡ bs) → (stored defined r Header number ≡ hs) × (stored defined r Body number ≡ bs)
-    → locate number (reached_by defined r) ≡ Located.At slot
+    → locate number (reached_by defined r) ≡ Ok slot
     → body_length (stage_for number (reached_by k r)) ≢ body_length (stage_for number (reached_by defined r))
     → ¬ (FinishedLengths k)
 lengths-break k r number slot hs bs c d l n p =
@@ -593,10 +587,10 @@ comes_late Stage.Gathering answer = false
 comes_late (Stage.Finished header body) answer = eqb (number_of answer) 0
 
 -- such a one is answered as somebody likes
-abbrev late_by : (Carried → Reply) → Reading → List ℕ → State → Reply
-late_by say (Read carried) bytes s =
-    pick (comes_late (stage_for carried.number s) (take_group bytes s).answer) (say carried) (take_group bytes s)
-late_by say (Refused why) bytes s = take_group bytes s
+abbrev late_by : (Carried → Reply) → Result Carried Refusal → List ℕ → State → Reply
+late_by say (Ok carried) bytes s =
+    pick (comes_late (stage_for carried.heard.number s) (take_group bytes s).answer) (say carried) (take_group bytes s)
+late_by say (Err why) bytes s = take_group bytes s
 
 -- COMPLETE again
 abbrev pub completes_twice : List ℕ → State → Reply
@@ -633,9 +627,9 @@ refuses-late-breaks =
     late-breaks (taking_by refuses_late) 17 (refl, refl) refl (λ e. absurd (omega arith)) (λ e. absurd (omega arith))
 
 -- a group of another kind is KIND, and its check word is not asked for
-abbrev kind_as : Kind → List ℕ → State → Reply
-kind_as (Carries part) bytes s = take_group bytes s
-kind_as Other bytes s = renamed (Answer.Refused Refusal.Kind) bytes s
+abbrev kind_as : Option Part → List ℕ → State → Reply
+kind_as (Some part) bytes s = take_group bytes s
+kind_as None bytes s = renamed (Answer.Refused Refusal.Kind) bytes s
 
 abbrev pub kind_first : List ℕ → State → Reply
 kind_first bytes s =
@@ -674,9 +668,9 @@ abbrev index_with : Answer → ℕ
 index_with answer = index_in (returned_with answer)
 
 -- a REPEAT is answered as somebody likes
-abbrev repeat_as : (Carried → Answer) → Reading → Answer → Answer
-repeat_as say (Read carried) answer = pick (eqb (number_of answer) 2) (say carried) answer
-repeat_as say (Refused why) answer = answer
+abbrev repeat_as : (Carried → Answer) → Result Carried Refusal → Answer → Answer
+repeat_as say (Ok carried) answer = pick (eqb (number_of answer) 2) (say carried) answer
+repeat_as say (Err why) answer = answer
 
 abbrev repeats_by : (Carried → Answer) → List ℕ → State → Reply
 repeats_by say bytes s = renamed (repeat_as say (reading_of bytes) (take_group bytes s).answer) bytes s

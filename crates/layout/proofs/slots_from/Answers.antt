@@ -1,32 +1,32 @@
--- `layout::slots_from` meets its contract: the slots that are filled and those that are to come are all slots.
+-- `layout::slots_from` meets its contract: each call of the closure reads its slot.
 -- Assumes nothing.
-use lib.Seq.{take-length}
-use mathlib.Core.Path.{◌≡◌, refl, sym, ◌∙◌}
-use mathlib.Core.List.{append-nil}
-use Prim.Native.Nat.{◌-◌}
-use native.Mathlib.Omega.{arith}
-use lib.ListN.{length, length-set}
-use Rattle.layout.specs.Layout.{slots_from}
-use Rattle.layout.specs.laws.Layout.{from-turn}
+use Rattle.std.proofs.Common.{◌≡◌, ℕ, zero, suc, ◌+◌, ◌*◌, ◌<◌, List, get_or, ◌∙◌, subst, arith, rules}
+use Rattle.std.specs.Array.{IsFromFnResultFrom}
+use Rattle.std.specs.Fn.{Called}
+use Rattle.std.proofs.lemmas.List.FromFn.{fill_by_all}
+use denote.Param.Members.{Mut}
+use borrow.Author.Tests.{tests}
+use Rattle.layout.specs.Layout.{slot_in}
+use Rattle.layout.specs.laws.Layout.{from-each}
 use Rattle.layout.proofs.slots_from.Goals as goal
 
-pub loop-i-init : goal.loop-i-init
-loop-i-init c = (omega arith, refl, refl, refl)
-
-pub loop-i-preserved : goal.loop-i-preserved
-loop-i-preserved c =
-    let w = c.args.words.now in (
-      omega arith,
-      omega arith,
-      simp length-set c.loop-i.invariant.2,
-      c.loop-i.invariant.3 ∙ rw c.slot_at-slot.ensures
-          (from-turn w c.loop-i.slots c.loop-i.i c.loop-i.at (omega arith) (omega arith)),
-    )
+-- where each call leaves the closure as it was, what is made is what the calls give
+made-by : {F B : Type 0} (g : Mut F (ℕ × Unit {0}) B) (f : F) (each : ℕ → B) (made : List B) (n i : ℕ) (d : B)
+    → ((x : ℕ) (y : B) (q : F) → Called g f (x, tt) y q → (q ≡ f) × (y ≡ each x))
+    → IsFromFnResultFrom g f made i n → (k j : ℕ) → k < n → i + k ≡ j → get_or made j d ≡ each j
+made-by g f each made zero i d calls result k j h e = absurd (omega arith)
+made-by g f each made (suc n) i d calls result zero j h e =
+    let here : i ≡ j = omega arith in rw (← here) (result.2.1 d ∙ (calls i result.1 result.0 result.3).1)
+made-by {F} {B} g f each made (suc n) i d calls result (suc k) j h e =
+    made-by g f each made n (i + 1) d calls
+    (subst (λ (q : F). IsFromFnResultFrom g q made (i + 1) n) (calls i result.1 result.0 result.3).0 result.4) k j
+    (omega arith) (omega arith)
 
 pub returns : goal.returns
-unfolding slots_from
 returns c =
-    let k = c.loop-i in
-    let e : k.i ≡ length k.slots = omega arith in
-    let n : 16 - length k.slots ≡ 0 = omega arith in
-    sym (k.invariant.3 ∙ rw (e, take-length, n) (append-nil _))
+    let words = c.args.words.now in
+    let each : ℕ → _ = λ (i : ℕ). slot_in words (2 + i * 11) in
+    let made = c.from_fn.ensures.items in
+    fill_by_all each _ 16 (each 0) made.long
+    (λ k h. made-by _ _ each _ 16 0 (each 0) (λ x y q k. search (rules, tests)) made.each k k h (omega arith))
+    ∙ from-each words 16 0

@@ -7,7 +7,6 @@ use Rattle.std.proofs.Math.Decide.{ℕ_discrete}
 use native.Mathlib.Omega.{arith}
 use Rattle.std.proofs.Math.ListN.{length, drop, length-drop}
 use Rattle.std.proofs.Math.Seq.{take-nil}
-use Rattle.octets.specs.Octets.{over}
 use Rattle.slots.specs.Stores.{Stores}
 use Rattle.listing_input.specs.declared.Gathered.{Gathered}
 use Rattle.listing_input.specs.Split.{newline}
@@ -15,15 +14,16 @@ use Rattle.listing_input.specs.Gather.{most, before, room_for, line_end, gathere
 use Rattle.listing_input.specs.laws.Run.{over_nothing, over-on}
 use Rattle.listing_input.specs.laws.Chunks.{before-newline, before-other, front-joined, ends-in, goes-past}
 use Rattle.listing.specs.declared.Held.{Held}
-use Rattle.listing.specs.Listed.{Served, served, Listed, listed_as, next_of, numbered, line_listed, piece_listed, input_listed, end_listed, Reads}
+use Rattle.listing.specs.Listed.{Listed, listed_as, served_line, next_of, numbered, line_listed, piece_listed, input_listed, end_listed, left_of, Reads}
 
 -- ---- a line's end
 
-pub line-listed : (l : Listed) (number : ℕ) (line : List ℕ) (left : Served) → number ≡ next_of l.listing.lines
-    → line ≡ take l.listing.kept l.line
-    → left ≡ served line l.listing.held l.group l.stores → numbered number l.line left ≡ line_listed l
+pub line-listed : (l m : Listed) (number : ℕ) → number ≡ next_of l.listing.lines → m.line ≡ l.line
+    → left_of m ≡ served_line l
+    → listed_as (record { lines = number; kept = 0; held = m.listing.held }) m.line m.group m.stores ≡ line_listed l
 unfolding line_listed
-line-listed l number line left counts fronts serves = rw (counts, serves, fronts)
+line-listed l m number counts keeps serves =
+    rw (counts, keeps) (ap (numbered (next_of l.listing.lines) l.line) serves)
 
 -- ---- pieces of a line
 

@@ -1,34 +1,23 @@
--- `listing_input::add_check` meets its contract: two bytes are stored behind those that the check word covers.
+-- `listing_input::add_check` meets its contract: the check word's two bytes are laid behind those that it covers.
 -- Assumes nothing.
-use mathlib.Core.Path.{◌≡◌, refl, sym, ap, ◌∙◌}
-use mathlib.Core.List.{List, [], ◌∷◌}
-use Prim.Native.Nat.{ℕ, ◌+◌, ◌≤◌}
-use native.Mathlib.Nat.{add-zero}
-use native.Mathlib.Omega.{arith}
-use lib.ListN.{length, set, length-set, length-take}
+use Rattle.std.proofs.Common.{◌≡◌, ap, ◌∙◌, ℕ, ◌-◌, ◌/◌, ◌%◌, ◌<◌, List, [], ◌∷◌, length, arith}
+use borrow.Rule.Slice.PartMut.{put_mid}
 use Rattle.octets.specs.Octets.{over}
-use Rattle.octets.specs.laws.Over.{over_none, over-more}
+use Rattle.octets.specs.laws.Over.{over-start}
 use Rattle.listing_input.specs.Line.{check_of}
 use Rattle.listing_input.proofs.add_check.Goals as goal
 
-pub slice_bounds-check_word-end-2 : goal.slice_bounds-check_word-end-2
-slice_bounds-check_word-end-2 c = simp length-take (omega arith)
+-- the high byte of a word is all that is over its low byte
+two-bytes : (word : ℕ) (bytes : List ℕ) → word < 65536 → bytes ≡ word / 256 % 256 ∷ word % 256 ∷ []
+    → bytes ≡ word / 256 ∷ word % 256 ∷ []
+two-bytes word bytes h e = let high : word / 256 % 256 ≡ word / 256 = omega arith in e ∙ rw high
 
-pub bounds-group-count-2 : goal.bounds-group-count-2
-bounds-group-count-2 c = simp length-set (omega arith)
-
--- two bytes stored, one behind the other
-both_stored : (l : List ℕ) (n a b : ℕ) → n + 2 ≤ length l → set (set l n a) (n + 1) b ≡ over l n (a ∷ b ∷ [])
-both_stored l n a b h =
-    ap (λ (m : List ℕ). set (set m n a) (n + 1) b) (over_none l n (a ∷ b ∷ []))
-    ∙ ap (λ (m : List ℕ). set m (n + 1) b)
-    (ap (λ (k : ℕ). set (over l n []) k a) (sym (add-zero n)) ∙ over-more l n (a ∷ b ∷ []) 0 (omega arith)
-    (omega arith))
-    ∙ over-more l n (a ∷ b ∷ []) 1 (omega arith) (omega arith)
-
-pub returns : goal.returns
+pub returns-clause-group_after : goal.returns-clause-group_after
 unfolding check_of
-returns c = record {
-  value = refl;
-  group_after = rw (← c.check_word-check.ensures) (both_stored _ _ _ _ c.requires);
-}
+returns-clause-group_after c =
+    let group = c.args.group.now in
+    let count = c.args.count in
+    let room = length group - count in
+    ap (put_mid count room group) c.copy_in.ensures ∙ over-start group count room _ (omega arith) (omega arith)
+    ∙ rw (← c.check_word.ensures)
+    (ap (over group count) (two-bytes c.check_word.result _ c.check_word.type_inv c.to_be_bytes-check.ensures))

@@ -1,69 +1,42 @@
--- `listing_input::decode` meets its contract: the bytes passed stand at the front of the group.
+-- `listing_input::decode` meets its contract: the bytes of the digits that are left come behind those that are stored.
 -- Assumes nothing.
-use mathlib.Core.Path.{◌≡◌, refl, sym, ap₂, ◌∙◌}
-use mathlib.Core.List.{List}
-use Prim.Native.Nat.{ℕ, ◌+◌, ◌*◌}
-use native.Mathlib.Nat.{zero-add}
-use native.Mathlib.Omega.{arith}
-use lib.ListN.{take, get_or, set, length-set}
-use lib.Seq.{take_all}
-use borrow.Author.Rules.{rules}
+use Rattle.std.proofs.Common.{◌≡◌, sym, ap, ◌∙◌, ℕ, ◌+◌, ◌<◌, arith, List, ◌++◌, length, length-append, get_or}
+use lib.ListN.{set, length-set}
 use Rattle.octets.specs.Octets.{over}
-use Rattle.octets.specs.laws.Over.{over_none, over-more}
-use Rattle.listing_input.specs.Hex.{bytes_of}
+use Rattle.listing_input.specs.Hex.{byte_of, bytes_of}
 use Rattle.listing_input.specs.laws.Theorems.{bytes-length}
-use Rattle.listing_input.proofs.Hex.{hex-digit, byte_at}
+use Rattle.listing_input.proofs.Hex.{decoded, none-decoded}
 use Rattle.listing_input.proofs.decode.Goals as goal
 
-pub loop-i-init : goal.loop-i-init
-loop-i-init c = (search rules, refl, over_none _ 0 (bytes_of c.args.digits.now))
-
-pub overflow_mul-group : goal.overflow_mul-group
-overflow_mul-group c =
-    let digits = c.args.digits.now in
-    let i = c.loop-i.i in
-    omega (
-      arith,
-      hex-digit digits (i * 2) c.requires.digits_value (omega arith),
-      c.digit.ensures,
-    )
-
-pub overflow_add-group : goal.overflow_add-group
-overflow_add-group c =
-    let digits = c.args.digits.now in
-    let i = c.loop-i.i in
-    let hex = c.requires.digits_value in
-    omega (
-      arith,
-      hex-digit digits (i * 2) hex (omega arith),
-      hex-digit digits (i * 2 + 1) hex (omega arith),
-      c.digit.ensures,
-      c.digit-in-loop-i.ensures,
-    )
+-- one pair's byte is stored
+stored : (left pair rest group : List ℕ) (at i next byte : ℕ) → left ≡ pair ++ rest → i ≡ at → next ≡ at + 1
+    → byte ≡ byte_of (get_or pair 0 0) (get_or pair 1 0) → length pair ≡ 2 → at < length group
+    → over (set group i byte) next (bytes_of rest) ≡ over group at (bytes_of left)
+stored left pair rest group at i next byte l e n b two h = rw (l, e, n, b) (decoded pair rest group at two h)
 
 pub loop-i-preserved : goal.loop-i-preserved
 loop-i-preserved c =
-    let digits = c.args.digits.now in
-    let group₀ = c.args.group.now in
-    let i = c.loop-i.i in
-    let byte = c.digit.result * 16 + c.digit-in-loop-i.result in
-    let same : byte ≡ get_or (bytes_of digits) i 0 =
-    rw (c.digit.ensures, c.digit-in-loop-i.ensures) (sym (byte_at digits i (omega arith))) in
-    let more : set (over group₀ 0 (take i (bytes_of digits))) (0 + i) (get_or (bytes_of digits) i 0)
-    ≡ over group₀ 0 (take (i + 1) (bytes_of digits)) =
-    over-more group₀ 0 (bytes_of digits) i (omega arith) (omega (arith, bytes-length digits)) in (
-      omega arith,
-      simp length-set c.loop-i.invariant.1,
-      ap₂ (λ (l : List ℕ) (b : ℕ). set l i b)
-          c.loop-i.invariant.2 same ∙ rw zero-add at more,
-    )
+    let steps = c.in-Some.ensures.steps in
+    let loop = c.loop-i in
+    let two = steps.0.1.1 ∙ loop.invariant.paired in
+    let parted = ap length steps.0.1.0 ∙ length-append c.in-Some.pair.now c.next.new.self.iter.rest.now in
+    record {
+      paired = steps.0.0 ∙ loop.invariant.paired;
+      counted = omega (arith, loop.invariant.counted, steps.2);
+      long = length-set loop.group c.in-Some.i c.byte.result ∙ loop.invariant.long;
+      laid = stored loop.i-iterator.iter.rest.now c.in-Some.pair.now c.next.new.self.iter.rest.now loop.group
+          loop.i-iterator.count c.in-Some.i c.next.new.self.count c.byte.result steps.0.1.0 steps.1 steps.2
+          c.byte.ensures two (omega (arith, loop.invariant.counted, loop.invariant.long, c.requires))
+          ∙ loop.invariant.laid;
+    }
 
-pub shape_of-group : goal.shape_of-group
-shape_of-group c = c.loop-i.invariant.1
+pub returns-clause-value : goal.returns-clause-value
+returns-clause-value c = sym (bytes-length c.args.digits.now)
 
-pub returns : goal.returns
-returns c =
-    let digits = c.args.digits.now in
-    let all : take c.loop-i.i (bytes_of digits) ≡ bytes_of digits =
-    take_all c.loop-i.i (bytes_of digits) (omega (arith, bytes-length digits)) in
-    record { value = sym (bytes-length digits); group_after = c.loop-i.invariant.2 ∙ rw all }
+pub returns-clause-group_after : goal.returns-clause-group_after
+returns-clause-group_after c =
+    let loop = c.loop-i in
+    let rest = loop.i-iterator.iter.rest.now in
+    sym (none-decoded rest loop.group loop.i-iterator.count
+    (omega (arith, c.in-None.ensures.steps.0.1.0, loop.invariant.paired)))
+    ∙ loop.invariant.laid

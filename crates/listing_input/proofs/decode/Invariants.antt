@@ -1,16 +1,15 @@
--- `listing_input::decode` meets its contract: the bytes passed stand at the front of the group.
+-- `listing_input::decode` meets its contract: the bytes of the digits that are left come behind those that are stored.
 -- Assumes nothing.
-use mathlib.Core.Path.{◌≡◌}
-use Prim.Native.Nat.{◌-◌, ◌≤◌}
-use lib.ListN.{length, take}
+use Rattle.std.proofs.Common.{◌≡◌, ◌+◌, ◌*◌, length}
 use Rattle.octets.specs.Octets.{over}
 use Rattle.listing_input.specs.Hex.{bytes_of}
 use Rattle.listing_input.proofs.decode.Given as goal
 
 abbrev pub invariant-loop-i : goal.invariant-loop-i
-invariant-loop-i l =
-    (l.i ≤ l.count) × (length l.group ≡ length l.initial.group)
-    × (l.group ≡ over l.initial.group 0 (take l.i (bytes_of l.digits)))
-
-abbrev pub decreases-loop-i : goal.decreases-loop-i
-decreases-loop-i l = l.count - l.i
+invariant-loop-i l = record {
+  paired : l.i-iterator.iter.size ≡ 2;
+  counted : l.i-iterator.count * 2 + length l.i-iterator.iter.rest.now ≡ length l.digits;
+  long : length l.group ≡ length l.initial.group;
+  laid : over l.group l.i-iterator.count (bytes_of l.i-iterator.iter.rest.now)
+      ≡ over l.initial.group 0 (bytes_of l.digits);
+}

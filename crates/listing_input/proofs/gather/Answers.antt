@@ -1,91 +1,71 @@
--- `listing_input::gather` meets its contract: nothing is left of the chunk, a newline ends the line, or the chunk does.
+-- `listing_input::gather` meets its contract: a newline ends the line, or the chunk does.
 -- Assumes nothing.
-use mathlib.Core.Path.{◌≡◌, sym, ap, ◌∙◌}
-use mathlib.Core.Bool.{true, false}
-use mathlib.Core.List.{List, []}
-use Prim.Native.Nat.{ℕ, ◌+◌, ◌-◌, ◌≤◌, ◌<◌}
-use native.Mathlib.Omega.{arith}
-use lib.ListN.{length, take, drop}
-use lib.Seq.{take-nil}
-use borrow.Author.Tests.{lt-ltb, le-ltb}
-use borrow.Author.Rules.{rules}
+use Rattle.std.proofs.Common.{◌≡◌, refl, sym, ap, ◌∙◌, true, false, ℕ, ◌+◌, ◌-◌, ◌≤◌, ◌<◌, List, length, take, drop, length-drop, arith, lt-ltb, le-ltb, rules}
 use Rattle.octets.specs.Octets.{over}
+use Rattle.listing_input.specs.declared.Gathered.{Gathered}
 use Rattle.listing_input.specs.Gather.{most, before, room_for, line_end, gathered, line_after}
-use Rattle.listing_input.specs.laws.Run.{over_nothing}
-use Rattle.listing_input.proofs.Pieces.{none_left, end-here, starts-before, ends-within, piece_is}
+use Rattle.listing_input.proofs.Pieces.{front_at, newline-found, no-newline, rest_is}
 use Rattle.listing_input.proofs.gather.Goals as goal
 
--- what is kept, by the piece that the definition gives
-kept-as : (chunk : List ℕ) (from kept room end : ℕ) → end ≡ line_end chunk from → room ≡ most
-    → room_for room kept (take (end - from) (drop from chunk)) ≡ room_for most kept (before (drop from chunk))
-kept-as chunk from kept room end e r = rw (r, e, piece_is chunk from)
+-- what `gather` leaves, by the piece of the line
+record Leaves (chunk : List ℕ) (from : ℕ) (line : List ℕ) (kept : ℕ) (result : Gathered) (after : List ℕ) : Type 0 where
+  value : result ≡ gathered chunk from kept
+  line_after : after ≡ line_after chunk from line kept
 
-module _ (chunk : List ℕ) (from kept end now : ℕ) (ends : end ≡ line_end chunk from)
-    (keeps : now ≡ kept + length (room_for most kept (before (drop from chunk)))) where
-  gathered-whole : end < length chunk → gathered chunk from kept ≡ record { next = end + 1; kept = now; whole = true }
-  unfolding gathered
-  gathered-whole h = rw (← ends, ← keeps, lt-ltb end (length chunk) h)
+module _ (chunk : List ℕ) (from : ℕ) (line : List ℕ) (kept room : ℕ) (rest piece after : List ℕ) (now : ℕ)
+    (is : rest ≡ drop from chunk) (long : room ≡ most)
+    (keeps : now ≡ kept + length (room_for room kept piece))
+    (lays : after ≡ over line kept (room_for room kept piece)) where
+  leaves-whole : (count : ℕ) → count ≡ length (before rest) → count < length rest → piece ≡ take count rest
+      → Leaves chunk from line kept (record { next = from + count + 1; kept = now; whole = true }) after
+  unfolding gathered line_after line_end
+  leaves-whole count counts within cut =
+      let same : piece ≡ before (drop from chunk) = cut ∙ rw (counts, is) (front_at (drop from chunk)) in
+      let place : count ≡ length (before (drop from chunk)) = counts ∙ ap (λ (l : List ℕ). length (before l)) is in
+      let short : from + length (before (drop from chunk)) < length chunk =
+      omega (arith, place, within, ap length is, length-drop from chunk) in
+      record {
+        value = rw (place, lt-ltb _ _ short, keeps, long, same);
+        line_after = lays ∙ rw (long, same);
+      }
 
-  gathered-part : length chunk ≤ end → gathered chunk from kept ≡ record { next = end; kept = now; whole = false }
-  unfolding gathered
-  gathered-part h = rw (← ends, ← keeps, le-ltb end (length chunk) h)
+  leaves-part : before rest ≡ rest → piece ≡ rest
+      → Leaves chunk from line kept (record { next = from + length rest; kept = now; whole = false }) after
+  unfolding gathered line_after line_end
+  leaves-part all cut =
+      let same : piece ≡ before (drop from chunk) = cut ∙ sym all ∙ ap before is in
+      let place : length rest ≡ length (before (drop from chunk)) = ap length (sym all ∙ ap before is) in
+      let past : length chunk ≤ from + length (before (drop from chunk)) =
+      omega (arith, place, ap length is, length-drop from chunk) in
+      record {
+        value = rw (place, le-ltb _ _ past, keeps, long, same);
+        line_after = lays ∙ rw (long, same);
+      }
 
-nothing : (kept : ℕ) → room_for most kept [] ≡ []
-unfolding room_for
-nothing kept = take-nil (most - kept)
-
-unchanged : (chunk : List ℕ) (from : ℕ) (line : List ℕ) (kept : ℕ) → before (drop from chunk) ≡ []
-    → line ≡ line_after chunk from line kept
-unfolding line_after
-unchanged chunk from line kept e = rw (e, nothing kept) (over_nothing line kept)
-
-pub returns-then-chunk-from : goal.returns-then-chunk-from
-returns-then-chunk-from c =
-    let chunk = c.args.chunk.now in
-    let from = c.args.from in
-    let kept = c.args.kept in
-    let none = none_left chunk from c.if-chunk-from.true in record {
-      value = sym (gathered-part chunk from kept from kept (sym (end-here chunk from none))
-          (rw (none, nothing kept) (omega arith)) c.if-chunk-from.true);
-      line_after = unchanged chunk from c.args.line.now kept none;
-    }
-
-pub slice_bounds-keep-count : goal.slice_bounds-keep-count
-slice_bounds-keep-count c =
-    rw c.line_end-end.ensures (starts-before c.args.chunk.now c.args.from)
-
-pub slice_bounds-keep-start : goal.slice_bounds-keep-start
-slice_bounds-keep-start c = rw c.line_end-end.ensures (starts-before c.args.chunk.now c.args.from)
-
-pub slice_bounds-keep-end-2 : goal.slice_bounds-keep-end-2
-slice_bounds-keep-end-2 c = rw c.line_end-end.ensures (ends-within c.args.chunk.now c.args.from (omega arith))
-
-pub returns-then-end-chunk : goal.returns-then-end-chunk
-unfolding line_after
-returns-then-end-chunk c =
+pub returns-in-Some : goal.returns-in-Some
+returns-in-Some c =
     let chunk = c.args.chunk.now in
     let from = c.args.from in
     let line = c.args.line.now in
-    let kept = c.args.kept in
-    let ends = c.line_end-end.ensures in
+    let at = c.min.result in
+    let rest = take (length chunk - at) (drop at chunk) in
     let long : length line ≡ most = search rules in
-    let same = kept-as chunk from kept (length line) _ ends long in record {
-      value = sym (gathered-whole chunk from kept _ _ ends
-          (c.keep-kept.ensures.value ∙ ap (λ (piece : List ℕ). kept + length piece) same) c.if-end-chunk.true);
-      line_after = c.keep-kept.ensures.line_after ∙ ap (over line kept) same;
-    }
+    let found = newline-found rest c.in-Some.length c.in-Some.ensures in
+    let piece = take c.in-Some.length rest in
+    let leaves = leaves-whole chunk from line c.args.kept (length line) rest piece c.keep.new.line c.keep.result
+    (rest_is chunk from at c.min.ensures) long c.keep.ensures.value c.keep.ensures.line_after c.in-Some.length found.0
+    found.1 refl in
+    record { value = leaves.value; line_after = leaves.line_after }
 
-pub returns : goal.returns
-unfolding line_after
-returns c =
+pub returns-in-None : goal.returns-in-None
+returns-in-None c =
     let chunk = c.args.chunk.now in
     let from = c.args.from in
     let line = c.args.line.now in
-    let kept = c.args.kept in
-    let ends = c.line_end-end.ensures in
+    let at = c.min.result in
+    let rest = take (length chunk - at) (drop at chunk) in
     let long : length line ≡ most = search rules in
-    let same = kept-as chunk from kept (length line) _ ends long in record {
-      value = sym (gathered-part chunk from kept _ _ ends
-          (c.keep-kept.ensures.value ∙ ap (λ (piece : List ℕ). kept + length piece) same) c.if-end-chunk.false);
-      line_after = c.keep-kept.ensures.line_after ∙ ap (over line kept) same;
-    }
+    let leaves = leaves-part chunk from line c.args.kept (length line) rest rest c.keep-in-None.new.line
+    c.keep-in-None.result (rest_is chunk from at c.min.ensures) long c.keep-in-None.ensures.value
+    c.keep-in-None.ensures.line_after (no-newline rest c.in-None.ensures) refl in
+    record { value = leaves.value; line_after = leaves.line_after }

@@ -1,53 +1,23 @@
--- `listing_input::keep` meets its contract: no room, room for the whole piece, or room for its front.
+-- `listing_input::keep` meets its contract: no room, or room for the front of the piece.
 -- Assumes nothing.
-use mathlib.Core.Path.{◌≡◌, refl, ap, ◌∙◌}
-use Prim.Native.Nat.{◌-◌}
-use native.Mathlib.Omega.{arith}
-use lib.ListN.{length, take, length-take, length-drop}
-use lib.Seq.{length-take-le}
+use Rattle.std.proofs.Common.{ap, ◌∙◌, ◌-◌, length, take, arith, length-take}
 use borrow.Rule.Slice.PartMut.{put_mid}
 use Rattle.octets.specs.laws.Over.{over-start}
-use Rattle.listing_input.specs.Gather.{room_for}
 use Rattle.listing_input.specs.laws.Run.{over_nothing}
-use Rattle.listing_input.proofs.Pieces.{no_room, room-for-all}
+use Rattle.listing_input.proofs.Pieces.{no_room, room-for-count}
 use Rattle.listing_input.proofs.keep.Goals as goal
 
-pub returns-then-line-kept : goal.returns-then-line-kept
-returns-then-line-kept c =
+pub returns-then-line-kept-clause-line_after : goal.returns-then-line-kept-clause-line_after
+returns-then-line-kept-clause-line_after c =
     let line = c.args.line.now in
-    let kept = c.args.kept in
-    let piece = c.args.piece.now in
-    rw (no_room (length line) kept piece c.if-line-kept.true)
-    (record { value = omega arith; line_after = over_nothing line kept })
+    rw (no_room (length line) c.args.kept c.args.piece.now c.if-line-kept.true) (over_nothing line c.args.kept)
 
-pub returns-then-piece-room : goal.returns-then-piece-room
-returns-then-piece-room c =
+pub returns-clause-line_after : goal.returns-clause-line_after
+returns-clause-line_after c =
     let line = c.args.line.now in
     let kept = c.args.kept in
-    let piece = c.args.piece.now in
     let room = length line - kept in
-    rw (room-for-all (length line) kept piece (omega arith)) (record {
-      value = refl;
-      line_after = ap (put_mid kept room line) c.copy_in.ensures ∙ over-start line kept room piece
-          (omega arith) (omega arith);
-    })
-
-pub slice_bounds-copy_in-end-3 : goal.slice_bounds-copy_in-end-3
-slice_bounds-copy_in-end-3 c =
-    simp length-take (omega arith)
-
-pub copy_in-requires-2 : goal.copy_in-requires-2
-copy_in-requires-2 c = simp (length-take, length-drop) (omega arith)
-
-pub returns : goal.returns
-unfolding room_for
-returns c =
-    let line = c.args.line.now in
-    let kept = c.args.kept in
-    let piece = c.args.piece.now in
-    let room = length line - kept in
-    let taken : length (take room piece) ≡ room = length-take-le room piece (omega arith) in record {
-      value = rw taken;
-      line_after = ap (put_mid kept room line) c.copy_in-2.ensures ∙ over-start line kept room
-          (take room piece) (rw taken (omega arith)) (omega arith);
-    }
+    let piece = take c.min-count.result c.args.piece.now in
+    rw (room-for-count (length line) kept c.args.piece.now c.min-count.result c.min-count.ensures)
+    (ap (put_mid kept room line) c.copy_in.ensures ∙ over-start line kept room piece
+    (simp length-take (omega arith)) (omega arith))

@@ -1,9 +1,6 @@
 -- `listing_output::write_answer` meets its contract: number, name and values, one behind the other.
 -- Assumes nothing.
-use mathlib.Core.Path.{◌≡◌, refl, ap}
-use mathlib.Core.List.{List, [], ◌∷◌, ◌++◌}
-use Prim.Native.Nat.{ℕ}
-use native.Mathlib.Omega.{arith}
+use Rattle.std.proofs.Common.{◌≡◌, refl, ap, List, [], ◌∷◌, ◌++◌, ℕ, arith}
 use Rattle.answer.specs.declared.Returned.{Returned}
 use Rattle.answer.specs.declared.Returned.TheVariants.{Sent, Segment, Number, Nothing}
 use Rattle.answer.specs.Letters.{letters}
@@ -25,12 +22,12 @@ with_values number name Nothing = refl
 pub returns : goal.returns
 unfolding answer_text
 returns c =
-    let number = c.put_decimal-name in
-    let name = c.put_name-values in
+    let number = c.put_decimal.ensures in
+    let name = c.put_name.ensures in
     let values = put_same c.put_returned.ensures.put
     (ap (λ (returned : Returned). text_of (values_of returned)) c.returned_with.ensures) in
     let whole = put_whole
-    (put_same (put_then number.ensures.put (put_then name.ensures.put values (omega arith)) (omega arith))
-    (with_values (decimal c.args.line) (letters (name_of c.args.answer))
-    (returned_with c.args.answer))) (omega arith) in
+    (put_same (put_then number.put (put_then name.put values (omega arith)) (omega arith))
+    (with_values (decimal c.args.line) (letters (name_of c.args.answer)) (returned_with c.args.answer)))
+    refl (omega arith) in
     record { value = whole.0; out_after = whole.1.0; upper_bound = whole.1.1 }

@@ -30,7 +30,8 @@ pub record Example : Type 0 where
   pub fifth : answer_text 5 (Refused Kind) ≡ line "5 KIND - - - - - -"
   pub sixth : answer_text 6 (Refused Length) ≡ line "6 LENGTH - - - - - -"
   pub seventh : answer_text 7 (Dropped 5) ≡ line "7 DROPPED 0005 - - - - -"
-  pub counts : counts_text 3 1 2 1 1 ≡ line "T 3 1 2 1 1"
+  pub counts : counts_text (record { taken = 3; repeated = 1; refused = 2; completed = 1; dropped = 1 })
+      ≡ line "T 3 1 2 1 1"
   pub malformed : malformed_text 10 ≡ line "10 LINE - - - - - -"
   pub not-held : answer_text 1024 (Denied NotHeld) ≡ line "1024 NOTHELD - - - - - -"
   pub meaning : answer_text 8 (Repeat (heard Body 1) (meant 15 2 7)) ≡ line "8 REPEAT 0005 B 1 15 2 7"

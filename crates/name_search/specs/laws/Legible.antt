@@ -1,17 +1,17 @@
 -- What the search goes over: the parameters of a finished object's header that reads, and nothing of one that is
 -- refused, nor of any other slot. What is left of them decides, at each turn, whether the object has the name that is
 -- asked for.
-use Rattle.std.specs.Prelude.{◌≡◌, Bool, true, false, ℕ, ◌+◌, ◌≤◌, ◌<◌, length}
+use Rattle.std.specs.Prelude.{◌≡◌, Bool, true, false, Some, None, Result, Ok, Err, ℕ, ◌+◌, ◌≤◌, ◌<◌, length}
 use Rattle.std.proofs.Math.Path.{refl, ap}
 use Rattle.std.proofs.Common.{sym, ◌∙◌, arith}
+use Rattle.std.proofs.Math.Decide.{dec_lt}
 use mathlib.Core.List.{List, []}
 use Rattle.cut.specs.Requirement.{header_most}
 use Rattle.header.specs.declared.Parameter.{Parameter}
-use Rattle.header.specs.declared.Found.TheVariants.{Nothing, One}
-use Rattle.header.specs.declared.Reading.{Reading}
-use Rattle.header.specs.declared.Reading.TheVariants.{Refused, Read}
+use Rattle.header.specs.declared.Fields.{Fields}
+use Rattle.header.specs.declared.Refusal.{Refusal}
 use Rattle.header.specs.Parameters.{found_at, listed, parameters_from, read_header}
-use Rattle.header.specs.laws.Parameters.{from_end}
+use Rattle.header.specs.laws.Parameters.{found-known, found-on, from_end}
 use Rattle.header.specs.laws.Theorems.{ReadFrom, read-from}
 use Rattle.header.specs.laws.Search.{Next, next, is_named, some_named, named-read}
 use Rattle.header.specs.Names.{has_name}
@@ -21,9 +21,9 @@ use Rattle.object.specs.declared.Stage.TheVariants.{Free, Gathering, Finished}
 use Rattle.slots.specs.Show.{start_of}
 use Rattle.name_search.specs.Finding.{named_at, holds_name}
 
-abbrev pub legible_as : Reading → List ℕ → List ℕ
-legible_as (Refused why) header = []
-legible_as (Read fields) header = header
+abbrev pub legible_as : Result Fields Refusal → List ℕ → List ℕ
+legible_as (Err why) header = []
+legible_as (Ok fields) header = header
 
 -- a header that reads; nothing of one that is refused
 unfoldable pub legible : List ℕ → List ℕ
@@ -54,9 +54,10 @@ header-first : (asked header : List ℕ) → Left (has_name asked header) asked 
 unfolding legible has_name
 header-first asked header = go (read_header header) refl
   where
-    go : (r : Reading) → read_header header ≡ r → Left (has_name asked header) asked (legible_as r header) 7
-    go (Refused why) e = rw e (none_first asked)
-    go (Read f) e =
+    go : (r : Result Fields Refusal) → read_header header ≡ r
+        → Left (has_name asked header) asked (legible_as r header) 7
+    go (Err why) e = rw e (none_first asked)
+    go (Ok f) e =
         let r : ReadFrom header f = read-from header f e in
         record { rest = r.ps; lists = r.lists; decides = rw e (sym (named-read header asked f r)) }
 
@@ -74,34 +75,40 @@ left-first asked i slot store = go slot.stage
 
 module _ (has : Bool) (asked list : List ℕ) (at : ℕ) (l : Left has asked list at) where
   -- none is left
-  pub left-none : length list ≤ at → has ≡ false
+  left-none : length list ≤ at → has ≡ false
   unfolding some_named
   left-none h =
       let e : l.rest ≡ [] = cc (from_end list at h) in
       rw e at l.decides
 
-  module _ (h : at < length list) where
-    one : Next list at l.rest
-    one = next list at l.rest h l.lists
+  one : at < length list → Next list at l.rest
+  one h = next list at l.rest h l.lists
 
-    -- the list is not broken
-    pub left-whole : found_at list at ≡ Nothing → ⊥
-    left-whole e = let z : ◌≡◌ {A = ℕ} 0 1 = cc one.found in omega arith
+  -- the list is not broken, so that none is found only where none is left
+  pub left-end : found_at list at ≡ None → has ≡ false
+  left-end e = go (dec_lt at (length list))
+    where
+      go : Dec (at < length list) → has ≡ false
+      go (yes h) = let z : ◌≡◌ {A = ℕ} 0 1 = cc (one h).found in absurd (omega arith)
+      go (no h) = left-none (omega arith)
 
-    module _ (p : Parameter) (f : found_at list at ≡ One p) where
-      same : one.parameter ≡ p
-      same = cc one.found
+  module _ (p : Parameter) (f : found_at list at ≡ Some p) where
+    this : Next list at l.rest
+    this = one (omega (arith, found-on list at p f, (found-known list at p f).inside))
 
-      -- this one is the name
-      pub left_here : is_named list asked p ≡ true → has ≡ true
-      unfolding some_named
-      left_here e = l.decides ∙ rw (one.first, same, e) refl
+    same : this.parameter ≡ p
+    same = cc this.found
 
-      -- this one is not
-      pub left-on : is_named list asked p ≡ false → Left has asked list (p.start + p.size)
-      unfolding some_named
-      left-on e = record {
-        rest = one.rest;
-        lists = rw same at one.goes_on;
-        decides = l.decides ∙ ap (some_named list asked) one.first ∙ rw (same, e) refl;
-      }
+    -- this one is the name
+    pub left_here : is_named list asked p ≡ true → has ≡ true
+    unfolding some_named
+    left_here e = l.decides ∙ rw (this.first, same, e) refl
+
+    -- this one is not
+    pub left-on : is_named list asked p ≡ false → Left has asked list (p.start + p.size)
+    unfolding some_named
+    left-on e = record {
+      rest = this.rest;
+      lists = rw same at this.goes_on;
+      decides = l.decides ∙ ap (some_named list asked) this.first ∙ rw (same, e) refl;
+    }

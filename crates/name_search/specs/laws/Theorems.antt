@@ -2,7 +2,7 @@
 -- they are in, and nobody exactly where none has it; and ContentName's data is a part of the header.
 use Rattle.std.proofs.Math.Path.{◌≡◌, refl, sym, ap, subst}
 use Rattle.std.proofs.Common.{◌∙◌, add-zero}
-use Rattle.std.specs.Prelude.{Bool, ◌↔◌, length, get_or, take, drop}
+use Rattle.std.specs.Prelude.{Bool, Option, Some, None, Result, Ok, Err, ◌↔◌, length, get_or, take, drop}
 use Rattle.std.proofs.Math.Bool.{true, false}
 use mathlib.Core.List.{List, [], ◌∷◌}
 use Prim.Native.Nat.{ℕ, zero, suc, ◌+◌, ◌≤◌, ◌<◌, min}
@@ -18,43 +18,41 @@ use Rattle.cut.specs.laws.Decision.{false-true}
 use Rattle.object.specs.declared.Slot.{Slot}
 use Rattle.object.specs.declared.Stage.{Stage}
 use Rattle.object.specs.declared.Stage.TheVariants.{Free, Gathering, Finished}
-use Rattle.header.specs.declared.Name.{Name}
-use Rattle.header.specs.declared.Name.TheVariants.{Absent, Data}
-use Rattle.header.specs.declared.Reading.{Reading}
-use Rattle.header.specs.declared.Reading.TheVariants.{Refused, Read}
+use Rattle.header.specs.declared.Place.{Place}
+use Rattle.header.specs.declared.Fields.{Fields}
+use Rattle.header.specs.declared.Refusal.{Refusal}
 use Rattle.header.specs.Parameters.{read_header, name_in}
 use Rattle.header.specs.laws.Theorems.{name-inside, matches-exactly}
 use Rattle.header.specs.Names.{named_as, data_as, name_data, has_name}
 use Rattle.slots.specs.Stores.{free_slot, slot_at}
 use Rattle.slots.specs.Show.{start_of}
 use Rattle.slots.specs.laws.Finished.{finished-among}
-use Rattle.name_search.specs.declared.Holder.{Holder}
-use Rattle.name_search.specs.declared.Holder.TheVariants.{Nobody, Number}
 use Rattle.name_search.specs.Requirement.{Object, Named, Lowest}
 use Rattle.name_search.specs.Finding.{named_at, lower, holds_name, holder_in, lowest_from, found_by_name}
 
 -- ---- the name as a part of the header
 
 -- the name of a header lies inside it, and has its character set byte at least
-pub name-within : (header : List ℕ) (start size : ℕ) → name_in (read_header header) ≡ Data start size → (0 < size)
-    × (start + size ≤ length header)
-name-within header start size e = go (read_header header) refl e
+pub name-within : (header : List ℕ) (place : Place) → name_in (read_header header) ≡ Some place → (0 < place.size)
+    × (place.start + place.size ≤ length header)
+name-within header place e = go (read_header header) refl e
   where
-    go : (r : Reading) → read_header header ≡ r → name_in r ≡ Data start size → (0 < size)
-        × (start + size ≤ length header)
-    go (Refused why) f g = let z : ◌≡◌ {A = ℕ} 0 1 = cc in absurd (omega arith)
-    go (Read fields) f g = name-inside header fields start size f g
+    go : (r : Result Fields Refusal) → read_header header ≡ r → name_in r ≡ Some place → (0 < place.size)
+        × (place.start + place.size ≤ length header)
+    go (Err why) f g = let z : ◌≡◌ {A = ℕ} 0 1 = cc in absurd (omega arith)
+    go (Ok fields) f g = name-inside header fields place f g
 
 -- so its data is empty exactly where there is none
-pub data-empty : (header : List ℕ) → (name_data header ≡ []) ↔ (name_in (read_header header) ≡ Absent)
+pub data-empty : (header : List ℕ) → (name_data header ≡ []) ↔ (name_in (read_header header) ≡ None)
 unfolding name_data
 data-empty header = (λ e. go (name_in (read_header header)) refl e, λ e. rw e refl)
   where
-    go : (n : Name) → name_in (read_header header) ≡ n → data_as header n ≡ [] → name_in (read_header header) ≡ Absent
-    go Absent f g = f
-    go (Data start size) f g =
-        let w = name-within header start size f in
-        absurd (omega (arith, w.0, part_length header start size w.1, ap length g))
+    go : (n : Option Place) → name_in (read_header header) ≡ n → data_as header n ≡ []
+        → name_in (read_header header) ≡ None
+    go None f g = f
+    go (Some place) f g =
+        let w = name-within header place f in
+        absurd (omega (arith, w.0, part_length header place.start place.size w.1, ap length g))
 
 -- ---- one header
 
@@ -63,26 +61,26 @@ pub has-name : (asked header : List ℕ) → (has_name asked header ≡ true) �
 unfolding has_name
 has-name asked header = (λ e. go (read_header header) refl e, back)
   where
-    names : (r : Reading) → read_header header ≡ r → (n : Name) → name_in r ≡ n → named_as header asked n ≡ true
-        → Named asked header
-    names r f Absent g e = let z : ◌≡◌ {A = ℕ} 0 1 = cc in absurd (omega arith)
-    names (Refused why) f (Data start size) g e = let z : ◌≡◌ {A = ℕ} 0 1 = cc in absurd (omega arith)
-    names (Read fields) f (Data start size) g e =
+    names : (r : Result Fields Refusal) → read_header header ≡ r → (n : Option Place) → name_in r ≡ n
+        → named_as header asked n ≡ true → Named asked header
+    names r f None g e = let z : ◌≡◌ {A = ℕ} 0 1 = cc in absurd (omega arith)
+    names (Err why) f (Some place) g e = let z : ◌≡◌ {A = ℕ} 0 1 = cc in absurd (omega arith)
+    names (Ok fields) f (Some place) g e =
         record {
           fields = fields;
           reads = f;
-          start = start;
-          size = size;
+          place = place;
           name = g;
           same =
-              (matches-exactly (take size (drop start header)) asked).0 e;
+              (matches-exactly (take place.size (drop place.start header)) asked).0 e;
         }
 
-    go : (r : Reading) → read_header header ≡ r → named_as header asked (name_in r) ≡ true → Named asked header
+    go : (r : Result Fields Refusal) → read_header header ≡ r → named_as header asked (name_in r) ≡ true
+        → Named asked header
     go r f e = names r f (name_in r) refl e
 
     back : Named asked header → named_as header asked (name_in (read_header header)) ≡ true
-    back n = rw (n.reads, n.name) ((matches-exactly (take n.size (drop n.start header)) asked).1 n.same)
+    back n = rw (n.reads, n.name) ((matches-exactly (take n.place.size (drop n.place.start header)) asked).1 n.same)
 
 -- ---- the lowest of a list of slots, the first being number `first`
 
@@ -90,8 +88,8 @@ module _ (asked store : List ℕ) where
   passes : ℕ → List Slot → ℕ → Bool
   passes first slots j = holds_name asked (first + j) (get_or slots j free_slot) store
 
-  None : ℕ → List Slot → Type 0
-  None first slots = (j : ℕ) → j < length slots → passes first slots j ≡ false
+  NoneNamed : ℕ → List Slot → Type 0
+  NoneNamed first slots = (j : ℕ) → j < length slots → passes first slots j ≡ false
 
   record Least (first : ℕ) (slots : List Slot) (number : ℕ) : Type 0 where
     slot : ℕ
@@ -100,9 +98,9 @@ module _ (asked store : List ℕ) where
     numbered : (get_or slots slot free_slot).number ≡ number
     lowest : (j : ℕ) → j < length slots → passes first slots j ≡ true → number ≤ (get_or slots j free_slot).number
 
-  abbrev Told : ℕ → List Slot → Holder → Type 0
-  Told first slots Nobody = None first slots
-  Told first slots (Number n) = Least first slots n
+  abbrev Told : ℕ → List Slot → Option ℕ → Type 0
+  Told first slots None = NoneNamed first slots
+  Told first slots (Some n) = Least first slots n
 
   -- one more slot in front
   module _ (first : ℕ) (slot : Slot) (slots : List Slot) where
@@ -114,8 +112,9 @@ module _ (asked store : List ℕ) where
     unfolding passes
     tail j = let e : first + suc j ≡ suc first + j = omega arith in rw e refl
 
-    none_more : holds_name asked first slot store ≡ false → None (suc first) slots → None first (slot ∷ slots)
-    unfolding None
+    none_more : holds_name asked first slot store ≡ false → NoneNamed (suc first) slots
+        → NoneNamed first (slot ∷ slots)
+    unfolding NoneNamed
     none_more e n zero h = head ∙ e
     none_more e n (suc j) h = tail j ∙ n j (omega arith)
 
@@ -147,13 +146,13 @@ module _ (asked store : List ℕ) where
         lowest zero h f = g (sym head ∙ f)
         lowest (suc j) h f = l.lowest j (omega arith) (sym (tail j) ∙ f)
 
-    step : (b : Bool) (rest : Holder) → holds_name asked first slot store ≡ b → Told (suc first) slots rest
-        → Told first (slot ∷ slots) (lower (pick b (Number slot.number) Nobody) rest)
-    unfolding None
-    step false Nobody e t = none_more e t
-    step false (Number n) e t = least-later n (λ f. let z : ◌≡◌ {A = ℕ} 0 1 = cc in absurd (omega arith)) t
-    step true Nobody e t = least-here e (λ j h f. let z : ◌≡◌ {A = ℕ} 0 1 = cc (t j h) in absurd (omega arith))
-    step true (Number n) e t = go (dec_le slot.number n)
+    step : (b : Bool) (rest : Option ℕ) → holds_name asked first slot store ≡ b → Told (suc first) slots rest
+        → Told first (slot ∷ slots) (lower (pick b (Some slot.number) None) rest)
+    unfolding NoneNamed
+    step false None e t = none_more e t
+    step false (Some n) e t = least-later n (λ f. let z : ◌≡◌ {A = ℕ} 0 1 = cc in absurd (omega arith)) t
+    step true None e t = least-here e (λ j h f. let z : ◌≡◌ {A = ℕ} 0 1 = cc (t j h) in absurd (omega arith))
+    step true (Some n) e t = go (dec_le slot.number n)
       where
         go : Dec (slot.number ≤ n) → Least first (slot ∷ slots) (min slot.number n)
         go (yes g) = let m : min slot.number n ≡ slot.number = omega arith in
@@ -161,7 +160,7 @@ module _ (asked store : List ℕ) where
         go (no g) = let m : min slot.number n ≡ n = omega arith in rw m (least-later n (λ f. omega arith) t)
 
   told : (first : ℕ) (slots : List Slot) → Told first slots (lowest_from asked first slots store)
-  unfolding lowest_from holder_in None
+  unfolding lowest_from holder_in NoneNamed
   told first [] = λ j h. absurd (omega arith)
   told first (slot ∷ slots) = step first slot slots (holds_name asked first slot store)
       (lowest_from asked (suc first) slots store) refl (told (suc first) slots)
@@ -184,7 +183,8 @@ finished-named asked store i (Finished h b) e = (h, b, refl, (has-name asked (st
 
 module _ (asked : List ℕ) (count : ℕ) (slots : List Slot) (store : List ℕ) where
   -- a slot of the first count
-  first : (j : ℕ) → j < length (take count slots) → (j < count) × (get_or (take count slots) j free_slot ≡ slot_at j slots)
+  first : (j : ℕ) → j < length (take count slots) → (j < count)
+      × (get_or (take count slots) j free_slot ≡ slot_at j slots)
   unfolding slot_at
   first j h =
       let g : j < count = omega (arith, rw length-take at h) in
@@ -225,23 +225,23 @@ module _ (asked : List ℕ) (count : ℕ) (slots : List Slot) (store : List ℕ)
         ap (λ (x : Slot). x.number) f.1 ∙ o.numbered,
       )
 
-  answer : (holder : Holder) → found_by_name asked count slots store ≡ holder
+  answer : (holder : Option ℕ) → found_by_name asked count slots store ≡ holder
       → Told asked store 0 (take count slots) holder
   unfolding found_by_name
-  answer holder e = subst (λ (h : Holder). Told asked store 0 (take count slots) h) e
+  answer holder e = subst (λ (h : Option ℕ). Told asked store 0 (take count slots) h) e
       (told asked store 0 (take count slots))
 
-  none_of : found_by_name asked count slots store ≡ Nobody → (number : ℕ) (header : List ℕ)
+  none_of : found_by_name asked count slots store ≡ None → (number : ℕ) (header : List ℕ)
       → Object count slots store number header → Named asked header → ⊥
-  unfolding None
+  unfolding NoneNamed
   none_of e number header o n =
       let s = slot_of number header o n in
-      let z : ◌≡◌ {A = ℕ} 0 1 = cc (answer Nobody e o.slot s.0, s.1) in
+      let z : ◌≡◌ {A = ℕ} 0 1 = cc (answer None e o.slot s.0, s.1) in
       omega arith
 
-  lowest-of : (number : ℕ) → found_by_name asked count slots store ≡ Number number → Lowest asked count slots store number
+  lowest-of : (number : ℕ) → found_by_name asked count slots store ≡ Some number → Lowest asked count slots store number
   lowest-of number e =
-      let l = answer (Number number) e in
+      let l = answer (Some number) e in
       let o = object_of l.slot l.inside l.here in
       record {
         header = o.0;
@@ -252,32 +252,32 @@ module _ (asked : List ℕ) (count : ℕ) (slots : List Slot) (store : List ℕ)
       }
 
   -- nobody is found exactly where no finished object has the name
-  pub found-nobody : (found_by_name asked count slots store ≡ Nobody)
+  pub found-nobody : (found_by_name asked count slots store ≡ None)
       ↔ ((number : ℕ) (header : List ℕ) → Object count slots store number header → Named asked header → ⊥)
   found-nobody = (none_of, λ none. go none (found_by_name asked count slots store) refl)
     where
       go : ((number : ℕ) (header : List ℕ) → Object count slots store number header → Named asked header → ⊥)
-          → (holder : Holder) → found_by_name asked count slots store ≡ holder
-          → found_by_name asked count slots store ≡ Nobody
-      go none Nobody e = e
-      go none (Number n) e = let l = lowest-of n e in absurd (none n l.header l.object l.named)
+          → (holder : Option ℕ) → found_by_name asked count slots store ≡ holder
+          → found_by_name asked count slots store ≡ None
+      go none None e = e
+      go none (Some n) e = let l = lowest-of n e in absurd (none n l.header l.object l.named)
 
   -- a number is found exactly where it is the lowest of those that have the name
-  pub found-lowest : (number : ℕ) → (found_by_name asked count slots store ≡ Number number)
+  pub found-lowest : (number : ℕ) → (found_by_name asked count slots store ≡ Some number)
       ↔ Lowest asked count slots store number
   found-lowest number = (lowest-of number, λ l. go l (found_by_name asked count slots store) refl)
     where
-      go : Lowest asked count slots store number → (holder : Holder) → found_by_name asked count slots store ≡ holder
-          → found_by_name asked count slots store ≡ Number number
-      go l Nobody e = absurd (none_of e number l.header l.object l.named)
-      go l (Number n) e =
+      go : Lowest asked count slots store number → (holder : Option ℕ) → found_by_name asked count slots store ≡ holder
+          → found_by_name asked count slots store ≡ Some number
+      go l None e = absurd (none_of e number l.header l.object l.named)
+      go l (Some n) e =
           let m = lowest-of n e in
           let s : n ≡ number = omega (
             arith,
             m.lowest number l.header l.object l.named,
             l.lowest n m.header m.object m.named,
           ) in
-          e ∙ ap Number s
+          e ∙ ap Some s
 
 -- ---- whatever slots they are in
 
@@ -292,11 +292,11 @@ pub found-anywhere : (asked : List ℕ) (count : ℕ) (slots : List Slot) (store
     → found_by_name asked count slots store ≡ found_by_name asked count' slots' store'
 found-anywhere asked count slots store count' slots' store' there back = go (found_by_name asked count slots store) refl
   where
-    go : (holder : Holder) → found_by_name asked count slots store ≡ holder
+    go : (holder : Option ℕ) → found_by_name asked count slots store ≡ holder
         → found_by_name asked count slots store ≡ found_by_name asked count' slots' store'
-    go Nobody e = e ∙ sym ((found-nobody asked count' slots' store').1
+    go None e = e ∙ sym ((found-nobody asked count' slots' store').1
         (λ number header o n. (found-nobody asked count slots store).0 e number header (back number header o) n))
-    go (Number number) e =
+    go (Some number) e =
         let l = (found-lowest asked count slots store number).0 e in
         e ∙ sym ((found-lowest asked count' slots' store' number).1
         (record {

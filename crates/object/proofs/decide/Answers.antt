@@ -2,30 +2,18 @@
 -- Assumes nothing.
 use mathlib.Core.Path.{◌≡◌, sym, ap, ◌∙◌}
 use mathlib.Core.Bool.{true, false}
-use borrow.Author.Tests.{leb-true}
-use Rattle.cut.specs.Requirement.{Segment, segment}
-use Rattle.cut.specs.Parts.{other_part}
+use Rattle.cut.specs.Requirement.{Segment, sent}
 use Rattle.cut.specs.Kept.{core_with}
 use Rattle.object.specs.declared.Tally.{Tally}
-use Rattle.object.specs.laws.Decided.{said, tallied-total, decided-held, decided-new}
+use Rattle.object.specs.laws.Decided.{said, decided-held, decided-new}
 use Rattle.object.specs.Parts.{Lent, shares, parts_of}
 use Rattle.object.specs.Stage.{core_in}
 use Rattle.object.proofs.decide.Goals as goal
 
-pub same_as_held-requires : goal.same_as_held-requires
-same_as_held-requires c =
-    let marked = rw c.marks_of.ensures at c.holds.ensures in
-    c.requires.held (leb-true 1 _ (sym marked ∙ c.if-holds.true))
-
 pub returns-then-same_as_held : goal.returns-then-same_as_held
 returns-then-same_as_held c =
-    let lent : Lent =
-    shares c.args.header.now
-    c.args.body.now
-    c.args.marks.now in
-    let s : Segment = segment c.args.number
-    c.args.last
-    c.args.bytes.now in
+    let lent : Lent = shares c.args.header.now c.args.body.now c.args.marks.now in
+    let s : Segment = sent c.args.segment.now in
     let marked = rw c.marks_of.ensures at
     c.holds.ensures in
     decided-held c.args.part
@@ -35,13 +23,8 @@ returns-then-same_as_held c =
 
 pub returns-then-holds : goal.returns-then-holds
 returns-then-holds c =
-    let lent : Lent =
-    shares c.args.header.now
-    c.args.body.now
-    c.args.marks.now in
-    let s : Segment = segment c.args.number
-    c.args.last
-    c.args.bytes.now in
+    let lent : Lent = shares c.args.header.now c.args.body.now c.args.marks.now in
+    let s : Segment = sent c.args.segment.now in
     let marked = rw c.marks_of.ensures at
     c.holds.ensures in
     decided-held c.args.part
@@ -49,28 +32,11 @@ returns-then-holds c =
     c.args.slot lent false
     (sym marked ∙ c.if-holds.true) (sym c.if-same_as_held.false ∙ c.same_as_held.ensures)
 
-pub takes-requires : goal.takes-requires
-takes-requires c = (
-  record {
-    long = c.requires.marks;
-    ours = c.total_in-own.ensures
-        ∙ tallied-total
-        c.args.part
-        c.args.tally
-        c.args.header.now
-        c.args.marks.now
-        c.requires.tallied;
-    theirs = (rw c.other_part.ensures at c.total_in-others.ensures)
-        ∙ tallied-total (other_part c.args.part) c.args.tally c.args.header.now c.args.marks.now c.requires.tallied;
-  },
-  c.requires.bits,
-)
-
 pub returns-then-not-takes : goal.returns-then-not-takes
 unfolding parts_of core_in
 returns-then-not-takes c =
     let lent : Lent = shares c.args.header.now c.args.body.now c.args.marks.now in
-    let s : Segment = segment c.args.number c.args.last c.args.bytes.now in
+    let s : Segment = sent c.args.segment.now in
     let marked = rw c.marks_of.ensures at
     c.holds.ensures in
     let core : c.core_with-core.result ≡ said c.args.part c.args.limit s c.args.slot lent = c.core_with-core.ensures
@@ -82,7 +48,7 @@ pub returns : goal.returns
 unfolding parts_of core_in
 returns c =
     let lent : Lent = shares c.args.header.now c.args.body.now c.args.marks.now in
-    let s : Segment = segment c.args.number c.args.last c.args.bytes.now in
+    let s : Segment = sent c.args.segment.now in
     let marked = rw c.marks_of.ensures at
     c.holds.ensures in
     let core : c.core_with-core.result ≡ said c.args.part c.args.limit s c.args.slot lent = c.core_with-core.ensures

@@ -2,15 +2,9 @@
 -- Assumes nothing.
 use Prim.Native.Nat.{◌-◌}
 use native.Mathlib.Omega.{arith}
-use lib.ListN.{length, drop, length-take, length-drop}
+use lib.ListN.{length, drop, length-drop}
 use lib.Seq.{take_all}
 use Rattle.object.proofs.marks_of.Goals as goal
-
-pub slice_bounds-result-end : goal.slice_bounds-result-end
-slice_bounds-result-end c = simp length-take (omega arith)
-
-pub returns-in-Header : goal.returns-in-Header
-returns-in-Header c = rw c.in-Header.is
 
 pub returns-in-Body : goal.returns-in-Body
 returns-in-Body c =

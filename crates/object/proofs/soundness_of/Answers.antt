@@ -1,214 +1,121 @@
 -- `object::soundness_of` meets its contract, test by test.
 -- Assumes nothing.
-use mathlib.Core.Path.{sym, ◌∙◌}
-use borrow.Author.Tests.{eq-eqb, ne_eqb}
+use mathlib.Core.Path.{◌≡◌, refl, sym, ◌∙◌}
+use mathlib.Core.Bool.{Bool, true, false}
+use mathlib.Core.List.{[], ◌∷◌}
+use Rattle.std.specs.Prelude.{None, Some}
+use Rattle.std.specs.Bool.{then_some}
+use Rattle.std.proofs.Common.{rules}
 use Rattle.answer.specs.declared.Part.TheVariants.{Header, Body}
-use Rattle.object.specs.Sound.{sound_parts, sound_slot}
-use Rattle.object.specs.Asked.{soundness}
+use Rattle.cut.specs.Decision.{core_fits}
+use Rattle.cut.specs.Kept.{bounds_of}
+use Rattle.cut.specs.Missing.{amount_kept}
+use Rattle.cut.specs.MissingKept.{missing_by}
+use lib.Dec.{eqb}
+use Rattle.cut.specs.Lists.{both, all, pick}
+use Rattle.cut.specs.laws.Decision.{false-true, both-then, both-else}
+use Rattle.part.specs.Asked.{sound_part}
+use Rattle.object.specs.declared.Tally.{Tally}
+use Rattle.object.specs.Sound.{same_stage, sound_parts, sound_slot}
+use Rattle.object.specs.Asked.{tally_of, soundness}
 use Rattle.object.proofs.Laws.{counted, right-bits}
 use Rattle.object.specs.Parts.{marks_of, parts_of}
-use Rattle.object.specs.Stage.{core_in, stage_of, missing_in}
+use Rattle.object.specs.Stage.{core_in, stage_from, stage_of, missing_in}
 use Rattle.object.specs.laws.Inside.{marks-bits, right-small}
+use Rattle.object.proofs.soundness_of.Goals.{then-core_fits, else-core_fits, then-sound, else-sound, then-sound-2, else-sound-2, then-eq, else-eq}
 use Rattle.object.proofs.soundness_of.Goals as goal
 
 pub returns-then-not-marks_right : goal.returns-then-not-marks_right
 unfolding soundness sound_slot sound_parts parts_of core_in
 returns-then-not-marks_right c = rw (sym c.marks_right.ensures ∙ c.if-not-marks_right.true)
 
-pub tally_of-held-requires : goal.tally_of-held-requires
-tally_of-held-requires c = (
-  c.requires,
-  right-bits _ _ c.marks_right.ensures
-      (c.if-not-marks_right.false),
-)
-
-pub returns-then-not-core_fits : goal.returns-then-not-core_fits
-unfolding soundness sound_slot sound_parts parts_of core_in
-returns-then-not-core_fits c =
-    let within = rw c.tally_of-held.ensures.0 at c.core_fits.ensures in
-    rw (
-      sym c.marks_right.ensures
-          ∙ c.if-not-marks_right.false,
-      sym within ∙ c.if-not-core_fits.true,
-    )
-
 pub sound-requires : goal.sound-requires
-sound-requires c = rw (
-  c.tally_of-held.ensures.0,
-  c.marks_of.ensures,
-  c.bounds_of-bounds.ensures,
-)
-    (counted Header c.args.limit
-    c.tally_of-held.result.core
-    c.args.marks.now
-    c.requires
-    (right-bits _ _ c.marks_right.ensures
-    (c.if-not-marks_right.false)))
+sound-requires c = rw (c.tally_of-held.ensures.0, c.marks_of.ensures, c.bounds_of-bounds.ensures)
+    (counted Header c.args.limit c.tally_of-held.result.core c.args.marks.now c.requires
+    (right-bits _ _ c.marks_right.ensures c.if-not-marks_right.false))
 
-pub returns-then-not-sound : goal.returns-then-not-sound
-unfolding soundness sound_slot sound_parts parts_of core_in
-returns-then-not-sound c =
-    let within = rw c.tally_of-held.ensures.0 at
-    c.core_fits.ensures in
-    let header =
-    rw (
-      c.bounds_of-bounds.ensures,
-      c.tally_of-held.ensures.0,
-      c.marks_of.ensures,
-    ) at c.sound.ensures in
-    rw (
-      sym c.marks_right.ensures
-          ∙ c.if-not-marks_right.false,
-      sym within ∙ c.if-not-core_fits.false,
-      sym header ∙ c.if-not-sound.true,
-    )
-
-pub sound-requires-2 : goal.sound-requires-2
-sound-requires-2 c = rw (
-  c.tally_of-held.ensures.0,
-  c.marks_of-2.ensures,
-  c.bounds_of-within.ensures,
-)
-    (counted Body c.args.limit
-    c.tally_of-held.result.core
-    c.args.marks.now c.requires
-    (right-bits _ _ c.marks_right.ensures (c.if-not-marks_right.false)))
-
-pub returns-then-not-sound-2 : goal.returns-then-not-sound-2
-unfolding soundness sound_slot sound_parts parts_of core_in
-returns-then-not-sound-2 c =
-    let within = rw c.tally_of-held.ensures.0 at c.core_fits.ensures in
-    let header = rw (
-      c.bounds_of-bounds.ensures,
-      c.tally_of-held.ensures.0,
-      c.marks_of.ensures,
-    ) at
-    c.sound.ensures in
-    let body = rw (
-      c.bounds_of-within.ensures,
-      c.tally_of-held.ensures.0,
-      c.marks_of-2.ensures,
-    ) at c.sound-2.ensures in
-    rw (
-      sym c.marks_right.ensures ∙ c.if-not-marks_right.false,
-      sym within ∙ c.if-not-core_fits.false,
-      sym header ∙ c.if-not-sound.false,
-      sym body ∙ c.if-not-sound-2.true,
-    )
-
-pub returns-then-not-same_stage : goal.returns-then-not-same_stage
-unfolding soundness sound_slot sound_parts parts_of core_in stage_of
-returns-then-not-same_stage c =
-    let within = rw c.tally_of-held.ensures.0 at
-    c.core_fits.ensures in
-    let header = rw (
-      c.bounds_of-bounds.ensures,
-      c.tally_of-held.ensures.0,
-      c.marks_of.ensures,
-    ) at
-    c.sound.ensures in
-    let body = rw (
-      c.bounds_of-within.ensures,
-      c.tally_of-held.ensures.0,
-      c.marks_of-2.ensures,
-    ) at
-    c.sound-2.ensures in
-    let stage = rw (
-      c.stage_from.ensures,
-      c.tally_of-held.ensures.0,
-    ) at c.same_stage.ensures in
-    rw (
-      sym c.marks_right.ensures ∙ c.if-not-marks_right.false,
-      sym within ∙ c.if-not-core_fits.false,
-      sym header ∙ c.if-not-sound.false,
-      sym body ∙ c.if-not-sound-2.false,
-      sym stage ∙ c.if-not-same_stage.true,
-    )
+pub sound-requires-then-sound : goal.sound-requires-then-sound
+sound-requires-then-sound c = rw (c.tally_of-held.ensures.0, c.marks_of-then-sound.ensures, c.bounds_of-within.ensures)
+    (counted Body c.args.limit c.tally_of-held.result.core c.args.marks.now c.requires
+    (right-bits _ _ c.marks_right.ensures c.if-not-marks_right.false))
 
 pub missing-requires : goal.missing-requires
 missing-requires c =
     let a = c.args in
-    let bits = right-bits _ _ c.marks_right.ensures
-    (c.if-not-marks_right.false) in
-    let header = rw (
-      c.bounds_of-bounds.ensures,
-      c.marks_of.ensures,
-    ) at
-    c.sound.ensures in
-    let body = rw (
-      c.bounds_of-within.ensures,
-      c.marks_of-2.ensures,
-    ) at
-    c.sound-2.ensures in (
-      c.tally_of-held.ensures.1,
-      right-small Header a.limit c.tally_of-held.result.core a.slot.header
-          (marks_of Header a.marks.now)
-          (marks-bits Header a.marks.now bits)
-          (sym header ∙ c.if-not-sound.false),
-      right-small Body a.limit c.tally_of-held.result.core a.slot.body
-          (marks_of Body a.marks.now)
-          (marks-bits Body a.marks.now bits) (sym body ∙ c.if-not-sound-2.false),
-    )
+    let bits = right-bits _ _ c.marks_right.ensures c.if-not-marks_right.false in
+    let core = c.tally_of-held.result.core in
+    elim c.if-sound-2.branch [
+      | then-sound-2 u ↦ elim c.if-sound.branch [
+        | then-sound v ↦ elim c.if-core_fits.branch [
+          | then-core_fits w ↦ (
+            c.tally_of-held.ensures.1,
+            right-small Header a.limit core a.slot.header (marks_of Header a.marks.now)
+                (marks-bits Header a.marks.now bits)
+                (sym (rw (c.bounds_of-bounds.ensures, w.marks_of.ensures) at w.sound.ensures)
+                ∙ sym w.value-is ∙ v.if-sound.true),
+            right-small Body a.limit core a.slot.body (marks_of Body a.marks.now)
+                (marks-bits Body a.marks.now bits)
+                (sym (rw (c.bounds_of-within.ensures, v.marks_of-then-sound.ensures) at v.sound-then-sound.ensures)
+                ∙ sym v.value-is ∙ u.if-sound-2.true),
+          )
+          | else-core_fits w ↦ absurd (false-true (w.value-is ∙ w.if-core_fits.false) v.if-sound.true)
+        ]
+        | else-sound v ↦ absurd (false-true (v.value-is ∙ v.if-sound.false) u.if-sound-2.true)
+      ]
+      | else-sound-2 u ↦ absurd (false-true (u.value-is ∙ u.if-sound-2.false) c.if-eq.true)
+    ]
 
-pub returns-then-told-missing : goal.returns-then-told-missing
-unfolding soundness sound_slot sound_parts parts_of core_in stage_of missing_in
-returns-then-told-missing c =
-    let within = rw c.tally_of-held.ensures.0 at
-    c.core_fits.ensures in
-    let header = rw (
-      c.bounds_of-bounds.ensures,
-      c.tally_of-held.ensures.0,
-      c.marks_of.ensures,
-    ) at c.sound.ensures in
-    let body = rw (
-      c.bounds_of-within.ensures,
-      c.tally_of-held.ensures.0,
-      c.marks_of-2.ensures,
-    ) at
-    c.sound-2.ensures in
-    let stage = rw (
-      c.stage_from.ensures,
-      c.tally_of-held.ensures.0,
-    ) at c.same_stage.ensures in
-    let missing = rw c.tally_of-held.ensures.0 at c.missing.ensures in
-    rw (
-      sym c.marks_right.ensures ∙ c.if-not-marks_right.false,
-      sym within ∙ c.if-not-core_fits.false,
-      sym header ∙ c.if-not-sound.false,
-      sym body ∙
-          c.if-not-sound-2.false,
-      sym stage ∙ c.if-not-same_stage.false,
-      ne_eqb _ _ (λ e. c.if-told-missing.true (e ∙ sym missing)),
-    )
+told : (f h b s m : Bool) (tally : Tally) → then_some (both (both (both (both f h) b) s) m) tally
+    ≡ pick (all (true ∷ all (f ∷ h ∷ b ∷ s ∷ []) ∷ m ∷ [])) (Some tally) None
+told false h b s m tally = refl
+told true false b s m tally = refl
+told true true false s m tally = refl
+told true true true false m tally = refl
+told true true true true false tally = refl
+told true true true true true tally = refl
 
 pub returns : goal.returns
 unfolding soundness sound_slot sound_parts parts_of core_in stage_of missing_in
 returns c =
-    let within = rw c.tally_of-held.ensures.0 at
-    c.core_fits.ensures in
-    let header = rw (
-      c.bounds_of-bounds.ensures,
-      c.tally_of-held.ensures.0,
-      c.marks_of.ensures,
-    ) at c.sound.ensures in
-    let body = rw (
-      c.bounds_of-within.ensures,
-      c.tally_of-held.ensures.0,
-      c.marks_of-2.ensures,
-    ) at
-    c.sound-2.ensures in
-    let stage = rw (
-      c.stage_from.ensures,
-      c.tally_of-held.ensures.0,
-    ) at c.same_stage.ensures in
-    let missing = rw c.tally_of-held.ensures.0 at c.missing.ensures in
+    let a = c.args in
+    let tally : Tally = tally_of a.header.now a.marks.now in
+    let f : Bool = core_fits a.limit tally.core in
+    let h : Bool = sound_part (bounds_of Header a.limit tally.core) a.slot.header (marks_of Header a.marks.now) in
+    let b : Bool = sound_part (bounds_of Body a.limit tally.core) a.slot.body (marks_of Body a.marks.now) in
+    let s : Bool = same_stage a.slot.stage
+    (stage_from tally.core tally.headers a.slot.header tally.bodies a.slot.body) in
+    let m : Bool = eqb a.slot.missing
+    (amount_kept (missing_by tally.core tally.headers a.slot.header tally.bodies a.slot.body)) in
+    let fit : c.core_fits.result ≡ f = rw c.tally_of-held.ensures.0 at c.core_fits.ensures in
+    let fits : c.if-core_fits.value ≡ both f h = elim c.if-core_fits.branch [
+      | then-core_fits w ↦ both-then h (sym fit ∙ w.if-core_fits.true) w.value-is
+          (rw (c.bounds_of-bounds.ensures, c.tally_of-held.ensures.0, w.marks_of.ensures) at w.sound.ensures)
+      | else-core_fits w ↦ both-else h (sym fit ∙ w.if-core_fits.false) (w.value-is ∙ fit)
+    ] in
+    let bodies : c.if-sound.value ≡ both c.if-core_fits.value b = elim c.if-sound.branch [
+      | then-sound w ↦ both-then b w.if-sound.true w.value-is (rw (
+        c.bounds_of-within.ensures,
+        c.tally_of-held.ensures.0,
+        w.marks_of-then-sound.ensures,
+      ) at w.sound-then-sound.ensures)
+      | else-sound w ↦ both-else b w.if-sound.false w.value-is
+    ] in
+    let stages : c.if-sound-2.value ≡ both c.if-sound.value s = elim c.if-sound-2.branch [
+      | then-sound-2 w ↦
+          let same : w.eq.result ≡ same_stage a.slot.stage w.stage_from.result = search rules in
+          both-then s w.if-sound-2.true w.value-is (rw (w.stage_from.ensures, c.tally_of-held.ensures.0) at same)
+      | else-sound-2 w ↦ both-else s w.if-sound-2.false w.value-is
+    ] in
+    let every : c.if-eq.sound ≡ both c.if-sound-2.value m = elim c.if-eq.branch [
+      | then-eq w ↦ both-then m w.if-eq.true w.sound-is (rw (w.missing.ensures, c.tally_of-held.ensures.0) refl)
+      | else-eq w ↦ both-else m w.if-eq.false w.sound-is
+    ] in
     rw (
-      sym c.marks_right.ensures ∙ c.if-not-marks_right.false,
-      sym within ∙ c.if-not-core_fits.false,
-      sym header ∙ c.if-not-sound.false,
-      sym body ∙
-          c.if-not-sound-2.false,
-      sym stage ∙ c.if-not-same_stage.false,
-      eq-eqb _ _ (c.if-told-missing.false ∙ missing),
+      c.then_some.ensures,
+      every,
+      stages,
+      bodies,
+      fits,
       c.tally_of-held.ensures.0,
-    )
+      sym c.marks_right.ensures ∙ c.if-not-marks_right.false,
+    ) (told f h b s m tally)

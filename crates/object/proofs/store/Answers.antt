@@ -7,7 +7,7 @@ use lib.ListN.{length, drop, length-take, length-drop}
 use lib.Seq.{take_all}
 use borrow.Rule.Slice.PartMut.{put_mid}
 use Rattle.answer.specs.declared.Part.TheVariants.{Header, Body}
-use Rattle.cut.specs.Requirement.{header_numbers, Segment, segment}
+use Rattle.cut.specs.Requirement.{header_numbers, Segment, sent}
 use Rattle.part.specs.Memory.{Memory}
 use Rattle.part.specs.Moves.{settled, put}
 use Rattle.object.specs.Asked.{Fitting}
@@ -19,13 +19,8 @@ use Rattle.object.proofs.store.Goals as goal
 
 pub with-new-requires : goal.with-new-requires
 with-new-requires c =
-    let lent : Lent =
-    shares c.args.header.now
-    c.args.body.now
-    c.args.marks.now in
-    let s : Segment = segment c.args.number
-    c.args.last
-    c.args.bytes.now in
+    let lent : Lent = shares c.args.header.now c.args.body.now c.args.marks.now in
+    let s : Segment = sent c.args.segment.now in
     number_small c.args.tally
     c.args.limit
     c.args.core s
@@ -43,7 +38,7 @@ pub put-requires : goal.put-requires
 unfolding parts_of
 put-requires c =
     let lent : Lent = shares c.args.header.now c.args.body.now c.args.marks.now in
-    let s : Segment = segment c.args.number c.args.last c.args.bytes.now in
+    let s : Segment = sent c.args.segment.now in
     let told = c.in-Header.is in
     let f : Fitting c.args.tally Header c.args.limit c.args.core s c.args.slot lent = rw told at c.requires in
     let new = (rw (c.bounds_of-bounds.ensures, c.kept_of.ensures, c.total_in-own.ensures, told) at c.with-new.ensures)
@@ -57,7 +52,7 @@ pub settle-requires : goal.settle-requires
 unfolding parts_of
 settle-requires c =
     let lent : Lent = shares c.args.header.now c.args.body.now c.args.marks.now in
-    let s : Segment = segment c.args.number c.args.last c.args.bytes.now in
+    let s : Segment = sent c.args.segment.now in
     let told = c.in-Header.is in
     let f : Fitting c.args.tally Header c.args.limit c.args.core s c.args.slot lent = rw told at c.requires in
     let still = (rw c.bounds_of-within.ensures at c.within-still.ensures)
@@ -67,7 +62,7 @@ settle-requires c =
 pub overflow_add-own : goal.overflow_add-own
 overflow_add-own c =
     let lent : Lent = shares c.args.header.now c.args.body.now c.args.marks.now in
-    let s : Segment = segment c.args.number c.args.last c.args.bytes.now in
+    let s : Segment = sent c.args.segment.now in
     omega (
       arith,
       c.total_in-own.ensures,
@@ -78,7 +73,7 @@ pub staged-requires : goal.staged-requires
 unfolding put settled parts_of
 staged-requires c =
     let lent : Lent = shares c.args.header.now c.args.body.now c.args.marks.now in
-    let s : Segment = segment c.args.number c.args.last c.args.bytes.now in
+    let s : Segment = sent c.args.segment.now in
     let told = c.in-Header.is in
     let f : Fitting c.args.tally Header c.args.limit c.args.core s c.args.slot lent = rw told at c.requires in
     let own = rw told at c.total_in-own.ensures in
@@ -108,7 +103,7 @@ pub put-requires-in-Body : goal.put-requires-in-Body
 unfolding parts_of
 put-requires-in-Body c =
     let lent : Lent = shares c.args.header.now c.args.body.now c.args.marks.now in
-    let s : Segment = segment c.args.number c.args.last c.args.bytes.now in
+    let s : Segment = sent c.args.segment.now in
     let told = c.in-Body.is in
     let f : Fitting c.args.tally Body c.args.limit c.args.core s c.args.slot lent = rw told at c.requires in
     let new = (rw (c.bounds_of-bounds.ensures, c.kept_of.ensures, c.total_in-own.ensures, told) at c.with-new.ensures)
@@ -123,7 +118,7 @@ put-requires-in-Body c =
 pub overflow_add-own-in-Body : goal.overflow_add-own-in-Body
 overflow_add-own-in-Body c =
     let lent : Lent = shares c.args.header.now c.args.body.now c.args.marks.now in
-    let s : Segment = segment c.args.number c.args.last c.args.bytes.now in
+    let s : Segment = sent c.args.segment.now in
     omega (
       arith,
       c.total_in-own.ensures,
@@ -134,7 +129,7 @@ pub staged-requires-in-Body : goal.staged-requires-in-Body
 unfolding put settled parts_of
 staged-requires-in-Body c =
     let lent : Lent = shares c.args.header.now c.args.body.now c.args.marks.now in
-    let s : Segment = segment c.args.number c.args.last c.args.bytes.now in
+    let s : Segment = sent c.args.segment.now in
     let told = c.in-Body.is in
     let f : Fitting c.args.tally Body c.args.limit c.args.core s c.args.slot lent = rw told at c.requires in
     let own = rw told at c.total_in-own.ensures in
@@ -170,7 +165,7 @@ pub returns-in-Header : goal.returns-in-Header
 unfolding parts_of
 returns-in-Header c =
     let lent : Lent = shares c.args.header.now c.args.body.now c.args.marks.now in
-    let s : Segment = segment c.args.number c.args.last c.args.bytes.now in
+    let s : Segment = sent c.args.segment.now in
     let told = c.in-Header.is in
     let f : Fitting c.args.tally Header c.args.limit c.args.core s c.args.slot lent = rw told at c.requires in
     let new = (rw (c.bounds_of-bounds.ensures, c.kept_of.ensures, c.total_in-own.ensures, told) at c.with-new.ensures)
@@ -188,7 +183,7 @@ pub returns-in-Body : goal.returns-in-Body
 unfolding parts_of
 returns-in-Body c =
     let lent : Lent = shares c.args.header.now c.args.body.now c.args.marks.now in
-    let s : Segment = segment c.args.number c.args.last c.args.bytes.now in
+    let s : Segment = sent c.args.segment.now in
     let told = c.in-Body.is
     in
     let f : Fitting c.args.tally Body c.args.limit c.args.core s c.args.slot lent = rw told at c.requires in

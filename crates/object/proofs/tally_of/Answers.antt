@@ -1,19 +1,9 @@
 -- `object::tally_of` meets its contract: the core, and the two sums.
 -- Assumes nothing.
-use mathlib.Core.Path.{refl}
 use native.Mathlib.Omega.{arith}
 use Rattle.answer.specs.declared.Part.TheVariants.{Header, Body}
 use Rattle.object.specs.laws.Inside.{marks-length, marks-bits}
 use Rattle.object.proofs.tally_of.Goals as goal
-
-pub core_from-core-requires : goal.core_from-core-requires
-core_from-core-requires c =
-    rw c.marks_of-own.ensures
-    (omega (
-      arith,
-      marks-length Header c.args.marks.now
-          c.requires.0,
-    ))
 
 pub sum-headers-requires : goal.sum-headers-requires
 sum-headers-requires c =
@@ -28,11 +18,3 @@ sum-bodies-requires c =
       marks-bits Body c.args.marks.now c.requires.1,
       omega (arith, marks-length Body c.args.marks.now c.requires.0),
     )
-
-pub returns : goal.returns
-returns c =
-    let core = rw c.marks_of-own.ensures at
-    c.core_from-core.ensures.0 in
-    let headers = rw c.marks_of-own.ensures at c.sum-headers.ensures in
-    let bodies = rw c.marks_of.ensures at c.sum-bodies.ensures in
-    (rw (core, headers, bodies) refl, c.core_from-core.ensures.1)

@@ -1,6 +1,6 @@
 -- What is decided of a segment, case by case, and what the decision asks.
 use Rattle.std.proofs.Math.Path.{◌≡◌, refl, ap}
-use Rattle.std.specs.Prelude.{Bool, List, length}
+use Rattle.std.specs.Prelude.{None, Some, is_some, Bool, List, length, Option}
 use Rattle.std.proofs.Math.Bool.{true, false}
 use Prim.Native.Nat.{ℕ, zero, suc, ◌<◌}
 use Rattle.std.proofs.Common.{arith}
@@ -10,7 +10,7 @@ use borrow.Author.Tests.{leb-true, leb-false}
 use Rattle.answer.specs.declared.Part.{Part}
 use Rattle.answer.specs.declared.Part.TheVariants.{Header, Body}
 use Rattle.cut.specs.Requirement.{Segment}
-use Rattle.cut.specs.declared.Core.{Core}
+use Rattle.cut.specs.declared.Sizes.{Sizes}
 use Rattle.cut.specs.Parts.{other_part}
 use Rattle.cut.specs.Kept.{core_with}
 use Rattle.cut.specs.Sums.{takes}
@@ -20,8 +20,6 @@ use Rattle.part.specs.Asked.{mark_of, held_at, same_segment, Held}
 use Rattle.object.specs.declared.Slot.{Slot}
 use Rattle.object.specs.declared.Tally.{Tally}
 use Rattle.object.specs.declared.Decided.TheVariants.{Fits}
-use Rattle.object.specs.declared.Soundness.{Soundness}
-use Rattle.object.specs.declared.Soundness.TheVariants.{Damaged, Sound}
 use Rattle.object.specs.Sound.{sound_slot}
 use Rattle.object.specs.Take.{Taken, takes_in, decided_held, decided_new, decided_by, decided, taken_by, take_into}
 use Rattle.object.specs.Asked.{tally_of, total_in, soundness, Readable, Offered, Fitting}
@@ -71,7 +69,7 @@ tallied-total Header tally header marks t = ap (λ (x : Tally). x.headers) t
 tallied-total Body tally header marks t = ap (λ (x : Tally). x.bodies) t
 
 module _ (part : Part) (limit : ℕ) (s : Segment) (slot : Slot) (lent : Lent) where
-  abbrev pub said : Core
+  abbrev pub said : Option Sizes
   said = core_with part s (core_in (parts_of slot lent).header)
 
   pub decided-held : (same : Bool) → mark_of (marks_of part lent.marks) s.number ≡ true
@@ -99,7 +97,7 @@ module _ (part : Part) (limit : ℕ) (s : Segment) (slot : Slot) (lent : Lent) w
       none = omega (arith, leb-false 1 (get_or (marks_of part lent.marks) s.number 0) h)
 
   -- one that fits can be stored
-  pub decided-fits : (tally : Tally) (core : Core) → Offered limit slot lent → tally
+  pub decided-fits : (tally : Tally) (core : Option Sizes) → Offered limit slot lent → tally
       ≡ tally_of lent.header lent.marks → decided part limit s (parts_of slot lent) ≡ Fits core
       → Fitting tally part limit core s slot lent
   unfolding decided
@@ -146,14 +144,11 @@ offered-readable tally part n limit slot lent offered t =
 
 -- ---- whether a slot is sound, by what is told of it
 
-abbrev pub is_sound : Soundness → Bool
-is_sound Damaged = false
-is_sound (Sound tally) = true
-
-pub is-sound : (limit : ℕ) (slot : Slot) (lent : Lent) → is_sound (soundness limit slot lent) ≡ sound_slot limit slot lent
+pub is-sound : (limit : ℕ) (slot : Slot) (lent : Lent) → is_some (soundness limit slot lent)
+    ≡ sound_slot limit slot lent
 unfolding soundness
 is-sound limit slot lent = go (sound_slot limit slot lent)
   where
-    go : (b : Bool) → is_sound (pick b (Sound (tally_of lent.header lent.marks)) Damaged) ≡ b
+    go : (b : Bool) → is_some (pick b (Some (tally_of lent.header lent.marks)) None) ≡ b
     go true = refl
     go false = refl

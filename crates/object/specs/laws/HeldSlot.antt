@@ -1,17 +1,16 @@
 -- Both parts of a slot that holds segments: what is read off them is what these segments give, the test is exact, and
 -- one segment more is held.
-use Rattle.std.specs.Prelude.{◌≡◌, refl, ◌↔◌, Bool, true, false, List, [], ◌∷◌, ℕ, zero, suc, ◌*◌, ◌≤◌, ◌<◌, max, length, take, get_or, eqb, leb}
+use Rattle.std.specs.Prelude.{◌≡◌, refl, ◌↔◌, Bool, true, false, Option, Some, None, List, [], ◌∷◌, ℕ, zero, suc, ◌*◌, ◌≤◌, ◌<◌, max, length, take, get_or, eqb, leb}
 use Rattle.std.proofs.Common.{sym, ap, ◌∙◌, subst, inl, inr, zero-mul, arith, length-set, eqb-true, le-leb}
 use Rattle.std.proofs.lemmas.Bool.{eqb-false}
 use Rattle.answer.specs.declared.Part.{Part}
 use Rattle.answer.specs.declared.Part.TheVariants.{Header, Body}
 use Rattle.cut.specs.laws.Lists.{each-zip}
 use Rattle.cut.specs.Requirement.{header_least, header_numbers, body_numbers, size_least, limit_most, body_size, header_size, Segment, Fits}
-use Rattle.cut.specs.declared.Core.{Core}
-use Rattle.cut.specs.declared.Core.TheVariants.{Unseen, Seen}
+use Rattle.cut.specs.declared.Sizes.{Sizes}
 use Rattle.cut.specs.declared.Bounds.{Bounds}
 use Rattle.cut.specs.declared.Record.{Record}
-use Rattle.cut.specs.Kept.{bounds_of, add_part, add_top, summary, some_full, settle, record_of, core_after, core_of}
+use Rattle.cut.specs.Kept.{bounds_of, add_part, add_top, summary, some_full, settle, record_of, sizes_of, core_after, core_of}
 use Rattle.cut.specs.laws.Core.{front-body, front-header}
 use Rattle.cut.specs.laws.Segment.{SitsAs, Sits, Numbered, Agree, sent-number}
 use Rattle.cut.specs.laws.Decision.{Clear}
@@ -96,14 +95,13 @@ first_says S L size share s h g t p e =
     )
 
 core-present : (share : List ℕ) (ss : List Segment) → Each (Says share) ss → Numbered 0 ss → core_of ss
-    ≡ Seen (body_size share) (header_size share)
+    ≡ Some (sizes_of share)
 core-present share [] e i = absurd i
 core-present share (s ∷ ss) e i = go (eqb s.number 0) refl i (core-present share ss e.1)
   where
     go : (b : Bool) → eqb s.number 0 ≡ b → Numbered 0 (s ∷ ss)
-        → (Numbered 0 ss → core_of ss ≡ Seen (body_size share) (header_size share))
-        → pick b (Seen (body_size s.bytes) (header_size s.bytes)) (core_of ss)
-        ≡ Seen (body_size share) (header_size share)
+        → (Numbered 0 ss → core_of ss ≡ Some (sizes_of share))
+        → pick b (Some (sizes_of s.bytes)) (core_of ss) ≡ Some (sizes_of share)
     go true x j rest = let r = e.0 (eqb-true s.number 0 x) in rw (r.0, r.1) refl
     go false x (inl j) rest = absurd (eqb-false s.number 0 x j)
     go false x (inr j) rest = rest j
@@ -118,7 +116,7 @@ core-laid m S L ss h g t p k = go (get_or m.marks 0 0) (k.marked 0)
     says = each-zip (λ s t p. first_says S L m.kept.size m.share s h g t p) ss t p
 
     go : (mark : ℕ) → (0 < mark) ↔ Numbered 0 ss
-        → pick (leb 1 mark) (Seen (body_size m.share) (header_size m.share)) Unseen ≡ core_of ss
+        → pick (leb 1 mark) (Some (sizes_of m.share)) None ≡ core_of ss
     go zero i = sym (core-absent ss (λ j. let z : 0 < 0 = i.1 j in omega arith))
     go (suc mark) i =
         rw (le-leb 1 (suc mark) (omega arith)) (sym (core-present m.share ss says (i.0 (omega arith))))
@@ -183,23 +181,23 @@ takes-fits Body limit s ps hs bs z y g a = rw (core-read limit ps hs bs g, g.hea
 -- ---- one segment more
 
 -- what was said stays said, so bounds that have met stay so
-after-unseen : (b : Bool) (c d : Core) (body header : ℕ) → pick b (Seen body header) c ≡ d → d ≡ Unseen → c ≡ Unseen
-after-unseen true c d body header e f = let z : ◌≡◌ {A = ℕ} 0 1 = cc in absurd (omega arith)
-after-unseen false c d body header e f = e ∙ f
+after-unseen : (b : Bool) (c d : Option Sizes) (sizes : Sizes) → pick b (Some sizes) c ≡ d → d ≡ None → c ≡ None
+after-unseen true c d sizes e f = let z : ◌≡◌ {A = ℕ} 0 1 = cc in absurd (omega arith)
+after-unseen false c d sizes e f = e ∙ f
 
-met-as : (part : Part) (limit : ℕ) (c d : Core) → (d ≡ Unseen → c ≡ Unseen) → Met (bounds_of part limit c)
+met-as : (part : Part) (limit : ℕ) (c d : Option Sizes) → (d ≡ None → c ≡ None) → Met (bounds_of part limit c)
     → Met (bounds_of part limit d)
 unfolding bounds_of
-met-as Header limit c (Seen body header) h e = refl
-met-as Body limit c (Seen body header) h e = refl
-met-as Header limit c Unseen h e = rw (h refl) at e
-met-as Body limit c Unseen h e = rw (h refl) at e
+met-as Header limit c (Some sizes) h e = refl
+met-as Body limit c (Some sizes) h e = refl
+met-as Header limit c None h e = rw (h refl) at e
+met-as Body limit c None h e = rw (h refl) at e
 
-met-after : (part : Part) (limit : ℕ) (s : Segment) (c : Core) → Met (bounds_of part limit c)
+met-after : (part : Part) (limit : ℕ) (s : Segment) (c : Option Sizes) → Met (bounds_of part limit c)
     → Met (bounds_of part limit (core_after s c))
 met-after part limit s c =
     met-as part limit c (core_after s c)
-    (after-unseen (eqb s.number 0) c (core_after s c) (body_size s.bytes) (header_size s.bytes) refl)
+    (after-unseen (eqb s.number 0) c (core_after s c) (sizes_of s.bytes) refl)
 
 put-marks : (s : Segment) (p : Record) (m : Memory) → length (put s (settled p m)).marks ≡ length m.marks
 unfolding put settled
@@ -221,9 +219,9 @@ header-parts : (limit : ℕ) (s : Segment) (ps : Parts) (hs bs : List Segment) �
 unfolding parts_with
 header-parts limit s ps hs bs g =
     let c : core_after s (core_in ps.header) ≡ core_of (s ∷ hs) = ap (core_after s) (core-read limit ps hs bs g) in
-    let h = ap (λ (x : Core). record_with (bounds_of Header limit x) s ps.header) c
+    let h = ap (λ (x : Option Sizes). record_with (bounds_of Header limit x) s ps.header) c
     ∙ record-with Header limit ps hs bs g (bounds_of Header limit (core_of (s ∷ hs))) s in
-    let b = ap (λ (x : Core). record_within (bounds_of Body limit x) ps.body) c
+    let b = ap (λ (x : Option Sizes). record_within (bounds_of Body limit x) ps.body) c
     ∙ record-within Body limit ps hs bs g (bounds_of Body limit (core_of (s ∷ hs))) in
     λ i. record { header = put s (settled (h i) ps.header); body = settled (b i) ps.body }
 
@@ -236,7 +234,7 @@ body-parts : (limit : ℕ) (s : Segment) (ps : Parts) (hs bs : List Segment) →
     }
 unfolding parts_with
 body-parts limit s ps hs bs g =
-    let b = ap (λ (x : Core). record_with (bounds_of Body limit x) s ps.body) (core-read limit ps hs bs g)
+    let b = ap (λ (x : Option Sizes). record_with (bounds_of Body limit x) s ps.body) (core-read limit ps hs bs g)
     ∙ record-with Body limit ps hs bs g (bounds_of Body limit (core_of hs)) s in
     λ i. record { header = ps.header; body = put s (settled (b i) ps.body) }
 

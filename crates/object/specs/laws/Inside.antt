@@ -1,6 +1,6 @@
 -- Everything that is read or written in a share lies inside it: the segments that are marked, one that is taken, and
 -- one that is copied once the size is known.
-use Rattle.std.specs.Prelude.{◌≡◌, true, List, [], ◌∷◌, ℕ, suc, ◌+◌, ◌≤◌, ◌<◌, length, take, drop, get_or, leb}
+use Rattle.std.specs.Prelude.{◌≡◌, true, Option, Some, None, List, [], ◌∷◌, ℕ, suc, ◌+◌, ◌≤◌, ◌<◌, length, take, drop, get_or, leb}
 use Rattle.std.proofs.Math.Path.{refl}
 use Rattle.std.proofs.Common.{ap, arith, length-take, length-drop, take_all, leb-true, eqb-true}
 use Rattle.std.proofs.Math.Bool.{Bool}
@@ -10,8 +10,7 @@ use Rattle.octets.specs.laws.Marks.{largest-part}
 use Rattle.answer.specs.declared.Part.{Part}
 use Rattle.answer.specs.declared.Part.TheVariants.{Header, Body}
 use Rattle.cut.specs.Requirement.{header_most, header_numbers, body_numbers, Segment}
-use Rattle.cut.specs.declared.Core.{Core}
-use Rattle.cut.specs.declared.Core.TheVariants.{Unseen, Seen}
+use Rattle.cut.specs.declared.Sizes.{Sizes}
 use Rattle.cut.specs.declared.Bounds.{Bounds}
 use Rattle.cut.specs.declared.Record.{Record}
 use Rattle.cut.specs.Decision.{core_tests, core_fits}
@@ -35,21 +34,21 @@ use Rattle.object.specs.Stage.{core_in, stage_of, missing_in}
 
 -- ---- the bounds of a part are those of its share
 
-pub bounds-numbers : (part : Part) (limit : ℕ) (c : Core) → (bounds_of part limit c).numbers ≡ numbers_of part
+pub bounds-numbers : (part : Part) (limit : ℕ) (c : Option Sizes) → (bounds_of part limit c).numbers ≡ numbers_of part
 unfolding bounds_of
-bounds-numbers Header limit Unseen = refl
-bounds-numbers Header limit (Seen body header) = refl
-bounds-numbers Body limit Unseen = refl
-bounds-numbers Body limit (Seen body header) = refl
+bounds-numbers Header limit None = refl
+bounds-numbers Header limit (Some sizes) = refl
+bounds-numbers Body limit None = refl
+bounds-numbers Body limit (Some sizes) = refl
 
-pub bounds-most : (part : Part) (limit : ℕ) (c : Core) → core_fits limit c ≡ true
+pub bounds-most : (part : Part) (limit : ℕ) (c : Option Sizes) → core_fits limit c ≡ true
     → (bounds_of part limit c).most ≤ width_of part limit
 unfolding bounds_of core_fits
-bounds-most Header limit Unseen e = omega arith
-bounds-most Header limit (Seen body header) e = let t = all_true (core_tests limit (Seen body header)) e in
+bounds-most Header limit None e = omega arith
+bounds-most Header limit (Some sizes) e = let t = all_true (core_tests limit (Some sizes)) e in
     omega (arith, leb-true)
-bounds-most Body limit Unseen e = omega arith
-bounds-most Body limit (Seen body header) e = let t = all_true (core_tests limit (Seen body header)) e in
+bounds-most Body limit None e = omega arith
+bounds-most Body limit (Some sizes) e = let t = all_true (core_tests limit (Some sizes)) e in
     omega (arith, leb-true)
 
 pub share-width : (part : Part) (limit : ℕ) (ps : Parts) → Shaped limit ps → length (memory_of part ps).share
@@ -70,7 +69,7 @@ pub record Passed (part : Part) (limit : ℕ) (s : Segment) (ps : Parts) : Type 
 passed : (part : Part) (limit : ℕ) (s : Segment) (ps : Parts) → takes_in part limit s ps ≡ true → Passed part limit s ps
 unfolding takes_in
 passed part limit s ps e =
-    let c : Core = core_with part s (core_in ps.header) in
+    let c : Option Sizes = core_with part s (core_in ps.header) in
     let t = all_true
     (core_fits limit c
     ∷ fits_in (bounds_of part limit c) (memory_of part ps).kept (memory_of part ps).marks s.last s.number
@@ -86,7 +85,7 @@ pub takes-inside : (part : Part) (limit : ℕ) (s : Segment) (ps : Parts) → Sh
     s.number (length s.bytes)
 unfolding record_with
 takes-inside part limit s ps h e =
-    let c : Core = core_with part s (core_in ps.header) in
+    let c : Option Sizes = core_with part s (core_in ps.header) in
     let t = passed part limit s ps e in
     let w : (bounds_of part limit c).most ≤ length (memory_of part ps).share =
     omega (arith, bounds-most part limit c t.core, share-width part limit ps h) in
@@ -100,7 +99,7 @@ pub settled-inside : (part : Part) (limit : ℕ) (s : Segment) (ps : Parts) → 
     (record_after part limit s ps)
 unfolding record_with
 settled-inside part limit s ps h e g =
-    let c : Core = core_with part s (core_in ps.header) in
+    let c : Option Sizes = core_with part s (core_in ps.header) in
     let t = passed part limit s ps e in
     let w : (bounds_of part limit c).most ≤ length (memory_of part ps).share =
     omega (arith, bounds-most part limit c t.core, share-width part limit ps h) in
@@ -114,7 +113,7 @@ pub body-inside : (limit : ℕ) (s : Segment) (ps : Parts) → Shaped limit ps �
     (record_within (bounds_of Body limit (core_after s (core_in ps.header))) ps.body)
 unfolding record_within
 body-inside limit s ps h e z g t =
-    let c : Core = core_after s (core_in ps.header) in
+    let c : Option Sizes = core_after s (core_in ps.header) in
     let w : (bounds_of Body limit c).most ≤ length ps.body.share =
     omega (arith, bounds-most Body limit c (passed Header limit s ps e).core, h.body_share) in
     within-moves (bounds_of Body limit c) ps.body.kept ps.body.marks (length ps.body.share) w
@@ -134,7 +133,7 @@ pub sound-right : (part : Part) (limit : ℕ) (stage : Stage) (ps : Parts) → s
     → Right part limit ps
 unfolding sound_parts sound_part
 sound-right part limit stage ps e =
-    let c : Core = core_in ps.header in
+    let c : Option Sizes = core_in ps.header in
     let t = all_true
     (core_fits limit c
     ∷ sound_part (bounds_of Header limit c) ps.header.kept ps.header.marks
@@ -251,11 +250,11 @@ lent-bits slot lent h = (marks-bits Header lent.marks h, marks-bits Body lent.ma
 
 -- ---- the numbers of a record are those of some part
 
-bounds-few : (part : Part) (limit : ℕ) (c : Core) → (bounds_of part limit c).numbers ≤ body_numbers
+bounds-few : (part : Part) (limit : ℕ) (c : Option Sizes) → (bounds_of part limit c).numbers ≤ body_numbers
 bounds-few part limit c = omega (arith, bounds-numbers part limit c, numbers-most part)
 
 -- of one that is right
-pub right-small : (part : Part) (limit : ℕ) (c : Core) (p : Record) (marks : List ℕ) → largest_of marks ≤ 1
+pub right-small : (part : Part) (limit : ℕ) (c : Option Sizes) (p : Record) (marks : List ℕ) → largest_of marks ≤ 1
     → sound_part (bounds_of part limit c) p marks ≡ true → Small p
 unfolding sound_part
 right-small part limit c p marks bits e =
@@ -269,7 +268,7 @@ pub after_small : (part : Part) (limit : ℕ) (s : Segment) (ps : Parts) → tak
     → Small (record_after part limit s ps)
 unfolding record_with
 after_small part limit s ps e =
-    let c : Core = core_with part s (core_in ps.header) in
+    let c : Option Sizes = core_with part s (core_in ps.header) in
     suited-small (bounds_of part limit c) (record_after part limit s ps) (bounds-few part limit c)
     (fits-suited (bounds_of part limit c) (memory_of part ps).kept (memory_of part ps).marks s.last s.number
     (length s.bytes) (passed part limit s ps e).own)
@@ -279,7 +278,7 @@ pub still-small : (limit : ℕ) (s : Segment) (ps : Parts) → takes_in Header l
     → Small (record_within (bounds_of Body limit (core_with Header s (core_in ps.header))) ps.body)
 unfolding record_within
 still-small limit s ps e =
-    let c : Core = core_with Header s (core_in ps.header) in
+    let c : Option Sizes = core_with Header s (core_in ps.header) in
     suited-small (bounds_of Body limit c) (record_within (bounds_of Body limit c) ps.body) (bounds-few Body limit c)
     (within-suited (bounds_of Body limit c) ps.body.kept ps.body.marks (passed Header limit s ps e).other)
 

@@ -1,12 +1,11 @@
 -- The stage of a slot that passes the test is the one that its parts give; the header of a finished object has its
 -- core, and its two lengths lie inside the shares.
-use Rattle.std.specs.Prelude.{◌≡◌, refl, Bool, true, false, [], ◌∷◌, ℕ, ◌≤◌, eqb}
+use Rattle.std.specs.Prelude.{◌≡◌, refl, Bool, true, false, Option, Some, None, [], ◌∷◌, ℕ, ◌≤◌, eqb}
 use Rattle.std.proofs.Common.{sym, arith, eqb-true, leb-true}
 use Rattle.octets.specs.Octets.{sum_of}
 use Rattle.answer.specs.declared.Part.TheVariants.{Header, Body}
 use Rattle.cut.specs.Requirement.{header_least, header_most}
-use Rattle.cut.specs.declared.Core.{Core}
-use Rattle.cut.specs.declared.Core.TheVariants.{Unseen, Seen}
+use Rattle.cut.specs.declared.Sizes.{Sizes}
 use Rattle.cut.specs.Decision.{core_tests, core_fits, finished}
 use Rattle.cut.specs.Kept.{bounds_of}
 use Rattle.cut.specs.laws.Decision.{both_true, all_true, false-true}
@@ -34,7 +33,7 @@ same-stage (Finished h b) (Finished h' b') e = let r = both_true (eqb h h') (eqb
 pub sound-stage : (limit : ℕ) (stage : Stage) (ps : Parts) → sound_parts limit stage ps ≡ true → stage ≡ stage_of ps
 unfolding sound_parts
 sound-stage limit stage ps e =
-    let c : Core = core_in ps.header in
+    let c : Option Sizes = core_in ps.header in
     let t = all_true
     (core_fits limit c
     ∷ sound_part (bounds_of Header limit c) ps.header.kept ps.header.marks
@@ -43,10 +42,11 @@ sound-stage limit stage ps e =
     ∷ []) e in
     same-stage stage (stage_of ps) t.1.1.1.0
 
-finished-core : (done : Bool) (c : Core) (h b : ℕ) → stage_by done c ≡ Finished h b → c ≡ Seen b h
+finished-core : (done : Bool) (c : Option Sizes) (h b : ℕ) → stage_by done c ≡ Finished h b
+    → c ≡ Some (record { body = b; header = h })
 finished-core false c h b e = let z : ◌≡◌ {A = ℕ} 0 1 = cc in absurd (omega arith)
-finished-core true Unseen h b e = let z : ◌≡◌ {A = ℕ} 0 1 = cc in absurd (omega arith)
-finished-core true (Seen body header) h b e = let x : header ≡ h = cc in let y : body ≡ b = cc in rw (x, y) refl
+finished-core true None h b e = let z : ◌≡◌ {A = ℕ} 0 1 = cc in absurd (omega arith)
+finished-core true (Some sizes) h b e = let x : sizes.header ≡ h = cc in let y : sizes.body ≡ b = cc in rw (x, y) refl
 
 -- the two lengths of a finished object: its header has its core, and both lie inside the shares
 pub record Lengths (limit h b : ℕ) : Type 0 where
@@ -54,21 +54,22 @@ pub record Lengths (limit h b : ℕ) : Type 0 where
   pub header : h ≤ header_most
   pub body : b ≤ limit
 
-core-lengths : (limit h b : ℕ) → core_fits limit (Seen b h) ≡ true → Lengths limit h b
+core-lengths : (limit : ℕ) (sizes : Sizes) → core_fits limit (Some sizes) ≡ true → Lengths limit sizes.header sizes.body
 unfolding core_fits
-core-lengths limit h b e =
-    let t = all_true (core_tests limit (Seen b h)) e in
+core-lengths limit sizes e =
+    let t = all_true (core_tests limit (Some sizes)) e in
     record {
-      core = leb-true header_least h t.0;
-      header = leb-true h header_most t.1.0;
-      body = leb-true b limit t.1.1.0;
+      core = leb-true header_least sizes.header t.0;
+      header = leb-true sizes.header header_most t.1.0;
+      body = leb-true sizes.body limit t.1.1.0;
     }
 
 pub finished-inside : (limit h b : ℕ) (ps : Parts) → sound_parts limit (Finished h b) ps ≡ true → Lengths limit h b
 unfolding stage_of
 finished-inside limit h b ps e =
-    let c : core_in ps.header ≡ Seen b h =
+    let sizes : Sizes = record { body = b; header = h } in
+    let c : core_in ps.header ≡ Some sizes =
     finished-core
     (finished (core_in ps.header) (sum_of ps.header.marks) ps.header.kept (sum_of ps.body.marks)
     ps.body.kept) (core_in ps.header) h b (sym (sound-stage limit (Finished h b) ps e)) in
-    core-lengths limit h b (rw c at (sound-right Header limit (Finished h b) ps e).core)
+    core-lengths limit sizes (rw c at (sound-right Header limit (Finished h b) ps e).core)

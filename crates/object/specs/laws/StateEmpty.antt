@@ -1,11 +1,11 @@
 -- The empty last segment in a state: a mark for body number 0 with a recorded length of 0 is that segment; a record of
 -- it without the mark, or beside a BodySize above 0, is damage by document 01's own list.
-use Rattle.std.specs.Prelude.{◌≡◌, refl, ℕ, ◌<◌, get_or}
+use Rattle.std.specs.Prelude.{◌≡◌, refl, Some, ℕ, ◌<◌, get_or}
 use Rattle.std.proofs.Common.{sym, ap, ◌∙◌, arith}
 use Rattle.answer.specs.declared.Part.TheVariants.{Header, Body}
 use Rattle.cut.specs.Requirement.{empty}
-use Rattle.cut.specs.declared.Core.TheVariants.{Seen}
 use Rattle.cut.specs.declared.Record.{Record}
+use Rattle.cut.specs.declared.Sizes.{Sizes}
 use Rattle.cut.specs.Kept.{settle, core_of}
 use Rattle.cut.specs.Lists.{Among}
 use Rattle.cut.specs.laws.Segment.{Numbered}
@@ -54,11 +54,11 @@ module _ (limit : ℕ) (slot : Slot) (lent : Lent) (kept : EmptyIn slot.body) wh
   unmarked-damaged e d = omega (arith, (held-numbered body 0).1 (number_in d))
 
   -- and so it is beside a BodySize above 0
-  pub sized-damaged : (B H : ℕ) → core_of (marked_segments Header slot lent) ≡ Seen B H → 0 < B
+  pub sized-damaged : (sizes : Sizes) → core_of (marked_segments Header slot lent) ≡ Some sizes → 0 < sizes.body
       → ¬ (Sound limit slot lent)
-  sized-damaged B H e h d =
+  sized-damaged sizes e h d =
       omega (
         arith,
         size-zero limit (marked_segments Header slot lent) (marked_segments Body slot lent) d.object
-            (marked-among (number_in d)) B H e,
+            (marked-among (number_in d)) sizes e,
       )

@@ -1,12 +1,11 @@
 -- The tests on the parts of a slot pass exactly when its marked segments fit and give its records and stage.
-use Rattle.std.specs.Prelude.{◌≡◌, refl, Bool, true, List, [], ◌∷◌, ℕ, zero, suc, ◌≤◌, length, drop, get_or, eqb, leb}
+use Rattle.std.specs.Prelude.{◌≡◌, refl, Bool, true, Option, Some, None, List, [], ◌∷◌, ℕ, zero, suc, ◌≤◌, length, drop, get_or, eqb, leb}
 use Rattle.std.proofs.Common.{arith, eq-eqb, leb-true, le-leb}
 use Rattle.answer.specs.declared.Part.{Part}
 use Rattle.answer.specs.declared.Part.TheVariants.{Header, Body}
 use Rattle.cut.specs.laws.Lists.{each_map, bytes_take, bytes_drop}
 use Rattle.cut.specs.Requirement.{header_least, limit_most, Segment}
-use Rattle.cut.specs.declared.Core.{Core}
-use Rattle.cut.specs.declared.Core.TheVariants.{Unseen, Seen}
+use Rattle.cut.specs.declared.Sizes.{Sizes}
 use Rattle.cut.specs.declared.Bounds.{Bounds}
 use Rattle.cut.specs.Decision.{core_tests, core_fits, possible, suit_tests, suits}
 use Rattle.cut.specs.Kept.{some_full, bounds_of, derived, settle, summary, record_of, core_of}
@@ -50,10 +49,11 @@ at-bytes m n y = as_bytes (eqb (suc n) m.kept.end) m n y
 held_bytes : (m : Memory) → Bytes m.share → Each (λ s. Bytes s.bytes) (held_in m)
 held_bytes m y = each_map (λ s e. rw e at (at-bytes m s.number y)) (held_in m) (held_reads m)
 
-bounds-least : (limit : ℕ) (c : Core) → core_fits limit c ≡ true → header_least ≤ (bounds_of Header limit c).least
+bounds-least : (limit : ℕ) (c : Option Sizes) → core_fits limit c ≡ true
+    → header_least ≤ (bounds_of Header limit c).least
 unfolding bounds_of core_fits
-bounds-least limit Unseen e = omega arith
-bounds-least limit (Seen body header) e = let t = all_true (core_tests limit (Seen body header)) e in
+bounds-least limit None e = omega arith
+bounds-least limit (Some sizes) e = let t = all_true (core_tests limit (Some sizes)) e in
     omega (arith, leb-true)
 
 module _ (limit : ℕ) (stage : Stage) (ps : Parts) (z : limit ≤ limit_most) (h : Shaped limit ps) (bits : Bits ps)

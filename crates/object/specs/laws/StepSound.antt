@@ -1,6 +1,6 @@
 -- A slot stays sound: what is stored in it leaves it so, and so does what it refuses; a slot that holds nothing yet
 -- takes its first segment the same way.
-use Rattle.std.specs.Prelude.{◌≡◌, refl, true, List, [], ◌∷◌, ℕ, zero, suc, ◌-◌, ◌*◌, ◌≤◌, length, take, drop}
+use Rattle.std.specs.Prelude.{◌≡◌, refl, true, None, List, [], ◌∷◌, ℕ, zero, suc, ◌-◌, ◌*◌, ◌≤◌, length, take, drop}
 use Rattle.std.proofs.Common.{inl, arith, length-drop}
 use Rattle.octets.specs.Octets.{sum_of}
 use Rattle.octets.specs.laws.Marks.{sum-split, sum-none}
@@ -11,7 +11,6 @@ use Rattle.cut.specs.Requirement.{header_numbers, limit_most, Segment}
 use Rattle.cut.specs.declared.Bounds.{Bounds}
 use Rattle.cut.specs.declared.Record.{Record}
 use Rattle.cut.specs.Kept.{bounds_of, settle, core_after}
-use Rattle.cut.specs.declared.Core.TheVariants.{Unseen}
 use Rattle.cut.specs.laws.Segment.{Numbered}
 use Rattle.cut.specs.Parts.{headers_with, bodies_with, those}
 use Rattle.cut.specs.laws.Theorem.{nothing-fits}
@@ -61,9 +60,9 @@ unfolding parts_of
 vacant-gathers limit slot lent z v = record {
   object = nothing-fits limit z;
   shape = lent-shaped limit slot lent v.lends.header_length v.lends.body_length v.lends.marks_length;
-  header = none_kept (bounds_of Header limit Unseen) (parts_of slot lent).header v.header
+  header = none_kept (bounds_of Header limit None) (parts_of slot lent).header v.header
       (omega (arith, sum-split lent.marks header_numbers, v.marks));
-  body = none_kept (bounds_of Body limit Unseen) (parts_of slot lent).body v.body
+  body = none_kept (bounds_of Body limit None) (parts_of slot lent).body v.body
       (omega (arith, sum-split lent.marks header_numbers, v.marks));
 }
 

@@ -1,10 +1,9 @@
 -- The stage of a slot that holds segments: finished exactly when every segment of the object is in.
-use Rattle.std.specs.Prelude.{◌≡◌, refl, ◌↔◌, Bool, true, false, List, ℕ, zero, suc, length}
+use Rattle.std.specs.Prelude.{◌≡◌, refl, ◌↔◌, Bool, true, false, Option, Some, None, List, ℕ, length}
 use Rattle.std.proofs.Common.{sym, ap, ◌∙◌, subst, arith}
 use Rattle.octets.specs.Octets.{sum_of}
 use Rattle.cut.specs.Requirement.{Segment, Fits, Finished}
-use Rattle.cut.specs.declared.Core.{Core}
-use Rattle.cut.specs.declared.Core.TheVariants.{Unseen, Seen}
+use Rattle.cut.specs.declared.Sizes.{Sizes}
 use Rattle.cut.specs.declared.Bounds.{Bounds}
 use Rattle.cut.specs.Decision.{finished}
 use Rattle.cut.specs.Kept.{settle, Summary, summary, record_of, core_of}
@@ -21,23 +20,24 @@ use Rattle.object.specs.Parts.{Lent, Parts}
 use Rattle.object.specs.Stage.{stage_by, stage_of}
 
 -- only the ends of the records play a part
-finished-kept : (core : Core) (b c : Bounds) (σ τ : Summary) (h k : ℕ) → finished core h (record_of b σ) k (record_of c τ)
+finished-kept : (core : Option Sizes) (b c : Bounds) (σ τ : Summary) (h k : ℕ)
+    → finished core h (record_of b σ) k (record_of c τ)
     ≡ finished core h σ.part k τ.part
 unfolding settle
-finished-kept Unseen b c σ τ h k = refl
-finished-kept (Seen zero header) b c σ τ h k = refl
-finished-kept (Seen (suc body) header) b c σ τ h k = refl
+finished-kept None b c σ τ h k = refl
+finished-kept (Some sizes) b c σ τ h k = refl
 
-stage-as : (limit : ℕ) (hs bs : List Segment) (f : Fits limit hs bs) (done : Bool) (core : Core) → core_of hs ≡ core
+stage-as : (limit : ℕ) (hs bs : List Segment) (f : Fits limit hs bs) (done : Bool) (core : Option Sizes)
+    → core_of hs ≡ core
     → (done ≡ true) ↔ Finished f → StageFor f (stage_by done core)
 stage-as limit hs bs f false core e i = λ w. false-true refl (i.1 w)
-stage-as limit hs bs f true Unseen e i = let x : Unseen ≡ Seen (length f.body) (length f.header) = sym e
+stage-as limit hs bs f true None e i = let x = sym e
     ∙ finished-core limit hs bs f (i.0 refl) in let z : ◌≡◌ {A = ℕ} 0 1 = cc in absurd (omega arith)
-stage-as limit hs bs f true (Seen body header) e i =
-    let x : Seen body header ≡ Seen (length f.body) (length f.header) = sym e
+stage-as limit hs bs f true (Some sizes) e i =
+    let x = sym e
     ∙ finished-core limit hs bs f (i.0 refl) in
-    let b : body ≡ length f.body = cc in
-    let h : header ≡ length f.header = cc in
+    let b : sizes.body ≡ length f.body = cc in
+    let h : sizes.header ≡ length f.header = cc in
     (i.0 refl, h, b)
 
 -- the stage that the parts give is the one that the segments give, whichever object is asked

@@ -1,5 +1,5 @@
 -- A segment that fits can be stored, and what storing leaves is what is taken.
-use Rattle.std.specs.Prelude.{◌≡◌, ℕ, ◌+◌, ◌≤◌, ◌<◌, take, drop, set}
+use Rattle.std.specs.Prelude.{◌≡◌, Option, ℕ, ◌+◌, ◌≤◌, ◌<◌, take, drop, set}
 use Rattle.std.proofs.Math.Path.{refl, ap}
 use Rattle.std.proofs.Common.{sym, ◌∙◌, length-append, length-set, take_at, drop_at}
 use mathlib.Core.List.{List, [], ◌++◌}
@@ -10,7 +10,7 @@ use Rattle.octets.specs.laws.Marks.{sum_bound, sum-marked}
 use Rattle.answer.specs.declared.Part.{Part}
 use Rattle.answer.specs.declared.Part.TheVariants.{Header, Body}
 use Rattle.cut.specs.Requirement.{header_numbers, body_numbers, Segment}
-use Rattle.cut.specs.declared.Core.{Core}
+use Rattle.cut.specs.declared.Sizes.{Sizes}
 use Rattle.cut.specs.declared.Record.{Record}
 use Rattle.cut.specs.Kept.{bounds_of, core_with}
 use Rattle.part.specs.Memory.{Memory, memory}
@@ -29,7 +29,7 @@ use Rattle.object.specs.Stage.{core_in, stage_of, missing_in}
 
 -- ---- what the code asks of a segment that fits
 
-module _ (tally : Tally) (limit : ℕ) (core : Core) (s : Segment) (slot : Slot) (lent : Lent) where
+module _ (tally : Tally) (limit : ℕ) (core : Option Sizes) (s : Segment) (slot : Slot) (lent : Lent) where
   module _ (part : Part) (f : Fitting tally part limit core s slot lent) where
     shaped : Shaped limit (parts_of slot lent)
     shaped = lent-shaped limit slot lent f.header f.body f.marks
@@ -116,7 +116,8 @@ marks-apart : (h b : List ℕ) → length h ≡ header_numbers → (take header_
 marks-apart h b e = (take_at h b header_numbers e, drop_at h b header_numbers e)
 
 -- how many are in once a segment is put
-module _ (tally : Tally) (limit : ℕ) (core : Core) (s : Segment) (slot : Slot) (lent : Lent) (marks : List ℕ) where
+module _ (tally : Tally) (limit : ℕ) (core : Option Sizes) (s : Segment) (slot : Slot) (lent : Lent)
+    (marks : List ℕ) where
   pub summed-header : Fitting tally Header limit core s slot lent → marks
       ≡ set (marks_of Header lent.marks) s.number 1 → Summed Header (tally.headers + 1) tally.bodies
       (marks ++ marks_of Body lent.marks)

@@ -1,36 +1,37 @@
 -- Laws of bytes compared, and of what marks add up to. "Each mark is at most 1" is `largest_of l ≤ 1`, as the code asks
 -- it.
-use Rattle.std.specs.Prelude.{ℕ, zero, suc, ◌+◌, ◌≤◌, ◌<◌, max, ◌≡◌, refl, true, false, List, [], ◌∷◌, ◌++◌, ◌↔◌, length, get_or, set, take, drop}
-use Rattle.std.proofs.Common.{sym, ap, ◌∙◌, arith, eq-eqb, ne_eqb, le-leb, length-take, take-append-drop, drop-drop, take-add, get_or-set_same, get_or-set_other}
+use Rattle.std.specs.Prelude.{ℕ, zero, suc, ◌+◌, ◌≤◌, ◌<◌, max, ◌≡◌, refl, Bool, true, false, ◌&&◌, List, [], ◌∷◌, ◌++◌, ◌↔◌, length, fold, get_or, set, sum, take, drop}
+use Rattle.std.proofs.Common.{sym, ap, ◌∙◌, arith, eqb, take-append-drop, drop-drop, take-add, get_or-set_same, get_or-set_other}
 use Rattle.std.proofs.Math.Decide.{ℕ_discrete}
-use Rattle.octets.specs.Octets.{equal, largest_of, sum_of, zeros, part}
+use Rattle.std.proofs.lemmas.List.Sums.{sum_by-cons}
+use Rattle.std.proofs.lemmas.Slice.Eq.{compares_Decides}
+use Rattle.octets.specs.Octets.{both, equal, largest_of, sum_of, zeros, part}
 
 -- ---- bytes compared
 
-equal-same : (l : List ℕ) → equal l l ≡ true
-unfolding equal
-equal-same [] = refl
-equal-same (a ∷ l) = rw (eq-eqb a a refl) (equal-same l)
-
-equal_is : (l m : List ℕ) → equal l m ≡ true → l ≡ m
-unfolding equal
-equal_is [] [] e = refl
-equal_is [] (b ∷ m) e = let z : ◌≡◌ {A = ℕ} 0 1 = cc in absurd (omega arith)
-equal_is (a ∷ l) [] e = let z : ◌≡◌ {A = ℕ} 0 1 = cc in absurd (omega arith)
-equal_is (a ∷ l) (b ∷ m) e = go (ℕ_discrete a b) (equal_is l m)
-  where
-    go : Dec (a ≡ b) → (equal l m ≡ true → l ≡ m) → a ∷ l ≡ b ∷ m
-    go (yes p) rest = let r : l ≡ m = rest (rw (eq-eqb a b p) at e) in cc
-    go (no p) rest = let f : false ≡ true = rw (ne_eqb a b p) at e in let z : ◌≡◌ {A = ℕ} 0 1 = cc in
-        absurd (omega arith)
-
 -- `same` answers true exactly for equal lists
 pub equal-exactly : (l m : List ℕ) → (equal l m ≡ true) ↔ (l ≡ m)
-equal-exactly l m = (equal_is l m, λ e. rw (← e) (equal-same l))
+unfolding equal
+equal-exactly = compares_Decides equal
+    (record {
+      empty = refl;
+      shorter = λ b m. refl;
+      longer = λ a l. refl;
+      heads = λ a b l m. head (eqb a b) (equal l m);
+    })
+  where
+    head : (t u : Bool) → both t u ≡ (t && u)
+    head true u = refl
+    head false u = refl
 
 -- ---- sums
 
-sum-append : (l m : List ℕ) → sum_of (l ++ m) ≡ sum_of l + sum_of m
+-- the library's sum
+pub sum-is : (l : List ℕ) → sum l ≡ sum_of l
+sum-is [] = refl
+sum-is (b ∷ l) = rw (sum_by-cons (λ x. x) b l, sum-is l) refl
+
+pub sum-append : (l m : List ℕ) → sum_of (l ++ m) ≡ sum_of l + sum_of m
 sum-append [] m = omega arith
 sum-append (b ∷ l) m = omega (arith, sum-append l m)
 
@@ -126,10 +127,16 @@ largest-each l b = (there l, back l)
     back [] f = omega arith
     back (x ∷ l) f = omega (arith, f 0, back l (λ i. f (suc i)))
 
-largest-append : (l m : List ℕ) → largest_of (l ++ m) ≡ max (largest_of l) (largest_of m)
+pub largest-append : (l m : List ℕ) → largest_of (l ++ m) ≡ max (largest_of l) (largest_of m)
 unfolding largest_of
 largest-append [] m = omega arith
 largest-append (b ∷ l) m = omega (arith, largest-append l m)
+
+-- the library's fold
+pub largest-folded : (l : List ℕ) (top : ℕ) → fold (λ (t b : ℕ). max t b) top l ≡ max top (largest_of l)
+unfolding largest_of
+largest-folded [] top = omega arith
+largest-folded (b ∷ l) top = omega (arith, largest-folded l (max top b))
 
 pub largest-part : (l : List ℕ) (a k : ℕ) → largest_of (part l a k) ≤ largest_of l
 largest-part l a k =

@@ -6,12 +6,9 @@ use Rattle.std.proofs.Math.Path.{ap, subst}
 use native.Mathlib.Omega.{arith}
 use borrow.Rule.Slice.PartMut.{mid_of, put_mid, Post-is}
 use Rattle.std.proofs.Math.ListN.{length, drop, length-take}
-use Rattle.std.proofs.lemmas.List.{length-replicate, set_split}
+use Rattle.std.proofs.lemmas.List.{length-replicate, set_split, drop-take}
 use Rattle.std.proofs.Math.Seq.{length-take-le, drop_at, drop-drop, drop-append-le, take-append-le, paste-zero, paste-suc, append_snoc}
 use Rattle.octets.specs.Octets.{over, zeros, part}
-
-drop-take : (a k : ℕ) (l : List ℕ) → a ≤ length l → drop a (take (a + k) l) ≡ part l a k
-drop-take a k l h = rw take-add (drop_at (take a l) (part l a k) a (length-take-le a l h))
 
 pub part_length : (l : List ℕ) (a k : ℕ) → a + k ≤ length l → length (part l a k) ≡ k
 part_length l a k h = simp (length-take, length-drop) (omega arith)
@@ -20,10 +17,9 @@ part_length l a k h = simp (length-take, length-drop) (omega arith)
 pub part-part : (l : List ℕ) (a k b n : ℕ) → b + n ≤ k → a + k ≤ length l → part (part l a k) b n ≡ part l (a + b) n
 part-part l a k b n h g =
     let e : b + (k - b) ≡ k = omega arith in
-    let m : b ≤ length (drop a l) = rw length-drop (omega arith) in
     let d : drop b (part l a k) ≡ take (k - b) (drop b (drop a l)) =
     subst (λ (j : ℕ). drop b (take j (drop a l)) ≡ take (k - b) (drop b (drop a l))) e
-    (drop-take b (k - b) (drop a l) m) in
+    (drop-take b (k - b) (drop a l)) in
     rw (d, take-take n (k - b) (drop b (drop a l)) (omega arith), drop-drop) refl
 
 -- ---- the run itself, and what it leaves alone
@@ -76,7 +72,7 @@ pub over-one : (l : List ℕ) (i v : ℕ) → i < length l → set l i v ≡ ove
 unfolding over
 over-one l i v h = rw (set_split l i v h, ← append_snoc (take i l) v (drop (suc i) l), add-one)
 
--- nothing copied yet, and one byte more: a turn of each loop that copies
+-- nothing copied yet, and one byte more: a turn of a loop that copies
 pub over_none : (l : List ℕ) (at : ℕ) (run : List ℕ) → l ≡ over l at (take 0 run)
 unfolding over
 over_none l at run = paste-zero l at run

@@ -13,30 +13,22 @@ use Rattle.part.specs.Moves.{settled, put}
 use Rattle.part.specs.laws.Inside.{place-lies}
 use Rattle.part.proofs.put.Goals as goal
 
-pub overflow_add-at : goal.overflow_add-at
-overflow_add-at c =
-    let a = c.args in
-    let moved : List ℕ = c.settle.new.share in
-    let kept : length moved ≡ length a.share.now = c.settle.auto.share in
-    let lies = place-lies a.last (length moved) a.new.size a.number (length a.bytes.now)
-    (omega (arith, c.requires.can_put.inside, kept)) in
-    omega (arith, c.place_of-at.ensures, lies, kept)
-
 pub returns : goal.returns
 unfolding put settled
 returns c =
     let a = c.args in
+    let s = a.segment.now in
     let moved : List ℕ = c.settle.new.share in
     let kept : length moved ≡ length a.share.now = c.settle.auto.share in
-    let lies = place-lies a.last (length moved) a.new.size a.number (length a.bytes.now)
+    let lies = place-lies s.last (length moved) a.new.size s.number (length s.bytes.now)
     (omega (arith, c.requires.can_put.inside, kept)) in
     let at = c.place_of-at.result in
-    let count = length a.bytes.now in
+    let count = length s.bytes.now in
     let fits : at + (at + count - at) ≤ length moved =
     omega (arith, c.place_of-at.ensures, lies) in
     let share = ap (put_mid at (at + count - at) moved) c.copy_in.ensures
-    ∙ over-start moved at (at + count - at) a.bytes.now (omega arith) fits
-    ∙ ap (λ (p : ℕ). over moved p a.bytes.now) c.place_of-at.ensures in
-    let laid = ap (λ (l : List ℕ). over l (place_of a.last a.new.size (length l) a.number count)
-    a.bytes.now) c.settle.ensures in
-    ap (λ (l : List ℕ). record { kept = a.new; marks = set a.marks.now a.number 1; share = l }) (share ∙ laid)
+    ∙ over-start moved at (at + count - at) s.bytes.now (omega arith) fits
+    ∙ ap (λ (p : ℕ). over moved p s.bytes.now) c.place_of-at.ensures in
+    let laid = ap (λ (l : List ℕ). over l (place_of s.last a.new.size (length l) s.number count)
+    s.bytes.now) c.settle.ensures in
+    ap (λ (l : List ℕ). record { kept = a.new; marks = set a.marks.now s.number 1; share = l }) (share ∙ laid)

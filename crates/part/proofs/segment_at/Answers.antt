@@ -6,26 +6,7 @@ use native.Mathlib.Omega.{arith}
 use lib.Dec.{eqb}
 use lib.ListN.{length, take, drop}
 use Rattle.part.specs.Memory.{place_of, length_of, segment_at}
-use Rattle.part.specs.laws.Inside.{place-lies}
 use Rattle.part.proofs.segment_at.Goals as goal
-
-pub place_of-at-requires : goal.place_of-at-requires
-place_of-at-requires c =
-    let a = c.args in
-    let last = eqb (suc a.number) a.kept.end in
-    let count : c.length_of-count.result ≡ length_of last a.kept = cc in
-    (omega (arith, c.requires), omega (arith, c.requires, count))
-
-pub overflow_add-result : goal.overflow_add-result
-overflow_add-result c =
-    let a = c.args in
-    let last = eqb (suc a.number) a.kept.end in
-    let count : c.length_of-count.result ≡ length_of last a.kept = cc in
-    let place : c.place_of-at.result ≡ place_of last a.kept.size (length a.share.now) a.number
-    (length_of last a.kept) = cc in
-    let lies = place-lies last (length a.share.now) a.kept.size a.number (length_of last a.kept)
-    c.requires in
-    omega (arith, count, place, lies)
 
 pub returns : goal.returns
 unfolding segment_at

@@ -1,34 +1,25 @@
 -- `part::total_from` meets its contract: what is before the number and what is from it on add up to the total.
 -- Assumes nothing.
-use mathlib.Core.Path.{◌≡◌, ap, ◌∙◌}
+use mathlib.Core.Path.{ap, ◌∙◌}
 use Prim.Native.Nat.{◌-◌}
 use native.Mathlib.Omega.{arith}
-use lib.ListN.{length, take, drop, length-take, length-drop}
+use lib.ListN.{length, drop, length-take, length-drop}
 use lib.Seq.{take_all}
 use Rattle.octets.specs.Octets.{sum_of}
 use Rattle.octets.specs.laws.Marks.{sum-split, largest-part}
 use Rattle.part.proofs.total_from.Goals as goal
-
-pub slice_bounds-sum-end : goal.slice_bounds-sum-end
-slice_bounds-sum-end c = simp length-take (omega arith)
 
 pub sum-requires : goal.sum-requires
 sum-requires c =
     let l = c.args.marks.now in
     (omega (arith, largest-part l 0 c.args.from, c.requires.3), simp length-take (omega (arith, c.requires.2)))
 
--- what is before the number
-head : (c : goal.After-sum) → let a = c.args in c.sum.result
-    ≡ sum_of (take a.from a.marks.now)
-head c =
-    c.sum.ensures
-
 pub overflow_sub-result : goal.overflow_sub-result
 overflow_sub-result c =
     omega (
       arith,
       c.requires.0,
-      head c,
+      c.sum.ensures,
       sum-split c.args.marks.now c.args.from,
     )
 
@@ -36,7 +27,7 @@ pub returns-then-from-marks : goal.returns-then-from-marks
 returns-then-from-marks c = omega (
   arith,
   c.requires.0,
-  head c,
+  c.sum.ensures,
   sum-split c.args.marks.now c.args.from,
 )
 

@@ -1,6 +1,9 @@
 -- `queries::find` meets its contract: STATE, then the search.
 -- Assumes nothing.
-use mathlib.Core.Path.{sym, ap, ◌∙◌}
+use mathlib.Core.Path.{◌≡◌, refl, sym, ap, ◌∙◌}
+use Rattle.std.specs.Prelude.{Option, Some, None, ℕ}
+use Rattle.std.specs.Option.{ok_or}
+use Rattle.answer.specs.declared.Reason.{Reason}
 use Rattle.collector.specs.State.{state}
 use Rattle.slots.specs.Stores.{stores}
 use Rattle.queries.specs.Questions.{sought_as, find}
@@ -18,8 +21,13 @@ find-requires c =
     let good = sym c.is_sound.ensures ∙ c.if-not-is_sound.false in
     cores-searched (state a.collector a.counts lent) good
 
+-- what the library makes of none is what the definition says
+or-sought : (held : Option ℕ) → ok_or held Reason.NotFound ≡ sought_as held
+or-sought (Some number) = refl
+or-sought None = refl
+
 pub returns : goal.returns
 unfolding find
 returns c =
     let good = sym c.is_sound.ensures ∙ c.if-not-is_sound.false in
-    rw good (c.sought_as.ensures ∙ ap sought_as c.find.ensures)
+    rw good (c.ok_or.ensures.value ∙ or-sought c.find.result ∙ ap sought_as c.find.ensures)

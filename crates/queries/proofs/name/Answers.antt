@@ -18,12 +18,12 @@ unfolding show
 name_data-requires c =
     let a = c.args in
     let s = state a.collector a.counts (stores a.header.now a.body.now a.marks.now) in
-    let there = sym c.locate.ensures ∙ c.in-At.is in
+    let there = sym c.locate.ensures ∙ c.in-Ok.is in
     rw c.shown_at.ensures (rw there at (core-shown a.number _ s there))
 
 pub returns : goal.returns
 unfolding name show
 returns c =
     let there =
-    sym c.locate.ensures ∙ c.in-At.is in
+    sym c.locate.ensures ∙ c.in-Ok.is in
     rw there (c.name_data.ensures ∙ ap name_data c.shown_at.ensures)

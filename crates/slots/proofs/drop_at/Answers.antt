@@ -10,7 +10,6 @@ unfolding drop_at
 returns c =
     let a = c.args in
     rw (
-      c.with_slot.ensures,
       c.free_slot.ensures,
       c.clear.ensures,
       marks-cleared a.i a.marks.now c.requires.1,

@@ -1,38 +1,18 @@
--- `slots::find` meets its contract: what is not looked at yet holds the first one, at each turn.
+-- `slots::find` meets its contract: the first that passes a test is the one in its position.
 -- Assumes nothing.
-use mathlib.Core.Path.{refl, sym, ◌∙◌}
-use native.Mathlib.Omega.{arith}
-use lib.ListN.{length-take}
-use Rattle.slots.specs.Stores.{free_slot}
-use Rattle.slots.proofs.Laws.{first-none, first-here, first_on}
+use mathlib.Core.Path.{◌∙◌}
+use lib.ListN.{take}
+use Rattle.std.proofs.Common.{rules}
+use Rattle.std.proofs.lemmas.Iterator.{YieldsList-from_slice, YieldsList-from_take}
+use Rattle.std.proofs.lemmas.Iterator.Search.{position_from_yields_List}
 use Rattle.slots.specs.Find.{holds, find_in}
+use Rattle.slots.proofs.Laws.{first-position}
 use Rattle.slots.proofs.find.Goals as goal
 
-pub loop-at-init : goal.loop-at-init
-unfolding find_in
-loop-at-init c = refl
-
-pub returns-then-at-ge-SLOTS_MOST : goal.returns-then-at-ge-SLOTS_MOST
-returns-then-at-ge-SLOTS_MOST c = sym (c.loop-at.invariant ∙ first-none (holds c.args.number)
-    c.args.slots c.args.count c.loop-at.at
-    (rw length-take (omega arith)))
-
-pub returns-then-holds : goal.returns-then-holds
-unfolding free_slot
-returns-then-holds c =
-    let a = c.args in
-    sym (c.loop-at.invariant ∙ first-here (holds a.number) a.slots a.count c.loop-at.at (omega arith)
-    (omega arith) (sym c.holds.ensures ∙ c.if-holds.true))
-
-pub loop-at-preserved : goal.loop-at-preserved
-unfolding free_slot
-loop-at-preserved c =
-    let a = c.args in
-    c.loop-at.invariant ∙ first_on (holds a.number) a.slots a.count c.loop-at.at (omega arith)
-    (omega arith) (sym c.holds.ensures ∙ c.if-holds.false)
-
 pub returns : goal.returns
+unfolding find_in
 returns c =
-    let a = c.args in
-    sym (c.loop-at.invariant ∙ first-none (holds a.number) a.slots a.count c.loop-at.at
-    (rw length-take (omega arith)))
+    position_from_yields_List (holds c.args.number) _ _ c.position.result c.position.ensures.ran
+    (YieldsList-from_take c.args.count (YieldsList-from_slice c.args.slots cc) cc)
+    (λ x b q k. search rules)
+    ∙ first-position (holds c.args.number) (take c.args.count c.args.slots)

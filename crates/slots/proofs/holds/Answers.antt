@@ -1,13 +1,13 @@
 -- `slots::holds` meets its contract: a free slot holds no number.
 -- Assumes nothing.
-use mathlib.Core.Path.{sym, ◌∙◌}
+use Rattle.std.proofs.Common.{rules}
 use Rattle.slots.specs.Find.{is_free, holds}
 use Rattle.slots.proofs.holds.Goals as goal
 
-pub returns-then-is_free : goal.returns-then-is_free
+pub returns-then-not-is_free : goal.returns-then-not-is_free
 unfolding holds is_free
-returns-then-is_free c = rw (sym c.is_free.ensures ∙ c.if-is_free.true)
+returns-then-not-is_free c = search rules
 
-pub returns : goal.returns
+pub returns-else-not-is_free : goal.returns-else-not-is_free
 unfolding holds is_free
-returns c = rw (sym c.is_free.ensures ∙ c.if-is_free.false)
+returns-else-not-is_free c = search rules

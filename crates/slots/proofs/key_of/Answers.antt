@@ -1,13 +1,13 @@
 -- `slots::key_of` meets its contract.
 -- Assumes nothing.
-use mathlib.Core.Path.{refl, sym, ◌∙◌}
+use Rattle.std.proofs.Common.{rules}
 use Rattle.slots.specs.Keys.{key_of}
 use Rattle.slots.proofs.key_of.Goals as goal
 
 pub returns-then-is_free : goal.returns-then-is_free
 unfolding key_of
-returns-then-is_free c = rw (sym c.is_free.ensures ∙ c.if-is_free.true) refl
+returns-then-is_free c = search rules
 
-pub returns : goal.returns
+pub returns-else-is_free : goal.returns-else-is_free
 unfolding key_of
-returns c = rw (sym c.is_free.ensures ∙ c.if-is_free.false) refl
+returns-else-is_free c = search rules

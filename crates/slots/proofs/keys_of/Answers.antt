@@ -1,26 +1,25 @@
--- `slots::keys_of` meets its contract: the keys that are written and those that are to come are all keys.
+-- `slots::keys_of` meets its contract: each key is that of the slot in its place.
 -- Assumes nothing.
-use mathlib.Core.Path.{refl, sym, ◌∙◌}
+use mathlib.Core.Path.{◌≡◌, sym, ap, ◌∙◌}
+use Prim.Native.Nat.{ℕ, ◌<◌}
 use native.Mathlib.Omega.{arith}
-use lib.ListN.{length-set}
+use mathlib.Core.List.{List}
+use lib.ListN.{length, get_or}
+use Rattle.std.proofs.Common.{rules}
+use Rattle.std.proofs.lemmas.List.{get_or-map}
+use Rattle.object.specs.declared.Slot.{Slot}
+use Rattle.slots.specs.Keys.{key_of}
 use Rattle.slots.specs.Stores.{free_slot}
-use Rattle.slots.specs.laws.Keys.{keys-turn, keys-end}
+use Rattle.slots.proofs.Laws.{keys-at}
 use Rattle.slots.proofs.keys_of.Goals as goal
-
-pub loop-i-init : goal.loop-i-init
-loop-i-init c = (omega arith, refl, refl)
-
-pub loop-i-preserved : goal.loop-i-preserved
-unfolding free_slot
-loop-i-preserved c = (
-  omega arith,
-  simp length-set c.loop-i.invariant.1,
-  c.loop-i.invariant.2
-      ∙ rw c.key_of.ensures (keys-turn c.args.slots c.loop-i.keys c.loop-i.i (omega arith)
-      (omega (arith, c.loop-i.invariant.1))),
-)
 
 pub returns : goal.returns
 returns c =
-    sym (c.loop-i.invariant.2 ∙ keys-end c.args.slots c.loop-i.keys c.loop-i.i (omega arith)
-    (omega (arith, c.loop-i.invariant.0, c.loop-i.invariant.1)))
+    let items = c.map.ensures.items in
+    let refs = c.each_ref.result in
+    let first = items.each.1 in
+    keys-at c.args.slots.now c.map.result (omega arith) (λ i h.
+    let call = items.at i first 0 (omega arith) in
+    let key : get_or c.map.result i 0 ≡ key_of (get_or refs i first).now = search rules in
+    key ∙ ap key_of (sym (get_or-map _ refs i first free_slot (omega arith))
+    ∙ ap (λ (l : List Slot). get_or l i free_slot) c.each_ref.ensures.items))

@@ -23,5 +23,5 @@ unfolding right_by right_slot
 returns c =
     let a = c.args in
     rw (sym c.is_free.ensures ∙ c.if-is_free.false)
-    (c.is_sound.ensures ∙ ap₂ (λ (header marks : List ℕ). sound_slot a.limit a.slot (shares header [] marks))
+    (c.is_sound.ensures ∙ ap₂ (λ (header marks : List ℕ). sound_slot a.limit a.slot.now (shares header [] marks))
     (share-lent 1024 a.i a.header.now) (share-lent 1088 a.i a.marks.now))

@@ -29,8 +29,12 @@ pub returns-then-not-within_limits : goal.returns-then-not-within_limits
 unfolding sound_slots
 returns-then-not-within_limits c = rw (sym c.within_limits.ensures ∙ c.if-not-within_limits.true) refl
 
-pub all_distinct-requires : goal.all_distinct-requires
-all_distinct-requires c = (limits c.within_limits.ensures c.if-not-within_limits.false).slots
+pub slice_bounds-all_distinct-end : goal.slice_bounds-all_distinct-end
+slice_bounds-all_distinct-end c = omega (arith, limits c.within_limits.ensures c.if-not-within_limits.false)
+
+pub slice_bounds-all_distinct-end-2 : goal.slice_bounds-all_distinct-end-2
+slice_bounds-all_distinct-end-2 c =
+    rw length-take (omega (arith, limits c.within_limits.ensures c.if-not-within_limits.false))
 
 pub returns-then-not-all_distinct : goal.returns-then-not-all_distinct
 unfolding sound_slots
@@ -69,9 +73,6 @@ returns-then-not-right_at c =
           (stores a.header.now a.body.now a.marks.now),
       sym c.right_at.ensures ∙ c.if-not-right_at.true,
     ) refl)
-
-pub overflow_add-i : goal.overflow_add-i
-overflow_add-i c = omega (arith, limits c.within_limits.ensures c.if-not-within_limits.false)
 
 pub loop-i-preserved : goal.loop-i-preserved
 unfolding free_slot

@@ -1,6 +1,5 @@
 -- `slots::sound` meets its contract: test by test.
 -- Assumes nothing.
-use Prim.Native.Nat.{◌-◌}
 use mathlib.Core.Path.{◌≡◌}
 use lib.ListN.{take, drop}
 use Rattle.slots.specs.Stores.{stores}
@@ -11,6 +10,3 @@ abbrev pub invariant-loop-i : goal.invariant-loop-i
 invariant-loop-i l =
     sound_slots l.limit l.count l.slots (stores l.header l.body l.marks)
     ≡ right_from l.limit l.i (drop l.i (take l.count l.slots)) (stores l.header l.body l.marks)
-
-abbrev pub decreases-loop-i : goal.decreases-loop-i
-decreases-loop-i l = l.count - l.i

@@ -2,6 +2,7 @@
 -- Assumes nothing.
 use mathlib.Core.Path.{subst, sym, ap, ◌∙◌}
 use lib.ListN.{length}
+use Rattle.cut.specs.Requirement.{sent}
 use Rattle.object.specs.Take.{take_into}
 use Rattle.object.specs.Asked.{Offered}
 use Rattle.object.specs.Parts.{Lent}
@@ -24,11 +25,10 @@ returns c =
     shares-back a.limit a.i stores c.take.result.outcome c.take.result.slot
     c.take.new.header c.take.new.body
     c.take.new.marks
-    (take_into a.part a.limit (record { number = a.number; last = a.last; bytes = a.bytes.now }) a.slot
+    (take_into a.part a.limit (sent a.segment.now) a.slot
     (lent_at a.limit a.i stores))
     (c.take.auto.header ∙ ap (λ (l : Lent). length l.header) lent ∙ wide.header)
     (c.take.auto.body ∙ ap (λ (l : Lent). length l.body) lent ∙ wide.body)
     (c.take.auto.marks ∙ ap (λ (l : Lent). length l.marks) lent ∙ wide.marks)
     (c.take.ensures
-    ∙ ap (take_into a.part a.limit (record { number = a.number; last = a.last; bytes = a.bytes.now })
-    a.slot) lent)
+    ∙ ap (take_into a.part a.limit (sent a.segment.now) a.slot) lent)

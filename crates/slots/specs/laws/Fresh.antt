@@ -1,5 +1,5 @@
 -- A slot that a transport number has just taken can be offered its first segment.
-use Rattle.std.specs.Prelude.{◌≡◌, Bool, ℕ, ◌+◌, ◌≤◌, length, take, drop, get_or}
+use Rattle.std.specs.Prelude.{◌≡◌, Bool, Option, None, ℕ, ◌+◌, ◌≤◌, length, take, drop, get_or}
 use Rattle.std.proofs.Math.Path.{refl, sym}
 use Rattle.std.proofs.Common.{ap, ◌∙◌, arith}
 use Rattle.std.proofs.Math.Bool.{true, false}
@@ -10,8 +10,7 @@ use Rattle.octets.specs.laws.Marks.{sum-split, sum-none}
 use Rattle.answer.specs.declared.Part.{Part}
 use Rattle.answer.specs.declared.Part.TheVariants.{Header, Body}
 use Rattle.cut.specs.Requirement.{header_numbers, body_numbers, Segment}
-use Rattle.cut.specs.declared.Core.{Core}
-use Rattle.cut.specs.declared.Core.TheVariants.{Unseen}
+use Rattle.cut.specs.declared.Sizes.{Sizes}
 use Rattle.cut.specs.declared.Bounds.{Bounds}
 use Rattle.cut.specs.declared.Record.{Record}
 use Rattle.cut.specs.Parts.{other_part}
@@ -46,7 +45,7 @@ largest-sum [] = omega arith
 largest-sum (b ∷ l) = omega (arith, largest-sum l)
 
 -- header segment 0 is not in
-core-none : (m : Memory) → sum_of m.marks ≡ 0 → core_in m ≡ Unseen
+core-none : (m : Memory) → sum_of m.marks ≡ 0 → core_in m ≡ None
 unfolding core_in
 core-none m e = rw ((sum-none m.marks).0 e 0) refl
 
@@ -57,7 +56,7 @@ module _ (limit number : ℕ) (lent : Lent) (none : sum_of lent.marks ≡ 0) whe
   body-none : sum_of (drop header_numbers lent.marks) ≡ 0
   body-none = rest-none header_numbers lent.marks none
 
-  pub fresh-core : core_in (parts_of (fresh_slot number) lent).header ≡ Unseen
+  pub fresh-core : core_in (parts_of (fresh_slot number) lent).header ≡ None
   unfolding parts_of fresh_slot
   fresh-core = core-none (parts_of (fresh_slot number) lent).header header-none
 
@@ -96,7 +95,7 @@ module _ (b : Bounds) (p : Record) (marks : List ℕ) (none : sum_of marks ≡ 0
 
 -- the decision where nothing is in yet
 abbrev alone : Part → ℕ → Segment → Bool
-alone part limit s = takes part limit (core_with part s Unseen) no_record [] no_record [] s.last s.number
+alone part limit s = takes part limit (core_with part s None) no_record [] no_record [] s.last s.number
     (length s.bytes)
 
 module _ (part : Part) (limit number : ℕ) (s : Segment) (lent : Lent) (none : sum_of lent.marks ≡ 0) where
@@ -118,9 +117,9 @@ module _ (part : Part) (limit number : ℕ) (s : Segment) (lent : Lent) (none : 
         memory-is (other_part part) (fresh_slot number) lent,
         kept-none part,
         kept-none (other_part part),
-        fits-none (bounds_of part limit (core_with part s Unseen)) no_record (marks_of part lent.marks) (marks-none part)
+        fits-none (bounds_of part limit (core_with part s None)) no_record (marks_of part lent.marks) (marks-none part)
             s.last s.number (length s.bytes),
-        possible-none (bounds_of (other_part part) limit (core_with part s Unseen)) no_record
+        possible-none (bounds_of (other_part part) limit (core_with part s None)) no_record
             (marks_of (other_part part) lent.marks) (marks-none (other_part part)),
       )
 
@@ -134,13 +133,13 @@ module _ (part : Part) (limit number : ℕ) (s : Segment) (lent : Lent) (none : 
       rw unmarked (new-fits (takes_in part limit s (parts_of (fresh_slot number) lent))
       (core_with part s (core_in (parts_of (fresh_slot number) lent).header)) ∙ fresh-fits)
     where
-      new-fits : (fits : Bool) (core : Core) → is_fits (decided_new fits core) ≡ fits
+      new-fits : (fits : Bool) (core : Option Sizes) → is_fits (decided_new fits core) ≡ fits
       new-fits true core = refl
       new-fits false core = refl
 
   -- nothing is in yet, so the tally is this, and there is no segment to read
   pub fresh-readable : length lent.marks ≡ header_numbers + body_numbers
-      → Readable (record { core = Unseen; headers = 0; bodies = 0 }) part s.number (fresh_slot number) lent
+      → Readable (record { core = None; headers = 0; bodies = 0 }) part s.number (fresh_slot number) lent
   fresh-readable h = record {
     marks = h;
     bits = omega (arith, largest-sum lent.marks, none);
@@ -148,10 +147,10 @@ module _ (part : Part) (limit number : ℕ) (s : Segment) (lent : Lent) (none : 
     held = λ m. absurd (omega (arith, (sum-none (marks_of part lent.marks)).0 (marks-none part) s.number, m));
   }
     where
-      core : core_from (marks_of Header lent.marks) lent.header ≡ Unseen
+      core : core_from (marks_of Header lent.marks) lent.header ≡ None
       core = rw ((sum-none (marks_of Header lent.marks)).0 (marks-none Header) 0) refl
 
-      tallied : record { core = Unseen; headers = 0; bodies = 0 } ≡ tally_of lent.header lent.marks
+      tallied : record { core = None; headers = 0; bodies = 0 } ≡ tally_of lent.header lent.marks
       tallied = rw (core, marks-none Header, marks-none Body) refl
 
 module _ (part : Part) (limit number : ℕ) (s : Segment) (lent : Lent) (none : sum_of lent.marks ≡ 0) where

@@ -1,10 +1,9 @@
 -- In a state that is not damaged a number is held by one slot at most: the slot that holds it is the one that is found.
-use Rattle.std.specs.Prelude.{◌≡◌, refl, Bool, true, false, List, [], ◌∷◌, ℕ, zero, suc, ◌+◌, ◌<◌, eqb, length, take, get_or}
+use Rattle.std.specs.Prelude.{◌≡◌, refl, Some, Bool, true, false, List, [], ◌∷◌, ℕ, zero, suc, ◌+◌, ◌<◌, eqb, length, take, get_or}
 use Rattle.std.proofs.Common.{add-zero, zero-add, arith, length-take, get_or-take, eqb-true}
 use Rattle.cut.specs.laws.Decision.{both_true, all_true}
 use Rattle.cut.specs.Lists.{pick}
 use Rattle.object.specs.declared.Slot.{Slot}
-use Rattle.slots.specs.declared.Found.TheVariants.{At}
 use Rattle.slots.specs.Stores.{Stores, free_slot, slot_at}
 use Rattle.slots.specs.Find.{free_stage, is_free, holds, first_from, find_in}
 use Rattle.slots.specs.State.{within_limits, held_among, unlike, distinct, right_from, sound_slots}
@@ -36,7 +35,7 @@ alone number slot others u h e = go (free_stage slot.stage) u h
         omega arith
 
 first-held : (number first j : ℕ) (slots : List Slot) → distinct slots ≡ true → j < length slots
-    → holds number (get_or slots j free_slot) ≡ true → first_from (holds number) first slots ≡ At (first + j)
+    → holds number (get_or slots j free_slot) ≡ true → first_from (holds number) first slots ≡ Some (first + j)
 unfolding distinct first_from
 first-held number first j [] d h e = absurd (omega arith)
 first-held number first zero (slot ∷ slots) d h e = rw (e, add-zero first) refl
@@ -47,14 +46,14 @@ first-held number first (suc j) (slot ∷ slots) d h e =
     apart = both_true (unlike slot slots) (distinct slots) d
 
     go : (b : Bool) → holds number slot ≡ b
-        → (distinct slots ≡ true → first_from (holds number) (suc first) slots ≡ At (suc first + j))
-        → pick b (At first) (first_from (holds number) (suc first) slots) ≡ At (first + suc j)
+        → (distinct slots ≡ true → first_from (holds number) (suc first) slots ≡ Some (suc first + j))
+        → pick b (Some first) (first_from (holds number) (suc first) slots) ≡ Some (first + suc j)
     go true f later = absurd (alone number slot slots apart.0 f (among-held number j slots (omega arith) e))
     go false f later = let g : first + suc j ≡ suc first + j = omega arith in rw g (later apart.1)
 
 pub sound-held : (limit count : ℕ) (slots : List Slot) (stores : Stores) → sound_slots limit count slots stores ≡ true
     → (number j : ℕ) → j < count → j < length slots → holds number (slot_at j slots) ≡ true → find_in number count slots
-    ≡ At j
+    ≡ Some j
 unfolding sound_slots find_in slot_at
 sound-held limit count slots stores sound number j h g e =
     let t = all_true

@@ -1,5 +1,5 @@
 -- A sound state offers each of its slots: what the code that takes a segment asks follows from the test of the state.
-use Rattle.std.specs.Prelude.{◌≡◌, refl, Bool, false, List, [], ◌∷◌, ℕ, zero, suc, ◌+◌, ◌*◌, ◌≤◌, ◌<◌, eqb, take}
+use Rattle.std.specs.Prelude.{◌≡◌, refl, Some, Bool, false, List, [], ◌∷◌, ℕ, zero, suc, ◌+◌, ◌*◌, ◌≤◌, ◌<◌, eqb, take}
 use Rattle.std.proofs.Math.Bool.{true}
 use Rattle.std.proofs.Common.{add-zero, suc-mul, mul-le-mul_right, arith, eqb-true}
 use Rattle.std.proofs.Math.Nat.{zero-add}
@@ -14,7 +14,6 @@ use Rattle.object.specs.declared.Slot.{Slot}
 use Rattle.object.specs.Sound.{sound_slot}
 use Rattle.object.specs.laws.Inside.{sound-slot}
 use Rattle.object.specs.Parts.{Lent}
-use Rattle.slots.specs.declared.Found.TheVariants.{At}
 use Rattle.slots.specs.Stores.{slot_marks, Stores, lent_at, free_slot, slot_at, Limits}
 use Rattle.slots.specs.Find.{free_stage, is_free, holds, first_from, find_in, free_in}
 use Rattle.slots.specs.State.{within_limits, distinct, right_slot, right_from, sound_slots}
@@ -49,14 +48,15 @@ right-at limit first (suc i) (slot ∷ slots) stores e h =
     rw g (right-at limit (suc first) i slots stores t.1 (omega arith))
 
 -- the first slot that passes a test is one of them, and passes
-pub found-passes : (test : Slot → Bool) (first i : ℕ) (slots : List Slot) → first_from test first slots ≡ At i → (j : ℕ)
+pub found-passes : (test : Slot → Bool) (first i : ℕ) (slots : List Slot)
+    → first_from test first slots ≡ Some i → (j : ℕ)
     × (i ≡ first + j) × (j < length slots) × (test (get_or slots j free_slot) ≡ true)
 unfolding first_from
 found-passes test first i [] e = let z : ◌≡◌ {A = ℕ} 0 1 = cc in absurd (omega arith)
 found-passes test first i (slot ∷ slots) e = go (test slot) refl e (λ g. found-passes test (suc first) i slots g)
   where
-    go : (b : Bool) → test slot ≡ b → pick b (At first) (first_from test (suc first) slots) ≡ At i
-        → (first_from test (suc first) slots ≡ At i → (j : ℕ) × (i ≡ suc first + j) × (j < length slots)
+    go : (b : Bool) → test slot ≡ b → pick b (Some first) (first_from test (suc first) slots) ≡ Some i
+        → (first_from test (suc first) slots ≡ Some i → (j : ℕ) × (i ≡ suc first + j) × (j < length slots)
         × (test (get_or slots j free_slot) ≡ true))
         → (j : ℕ) × (i ≡ first + j) × (j < suc (length slots)) × (test (get_or (slot ∷ slots) j free_slot) ≡ true)
     go true f g later = let h : first ≡ i = cc in (0, omega arith, omega arith, f)
@@ -117,7 +117,7 @@ module _ (limit count : ℕ) (slots : List Slot) (stores : Stores) (sound : soun
         rw (get_or-take count slots i free_slot short, zero-add i) at right
 
     -- the slot that is found is one of them, right, and passes the test
-    pub found_right : (test : Slot → Bool) (i : ℕ) → first_from test 0 (take count slots) ≡ At i → (i < count)
+    pub found_right : (test : Slot → Bool) (i : ℕ) → first_from test 0 (take count slots) ≡ Some i → (i < count)
         × (test (slot_at i slots) ≡ true) × (right_slot limit (slot_at i slots) (lent_at limit i stores) ≡ true)
     unfolding slot_at
     found_right test i e =
@@ -130,7 +130,7 @@ module _ (limit count : ℕ) (slots : List Slot) (stores : Stores) (sound : soun
         (short, rw at at passes, sound-right i h)
 
     -- a slot that holds a number can be offered a segment
-    pub sound-offered : (number i : ℕ) → find_in number count slots ≡ At i → OfferedAt limit i slots stores
+    pub sound-offered : (number i : ℕ) → find_in number count slots ≡ Some i → OfferedAt limit i slots stores
     unfolding find_in
     sound-offered number i e =
         let f = found_right (holds number) i e in
@@ -152,7 +152,7 @@ module _ (limit count : ℕ) (slots : List Slot) (stores : Stores) (sound : soun
         }
 
     -- a free slot can be taken
-    pub sound-open : (i : ℕ) → free_in count slots ≡ At i → OpenAt limit i stores
+    pub sound-open : (i : ℕ) → free_in count slots ≡ Some i → OpenAt limit i stores
     unfolding free_in
     sound-open i e =
         let f = found_right is_free i e in
@@ -164,5 +164,5 @@ module _ (limit count : ℕ) (slots : List Slot) (stores : Stores) (sound : soun
         }
 
     -- a slot that holds a number is one of those lent for
-    pub found_inside : (number i : ℕ) → find_in number count slots ≡ At i → Inside limit i stores
+    pub found_inside : (number i : ℕ) → find_in number count slots ≡ Some i → Inside limit i stores
     found_inside number i e = (sound-offered number i e).inside

@@ -1,33 +1,16 @@
 -- `yovtirak::yovtirak_missing` meets its contract: the words are read, and the question is asked.
 -- Assumes nothing.
 use mathlib.Core.Path.{refl, sym, ◌∙◌}
-use borrow.Author.Tests.{eq-eqb, ne_eqb}
 use Rattle.yovtirak.specs.Exports.{missing_call}
-use Rattle.yovtirak.specs.laws.Exports.{readable-length}
+use Rattle.yovtirak.specs.laws.Exports.{holds, holds-nothing}
 use Rattle.yovtirak.proofs.yovtirak_missing.Goals as goal
 
-pub returns-then-counts-ne-COUNTS : goal.returns-then-counts-ne-COUNTS
+pub returns-in_default : goal.returns-in_default
 unfolding missing_call
-returns-then-counts-ne-COUNTS c = rw (ne_eqb _ _ c.if-counts-ne-COUNTS.true) refl
-
-pub returns-then-not-readable : goal.returns-then-not-readable
-unfolding missing_call
-returns-then-not-readable c = rw (
-  eq-eqb _ _ c.if-counts-ne-COUNTS.false,
-  sym c.readable.ensures ∙ c.if-not-readable.true,
-) refl
-
-pub collector_from-collector-requires : goal.collector_from-collector-requires
-collector_from-collector-requires c =
-    readable-length c.args.state.now (sym c.readable.ensures ∙ c.if-not-readable.false)
+returns-in_default c = rw (holds-nothing _ _ (sym c.held_in.ensures ∙ c.in_default.is)) refl
 
 pub returns : goal.returns
 unfolding missing_call
 returns c =
-    rw (
-      eq-eqb _ _ c.if-counts-ne-COUNTS.false,
-      sym c.readable.ensures ∙ c.if-not-readable.false,
-      ← c.collector_from-collector.ensures,
-      ← c.counts_from-counted.ensures,
-      ← c.missing.ensures,
-    ) c.awaited_word.ensures
+    let h = holds _ _ _ _ (sym c.held_in.ensures ∙ c.in-Some.is) in
+    rw (h.right, h.collector, h.counted, ← c.missing.ensures) c.awaited_word.ensures

@@ -1,41 +1,21 @@
 -- `yovtirak::yovtirak_take` meets its contract: the words are read, handed to the collector, and written.
 -- Assumes nothing.
 use mathlib.Core.Path.{refl, sym, ◌∙◌}
-use borrow.Author.Tests.{eq-eqb, ne_eqb}
 use Rattle.yovtirak.specs.Exports.{left, take_call}
-use Rattle.yovtirak.specs.laws.Exports.{readable-length}
+use Rattle.yovtirak.specs.laws.Exports.{holds, holds-nothing}
 use Rattle.yovtirak.proofs.yovtirak_take.Goals as goal
 
-pub returns-then-counts-ne-COUNTS : goal.returns-then-counts-ne-COUNTS
+pub returns-in_default : goal.returns-in_default
 unfolding take_call
-returns-then-counts-ne-COUNTS c = rw (ne_eqb _ _ c.if-counts-ne-COUNTS.true) refl
-
-pub returns-then-not-readable : goal.returns-then-not-readable
-unfolding take_call
-returns-then-not-readable c = rw (
-  eq-eqb _ _ c.if-counts-ne-COUNTS.false,
-  sym c.readable.ensures ∙ c.if-not-readable.true,
-) refl
-
-pub collector_from-collector-requires : goal.collector_from-collector-requires
-collector_from-collector-requires c =
-    readable-length c.args.state.now (sym c.readable.ensures ∙ c.if-not-readable.false)
+returns-in_default c = rw (holds-nothing _ _ (sym c.held_in.ensures ∙ c.in_default.is)) refl
 
 pub leave-requires : goal.leave-requires
 leave-requires c =
-    (readable-length c.args.state.now (sym c.readable.ensures ∙ c.if-not-readable.false), c.if-counts-ne-COUNTS.false)
+    let h = holds _ _ _ _ (sym c.held_in.ensures ∙ c.in-Some.is) in (h.state_length, h.counts_length)
 
 pub returns : goal.returns
 unfolding take_call left
 returns c =
+    let h = holds _ _ _ _ (sym c.held_in.ensures ∙ c.in-Some.is) in
     let l = c.leave.ensures in
-    rw (
-      eq-eqb _ _ c.if-counts-ne-COUNTS.false,
-      sym c.readable.ensures ∙ c.if-not-readable.false,
-      ← c.collector_from-collector.ensures,
-      ← c.counts_from-before.ensures,
-      ← c.taken-after.ensures,
-      l.0,
-      l.1,
-      l.2,
-    ) refl
+    rw (h.right, h.collector, h.counted, ← c.taken-after.ensures, l.0, l.1, l.2) refl

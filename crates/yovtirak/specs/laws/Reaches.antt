@@ -1,7 +1,7 @@
 -- THE PROMISES REACH THE LIBRARY. After any calls of the exported functions since a `yovtirak_open` that returned 0
 -- the words are those of the collector that the same calls reach, so that every promise of crate `history` holds of
 -- what a head sees.
-use Rattle.std.specs.Prelude.{◌≡◌, ℕ, suc, ◌≤◌, eqb, length}
+use Rattle.std.specs.Prelude.{◌≡◌, Option, None, Some, ℕ, suc, ◌≤◌, eqb, length}
 use Rattle.std.proofs.Math.Path.{refl, ap}
 use Rattle.std.proofs.Common.{sym, ◌∙◌, arith}
 use Rattle.std.proofs.Math.Bool.{Bool, true, false}
@@ -13,8 +13,6 @@ use Rattle.cut.specs.Lists.{both, pick, Each}
 use Rattle.object.specs.declared.Slot.{Slot}
 use Rattle.object.specs.declared.Stage.{Stage}
 use Rattle.object.specs.declared.Stage.TheVariants as Stage
-use Rattle.slots.specs.declared.Found.{Found}
-use Rattle.slots.specs.declared.Found.TheVariants.{Nothing, At}
 use Rattle.slots.specs.Stores.{Stores, slot_at}
 use Rattle.slots.specs.Find.{find_in}
 use Rattle.slots.specs.Show.{shown_of}
@@ -231,7 +229,7 @@ module _ (number : ℕ) (state counts : List ℕ) (stores : Stores) (place : Lis
       lent = both (eqb (length place) 3) (lent_right state counts)
 
       staged : lent ≡ true → sound here ≡ true → (i : ℕ)
-          → find_in number (collector_from state).count (collector_from state).slots ≡ At i → (stage : Stage)
+          → find_in number (collector_from state).count (collector_from state).slots ≡ Some i → (stage : Stage)
           → (slot_at i (collector_from state).slots).stage ≡ stage
           → Place number state counts stores place
       staged f g i n Stage.Free t = let z : ◌≡◌ {A = ℕ} 19 0 = rw (f, g, n, t) at e in absurd (omega arith)
@@ -250,10 +248,10 @@ module _ (number : ℕ) (state counts : List ℕ) (stores : Stores) (place : Lis
                 inside.body));
           }
 
-      go : (a : Bool) → lent ≡ a → (d : Bool) → sound here ≡ d → (found : Found)
+      go : (a : Bool) → lent ≡ a → (d : Bool) → sound here ≡ d → (found : Option ℕ)
           → find_in number (collector_from state).count (collector_from state).slots ≡ found
           → Place number state counts stores place
       go false f d g found n = let z : ◌≡◌ {A = ℕ} 26 0 = rw f at e in absurd (omega arith)
       go true f false g found n = let z : ◌≡◌ {A = ℕ} 26 0 = rw (f, g) at e in absurd (omega arith)
-      go true f true g Nothing n = let z : ◌≡◌ {A = ℕ} 19 0 = rw (f, g, n) at e in absurd (omega arith)
-      go true f true g (At i) n = staged f g i n (slot_at i (collector_from state).slots).stage refl
+      go true f true g None n = let z : ◌≡◌ {A = ℕ} 19 0 = rw (f, g, n) at e in absurd (omega arith)
+      go true f true g (Some i) n = staged f g i n (slot_at i (collector_from state).slots).stage refl

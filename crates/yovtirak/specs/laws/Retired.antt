@@ -1,31 +1,21 @@
 -- NO CALL RETURNS THE RETIRED NUMBER, whatever it is handed: the low byte of a result is an answer's number, or 0.
-use Rattle.std.specs.Prelude.{◌≢◌, Bool, true, false, List, ℕ, ◌+◌, ◌%◌, eqb, length}
+use Rattle.std.specs.Prelude.{◌≢◌, Bool, true, false, Result, Ok, Err, List, ℕ, ◌+◌, ◌%◌, eqb, length, ⊤, Option}
 use Rattle.std.proofs.Common.{arith}
 use Rattle.answer.specs.Table.{number_of, returned_with, retired}
 use Rattle.answer.specs.laws.Table.{number-byte, never-retired}
 use Rattle.answer.specs.declared.Answer.{Answer}
 use Rattle.answer.specs.declared.Answer.TheVariants.{Refused, Denied}
 use Rattle.answer.specs.declared.Reason.{Reason}
-use Rattle.answer.specs.declared.Reason.TheVariants as Reason
+use Rattle.answer.specs.declared.Refusal.{Refusal}
 use Rattle.answer.specs.declared.Returned.{Returned}
 use Rattle.answer.specs.declared.Returned.TheVariants.{Sent, Segment, Number, Nothing}
-use Rattle.wire.specs.declared.Reading.{Reading}
-use Rattle.wire.specs.declared.Reading.TheVariants as Reading
+use Rattle.wire.specs.declared.Carried.{Carried}
 use Rattle.wire.specs.Reading.{reading_of}
 use Rattle.cut.specs.Lists.{both, pick}
+use Rattle.header.specs.declared.Fields.{Fields}
 use Rattle.collector.specs.declared.Collector.{Collector}
-use Rattle.collector.specs.declared.Located.{Located}
-use Rattle.collector.specs.declared.Located.TheVariants as Located
-use Rattle.collector.specs.declared.Opening.{Opening}
-use Rattle.collector.specs.declared.Opening.TheVariants as Opening
 use Rattle.collector.specs.State.{State, Reply, start}
 use Rattle.collector.specs.Calls.{take_group, drop_number, open_with, locate}
-use Rattle.queries.specs.declared.Asked.{Asked}
-use Rattle.queries.specs.declared.Asked.TheVariants as Asked
-use Rattle.queries.specs.declared.Sought.{Sought}
-use Rattle.queries.specs.declared.Sought.TheVariants as Sought
-use Rattle.queries.specs.declared.Awaited.{Awaited}
-use Rattle.queries.specs.declared.Awaited.TheVariants as Awaited
 use Rattle.queries.specs.Questions.{parameters, find}
 use Rattle.queries.specs.Missing.{missing}
 use Rattle.layout.specs.Layout.{counts_from}
@@ -50,29 +40,29 @@ answer-never answer = go (returned_with answer)
 denied-never : (reason : Reason) → Never (number_of (Denied reason))
 denied-never reason e = never-retired (Denied reason) (omega (arith, number-byte (Denied reason)))
 
-opening-never : (opening : Opening) → Never (opening_word opening)
-opening-never Opening.Open e = omega arith
-opening-never (Opening.Denied why) e = denied-never why e
+opening-never : (opening : Result ⊤ Reason) → Never (opening_word opening)
+opening-never (Ok unit) e = omega arith
+opening-never (Err why) e = denied-never why e
 
-place-never : (located : Located) (c : Collector) (place : List ℕ) → Never (place_told located c place).result
-place-never (Located.Denied why) c place e = denied-never why e
-place-never (Located.At i) c place e = omega arith
+place-never : (located : Result ℕ Reason) (c : Collector) (place : List ℕ) → Never (place_told located c place).result
+place-never (Err why) c place e = denied-never why e
+place-never (Ok i) c place e = omega arith
 
-fields-never : (asked : Asked) (told : List ℕ) → Never (fields_told asked told).result
-fields-never (Asked.Denied why) told e = denied-never why e
-fields-never (Asked.Fields fields) told e = omega arith
+fields-never : (asked : Result Fields Reason) (told : List ℕ) → Never (fields_told asked told).result
+fields-never (Err why) told e = denied-never why e
+fields-never (Ok fields) told e = omega arith
 
-sought-never : (sought : Sought) → Never (sought_word sought)
-sought-never (Sought.Number number) e = omega arith
-sought-never (Sought.Denied why) e = denied-never why e
+sought-never : (sought : Result ℕ Reason) → Never (sought_word sought)
+sought-never (Ok number) e = omega arith
+sought-never (Err why) e = denied-never why e
 
-awaited-never : (awaited : Awaited) → Never (awaited_word awaited)
-awaited-never (Awaited.Bytes amount) e = omega arith
-awaited-never (Awaited.Denied why) e = denied-never why e
+awaited-never : (awaited : Result (Option ℕ) Reason) → Never (awaited_word awaited)
+awaited-never (Ok amount) e = omega arith
+awaited-never (Err why) e = denied-never why e
 
-address-never : (reading : Reading) → Never (address_word reading)
-address-never (Reading.Refused why) e = never-retired (Refused why) (omega (arith, number-byte (Refused why)))
-address-never (Reading.Read carried) e = omega arith
+address-never : (reading : Result Carried Refusal) → Never (address_word reading)
+address-never (Err why) e = never-retired (Refused why) (omega (arith, number-byte (Refused why)))
+address-never (Ok carried) e = omega arith
 
 -- ---- the calls
 

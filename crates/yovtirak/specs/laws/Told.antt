@@ -1,20 +1,20 @@
 -- WHAT A HEAD TAKES OUT OF A WORD is what was answered: with STORED, COMPLETE and REPEAT to a group the answer's number,
 -- the part, the transport number, the segment's number and the three numbers that the sender set; how many bytes are
 -- still to come. And where an end user address is told to stand, there it stands.
-use Rattle.std.specs.Prelude.{◌≡◌, refl, Bool, true, false, List, ◌⊎◌, ℕ, ◌+◌, ◌*◌, ◌/◌, ◌%◌, ◌<◌}
+use Rattle.std.specs.Prelude.{◌≡◌, refl, Bool, true, false, Result, Ok, Err, List, ◌⊎◌, ℕ, ◌+◌, ◌*◌, ◌/◌, ◌%◌, ◌<◌, Option}
 use Rattle.std.proofs.Common.{ap, subst, inl, inr, arith}
 use Rattle.octets.specs.Octets.{part}
 use Rattle.answer.specs.declared.Answer.{Answer}
 use Rattle.answer.specs.declared.Answer.TheVariants as Answer
 use Rattle.answer.specs.declared.Heard.{Heard}
+use Rattle.answer.specs.declared.Refusal.{Refusal}
+use Rattle.answer.specs.declared.Reason.{Reason}
 use Rattle.answer.specs.declared.Repetition.{Repetition}
 use Rattle.answer.specs.declared.Returned.{Returned}
 use Rattle.answer.specs.declared.Returned.TheVariants.{Sent}
 use Rattle.answer.specs.Table.{number_of, returned_with}
 use Rattle.answer.specs.laws.Table.{number-byte, refusal-from, refusal-to, unsent-refusal}
 use Rattle.wire.specs.declared.Carried.{Carried}
-use Rattle.wire.specs.declared.Reading.{Reading}
-use Rattle.wire.specs.declared.Reading.TheVariants.{Read, Refused}
 use Rattle.wire.specs.Reading.{reading_of, address_in, address_of}
 use Rattle.wire.specs.laws.Theorems.{inside, Narrow, narrow}
 use Rattle.cut.specs.Lists.{Bytes}
@@ -28,8 +28,6 @@ use Rattle.history.specs.Ours.{ours}
 use Rattle.history.specs.laws.Answers.{came-named}
 use Rattle.history.specs.laws.Call.{handed-damaged, unread, came}
 use Rattle.history.specs.laws.Numbers.{byte_low}
-use Rattle.queries.specs.declared.Awaited.{Awaited}
-use Rattle.queries.specs.declared.Awaited.TheVariants as Awaited
 use Rattle.yovtirak.specs.Exports.{awaited_word, repetition_word, heard_word, answer_word, address_word, address_call}
 use Rattle.yovtirak.specs.Heads.{Tells, TellsMissing}
 use Rattle.yovtirak.specs.laws.Exports.{part_small}
@@ -60,7 +58,7 @@ word-tells answer heard repetition m =
     }
 
 module _ (bytes : List ℕ) (y : Bytes bytes) (s : State) where
-  carried-small : (carried : Carried) → reading_of bytes ≡ Read carried
+  carried-small : (carried : Carried) → reading_of bytes ≡ Ok carried
       → Small (heard_in carried) carried.repetition
   carried-small carried e =
       let n = narrow bytes carried (λ at. byte_low bytes at y) e in
@@ -80,7 +78,7 @@ module _ (bytes : List ℕ) (y : Bytes bytes) (s : State) where
         let r : meant ≡ repetition = cc in
         subst (λ (x : Heard). Small x repetition) h (subst (λ (x : Repetition). Small other x) r m)
 
-    outcome-small : (carried : Carried) → reading_of bytes ≡ Read carried → (o : Outcome)
+    outcome-small : (carried : Carried) → reading_of bytes ≡ Ok carried → (o : Outcome)
         → returned_with (answer_for o (arrival_in bytes carried)) ≡ Sent heard repetition → Small heard repetition
     outcome-small carried r Stored e = same-small _ _ (carried-small carried r) e
     outcome-small carried r Complete e = same-small _ _ (carried-small carried r) e
@@ -91,7 +89,7 @@ module _ (bytes : List ℕ) (y : Bytes bytes) (s : State) where
     sent-small : returned_with (take_group bytes s).answer ≡ Sent heard repetition → Small heard repetition
     sent-small e = go (sound s) refl (reading_of bytes) refl
       where
-        named : (carried : Carried) → reading_of bytes ≡ Read carried
+        named : (carried : Carried) → reading_of bytes ≡ Ok carried
             → ((take_group bytes s).answer ≡ Answer.Full (heard_as (arrival_in bytes carried)))
             ⊎ ((o : Outcome) × ((take_group bytes s).answer ≡ answer_for o (arrival_in bytes carried)))
             → Small heard repetition
@@ -100,16 +98,18 @@ module _ (bytes : List ℕ) (y : Bytes bytes) (s : State) where
             let z : ◌≡◌ {A = ℕ} 0 1 = cc in absurd (omega arith)
         named carried r (inr f) = outcome-small carried r f.0 (rw f.1 at e)
 
-        go : (b : Bool) → sound s ≡ b → (reading : Reading) → reading_of bytes ≡ reading → Small heard repetition
+        go : (b : Bool) → sound s ≡ b → (reading : Result Carried Refusal) → reading_of bytes ≡ reading
+            → Small heard repetition
         go false d reading r =
             let f = rw (handed-damaged (group bytes) s d) at e in
             let z : ◌≡◌ {A = ℕ} 0 1 = cc in absurd (omega arith)
-        go true d (Refused why) r =
+        go true d (Err why) r =
             absurd (unsent-refusal why heard repetition
-            (rw (unread (group bytes) s d why (ap (λ (x : Reading). brought_in x bytes) r)) at e))
-        go true d (Read carried) r =
+            (rw (unread (group bytes) s d why (ap (λ (x : Result Carried Refusal). brought_in x bytes) r)) at e))
+        go true d (Ok carried) r =
             named carried r (came-named (arrival_in bytes carried) s (take_group bytes s)
-            (came (group bytes) s d (arrival_in bytes carried) (ap (λ (x : Reading). brought_in x bytes) r)))
+            (came (group bytes) s d (arrival_in bytes carried)
+            (ap (λ (x : Result Carried Refusal). brought_in x bytes) r)))
 
     -- THE NUMBERS ARE IN THE WORD
     pub taken-told : returned_with (take_group bytes s).answer ≡ Sent heard repetition
@@ -118,9 +118,9 @@ module _ (bytes : List ℕ) (y : Bytes bytes) (s : State) where
 
 -- ---- how many bytes are still to come
 
-pub missing-told : (awaited : Awaited) → TellsMissing (awaited_word awaited) awaited
-missing-told (Awaited.Bytes amount) = record { answered = omega arith; amount = omega arith }
-missing-told (Awaited.Denied why) =
+pub missing-told : (awaited : Result (Option ℕ) Reason) → TellsMissing (awaited_word awaited) awaited
+missing-told (Ok amount) = record { answered = omega arith; amount = omega arith }
+missing-told (Err why) =
     let n = number-byte (Answer.Denied why) in
     record { answered = omega (arith, n); amount = omega (arith, n) }
 
@@ -144,14 +144,15 @@ pub address-there : (bytes : List ℕ) (s : State) → address_call bytes % 256 
 unfolding address_call address_of
 address-there bytes s = go (reading_of bytes) refl
   where
-    go : (reading : Reading) → reading_of bytes ≡ reading → address_word reading % 256 ≡ 0 → address_in reading bytes
+    go : (reading : Result Carried Refusal) → reading_of bytes ≡ reading → address_word reading % 256 ≡ 0
+        → address_in reading bytes
         ≡ part bytes (address_word reading / 65536 % 65536) (address_word reading / 4294967296 % 65536)
-    go (Refused why) r e = absurd (omega (arith, e, refusal-from why, refusal-to why))
-    go (Read carried) r e =
+    go (Err why) r e = absurd (omega (arith, e, refusal-from why, refusal-to why))
+    go (Ok carried) r e =
         let i = inside bytes carried r in
-        let low : carried.address_start < 65536 = omega (arith, i.whole, i.address, i.ends) in
-        let few : carried.address_length < 65536 = omega (arith, i.short) in
+        let low : carried.address.start < 65536 = omega (arith, i.whole, i.address, i.ends) in
+        let few : carried.address.length < 65536 = omega (arith, i.short) in
         rw (
-          start-told carried.address_start carried.address_length low,
-          count-told carried.address_start carried.address_length low few,
+          start-told carried.address.start carried.address.length low,
+          count-told carried.address.start carried.address.length low few,
         ) refl

@@ -28,7 +28,7 @@ drop_at-all-requires c =
     let a = c.args in
     let lent = stores a.header.now a.body.now a.marks.now in
     let good = sym c.is_sound.ensures ∙ c.if-not-is_sound.false in
-    let found = sym c.find.ensures ∙ c.in-At.is in
+    let found = sym c.find.ensures ∙ c.in-Some.is in
     let slots = slots-sound (state a.self a.counts lent) good in
     let within = found_inside a.self.limit a.self.count a.self.slots lent slots a.number _ found in
     (within.slot, within.marks)
@@ -37,5 +37,5 @@ pub returns : goal.returns
 unfolding drop_number
 returns c =
     let good = sym c.is_sound.ensures ∙ c.if-not-is_sound.false in
-    rw (good, sym c.find.ensures ∙ c.in-At.is, ← c.drop_at-all.ensures)
+    rw (good, sym c.find.ensures ∙ c.in-Some.is, ← c.drop_at-all.ensures)
     (c.answered-2.ensures _)

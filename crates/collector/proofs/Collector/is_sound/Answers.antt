@@ -4,10 +4,10 @@ use mathlib.Core.Path.{sym, ◌∙◌}
 use Rattle.collector.specs.Calls.{sound}
 use Rattle.collector.proofs.Collector.is_sound.Goals as goal
 
-pub returns-then-not-sound : goal.returns-then-not-sound
+pub returns-then-sound : goal.returns-then-sound
 unfolding sound
-returns-then-not-sound c = rw (sym c.sound.ensures ∙ c.if-not-sound.true)
+returns-then-sound c = rw (sym c.sound.ensures ∙ c.if-sound.true) c.are_within.ensures
 
-pub returns : goal.returns
+pub returns-else-sound : goal.returns-else-sound
 unfolding sound
-returns c = rw (sym c.sound.ensures ∙ c.if-not-sound.false) c.are_within.ensures
+returns-else-sound c = rw (sym c.sound.ensures ∙ c.if-sound.false) c.if-sound.false

@@ -1,10 +1,9 @@
 -- `collector::Collector::locate` meets its contract: STATE, NOTHELD, then the stage.
 -- Assumes nothing.
 use Rattle.collector.specs.Calls.{locate}
-use Rattle.slots.specs.laws.Ready.{found_inside}
 use Rattle.slots.specs.Stores.{stores, free_slot, slot_at}
 use Rattle.collector.specs.State.{state}
-use Rattle.collector.specs.laws.State.{slots-sound}
+use Rattle.collector.specs.laws.State.{found-among}
 use native.Mathlib.Omega.{arith}
 use mathlib.Core.Path.{sym, ◌∙◌}
 use Rattle.collector.proofs.Collector.locate.Goals as goal
@@ -19,18 +18,34 @@ returns-in_default c =
     let good = sym c.is_sound.ensures ∙ c.if-not-is_sound.false in
     rw (good, sym c.find.ensures ∙ c.in_default.is)
 
-pub returns-then-i-ge-SLOTS_MOST : goal.returns-then-i-ge-SLOTS_MOST
-returns-then-i-ge-SLOTS_MOST c =
+pub offset_bounds-self-i : goal.offset_bounds-self-i
+offset_bounds-self-i c =
     let a = c.args in
-    let lent = stores a.header.now a.body.now a.marks.now in
     let good = sym c.is_sound.ensures ∙ c.if-not-is_sound.false in
-    let found = sym c.find.ensures ∙ c.in-At.is in
-    let slots = slots-sound (state a.self a.counts lent) good in
-    let within = found_inside a.self.limit a.self.count a.self.slots lent slots a.number _ found in
-    absurd (omega (arith, within.slot))
+    let s = state a.self a.counts (stores a.header.now a.body.now a.marks.now) in
+    omega (arith, found-among a.number _ s good (sym c.find.ensures ∙ c.in-Some.is))
 
-pub returns : goal.returns
-unfolding locate slot_at free_slot
-returns c =
+pub bounds : goal.bounds
+bounds c =
+    let a = c.args in
     let good = sym c.is_sound.ensures ∙ c.if-not-is_sound.false in
-    rw (good, sym c.find.ensures ∙ c.in-At.is) c.located_as.ensures
+    let s = state a.self a.counts (stores a.header.now a.body.now a.marks.now) in
+    found-among a.number _ s good (sym c.find.ensures ∙ c.in-Some.is)
+
+pub returns-in-Free : goal.returns-in-Free
+unfolding locate slot_at free_slot
+returns-in-Free c =
+    let good = sym c.is_sound.ensures ∙ c.if-not-is_sound.false in
+    rw (good, sym c.find.ensures ∙ c.in-Some.is, c.in-Free.is)
+
+pub returns-in-Gathering : goal.returns-in-Gathering
+unfolding locate slot_at free_slot
+returns-in-Gathering c =
+    let good = sym c.is_sound.ensures ∙ c.if-not-is_sound.false in
+    rw (good, sym c.find.ensures ∙ c.in-Some.is, c.in-Gathering.is)
+
+pub returns-in-Finished : goal.returns-in-Finished
+unfolding locate slot_at free_slot
+returns-in-Finished c =
+    let good = sym c.is_sound.ensures ∙ c.if-not-is_sound.false in
+    rw (good, sym c.find.ensures ∙ c.in-Some.is, c.in-Finished.is)

@@ -1,8 +1,10 @@
 -- `collector::Collector::segment_taken` meets its contract: STATE, or the change that the segment comes to is made.
 -- Assumes nothing.
-use mathlib.Core.Path.{sym, ◌∙◌}
+use mathlib.Core.Path.{◌≡◌, sym, ◌∙◌}
+use borrow.Author.Rules.{rules}
 use Rattle.slots.specs.Stores.{stores}
 use Rattle.collector.specs.State.{state}
+use Rattle.collector.specs.Arrival.{no_repetition}
 use Rattle.collector.specs.Calls.{take_segment}
 use Rattle.collector.specs.laws.State.{slots-sound}
 use Rattle.collector.proofs.Collector.segment_taken.Goals as goal
@@ -26,4 +28,5 @@ pub returns : goal.returns
 unfolding take_segment
 returns c =
     let good = sym c.is_sound.ensures ∙ c.if-not-is_sound.false in
-    rw good (c.changed.ensures _ ∙ c.take_segment-change.ensures.1 c.args.counts)
+    let none : c.default-repetition.result ≡ no_repetition = search rules in
+    rw (good, ← none) (c.changed.ensures _ ∙ c.take_segment-change.ensures.1 c.args.counts)

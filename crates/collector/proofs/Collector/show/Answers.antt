@@ -10,5 +10,5 @@ returns-in_default c = rw (sym c.locate.ensures ∙ c.in_default.is)
 
 pub returns : goal.returns
 unfolding show
-returns c = rw (sym c.locate.ensures ∙ c.in-At.is)
+returns c = rw (sym c.locate.ensures ∙ c.in-Ok.is)
     c.shown_at.ensures

@@ -26,7 +26,7 @@ take_at-requires c =
     let a = c.args in
     let lent = stores a.header.now a.body.now a.marks.now in
     let o = sound-open a.self.limit a.self.count a.self.slots lent c.requires _
-    (sym c.free.ensures ∙ c.in-At.is) in
+    (sym c.free.ensures ∙ c.in-Some.is) in
     record {
       inside = o.inside;
       offered = rw c.fresh_slot-fresh.ensures (fresh-offered a.self.limit _ a.heard.number lent o);
@@ -38,9 +38,9 @@ returns c =
     let a = c.args in
     let lent = stores a.header.now a.body.now a.marks.now in
     let o = sound-open a.self.limit a.self.count a.self.slots lent c.requires _
-    (sym c.free.ensures ∙ c.in-At.is) in
+    (sym c.free.ensures ∙ c.in-Some.is) in
     let alone = sym c.fits_alone.ensures ∙ c.if-not-fits_alone.false in
-    rw (alone, sym c.free.ensures ∙ c.in-At.is)
+    rw (alone, sym c.free.ensures ∙ c.in-Some.is)
     (put_as a.self _ (arrival a.heard a.repetition a.last a.bytes.now) lent
     c.fresh_slot-fresh.result (fresh_slot a.heard.number) c.take_at.ensures
     c.fresh_slot-fresh.ensures o.inside.slot)

@@ -18,7 +18,7 @@ pub offset_bounds-self-i : goal.offset_bounds-self-i
 offset_bounds-self-i c =
     let a = c.args in
     let lent = stores a.header.now a.body.now a.marks.now in
-    let found = sym c.find.ensures ∙ c.in-At.is in
+    let found = sym c.find.ensures ∙ c.in-Some.is in
     let o = sound-offered a.self.limit a.self.count a.self.slots lent c.requires a.heard.number _ found in
     omega (arith, o.inside.slot)
 
@@ -26,7 +26,7 @@ pub bounds-self-i : goal.bounds-self-i
 bounds-self-i c =
     let a = c.args in
     let lent = stores a.header.now a.body.now a.marks.now in
-    let found = sym c.find.ensures ∙ c.in-At.is in
+    let found = sym c.find.ensures ∙ c.in-Some.is in
     let o = sound-offered a.self.limit a.self.count a.self.slots lent c.requires a.heard.number _ found in
     o.inside.slot
 
@@ -35,7 +35,7 @@ unfolding slot_at free_slot
 take_at-requires c =
     let a = c.args in
     let lent = stores a.header.now a.body.now a.marks.now in
-    let found = sym c.find.ensures ∙ c.in-At.is in
+    let found = sym c.find.ensures ∙ c.in-Some.is in
     let o = sound-offered a.self.limit a.self.count a.self.slots lent c.requires a.heard.number _ found in
     record { inside = o.inside; offered = o.offered }
 
@@ -44,8 +44,8 @@ unfolding take_at slot_at free_slot
 returns c =
     let a = c.args in
     let lent = stores a.header.now a.body.now a.marks.now in
-    let found = sym c.find.ensures ∙ c.in-At.is in
+    let found = sym c.find.ensures ∙ c.in-Some.is in
     let o = sound-offered a.self.limit a.self.count a.self.slots lent c.requires a.heard.number _ found in
-    let i = c.in-At.i in
+    let i = c.in-Some.i in
     rw found (put_as a.self i (arrival a.heard a.repetition a.last a.bytes.now) lent
     (slot_at i a.self.slots) (slot_at i a.self.slots) c.take_at.ensures refl o.inside.slot)
