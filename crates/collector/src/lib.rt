@@ -214,7 +214,7 @@ impl Collector {
     pub fn is_sound(self, counts: Counts, header: &[u8], body: &[u8], marks: &[u8]) -> bool
         ensures { result ≡ sound (state self counts (stores header.now body.now marks.now)) }
     {
-        slots::sound(self.limit, self.count, self.slots, header, body, marks)
+        slots::sound(self.limit, self.count, &self.slots, header, body, marks)
             && counts::are_within(counts)
     }
 
@@ -232,8 +232,7 @@ impl Collector {
         if !self.is_sound(counts, header, body, marks) {
             return Err(Reason::State);
         }
-        let slots = self.slots;
-        let Some(i) = slots::find(number, self.count, slots) else {
+        let Some(i) = slots::find(number, self.count, &self.slots) else {
             return Err(Reason::NotHeld);
         };
         match self.slots[i].stage {
@@ -325,8 +324,7 @@ impl Collector {
         if !slots::fits_alone(heard.part, self.limit, &segment) {
             return Change::Nothing(Answer::Conflict(heard));
         }
-        let slots = self.slots;
-        let Some(i) = slots::free(self.count, slots) else {
+        let Some(i) = slots::free(self.count, &self.slots) else {
             return Change::Nothing(Answer::Full(heard));
         };
         let fresh = slots::fresh_slot(heard.number);
@@ -353,8 +351,7 @@ impl Collector {
             (arrival heard repetition last bytes.now)
             (state self counts (stores header.old body.old marks.old))) }
     {
-        let slots = self.slots;
-        let Some(i) = slots::find(heard.number, self.count, slots) else {
+        let Some(i) = slots::find(heard.number, self.count, &self.slots) else {
             return self.take_first(heard, repetition, last, bytes, header, body, marks);
         };
         let old = self.slots[i];
@@ -455,11 +452,10 @@ impl Collector {
         if !self.is_sound(counts, header, body, marks) {
             return self.answered(counts, Answer::Denied(Reason::State));
         }
-        let slots = self.slots;
-        let Some(i) = slots::find(number, self.count, slots) else {
+        let Some(i) = slots::find(number, self.count, &self.slots) else {
             return self.answered(counts, Answer::Denied(Reason::NotHeld));
         };
-        let all = slots::drop_at(i, slots, marks);
+        let all = slots::drop_at(i, self.slots, marks);
         let next = Collector {
             limit: self.limit,
             count: self.count,

@@ -67,11 +67,11 @@ fn lower_of(held: Option<u16>, number: u16) -> Option<u16>
 pub fn find(
     asked: &[u8],
     count: usize,
-    slots: [Slot; slots::SLOTS_MOST],
+    slots: &[Slot; slots::SLOTS_MOST],
     store: &[u8],
 ) -> Option<u16>
-    requires { Searched count slots store.now }
-    ensures { result ≡ found_by_name asked.now count slots store.now }
+    requires { Searched count slots.now store.now }
+    ensures { result ≡ found_by_name asked.now count slots.now store.now }
 {
     let mut lowest = None;
     'slots: for (i, slot) in slots[..count].iter().enumerate() {

@@ -76,8 +76,7 @@ pub fn find(
     if !collector.is_sound(counts, header, body, marks) {
         return Err(Reason::State);
     }
-    let slots = collector.slots;
-    name_search::find(asked, collector.count, slots, header).ok_or(Reason::NotFound)
+    name_search::find(asked, collector.count, &collector.slots, header).ok_or(Reason::NotFound)
 }
 
 // The number of bytes that a slot keeps so: 1 more, or 0 while it isn't known.
@@ -103,8 +102,7 @@ pub fn missing(
     if !collector.is_sound(counts, header, body, marks) {
         return Err(Reason::State);
     }
-    let slots = collector.slots;
-    let Some(i) = slots::find(number, collector.count, slots) else {
+    let Some(i) = slots::find(number, collector.count, &collector.slots) else {
         return Err(Reason::NotHeld);
     };
     Ok(amount_of(collector.slots[i].missing))

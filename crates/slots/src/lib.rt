@@ -1,4 +1,4 @@
-// All the slots of a collector by value, with the stores and the marks that are lent for them: which slot holds a
+// All the slots of a collector, with the stores and the marks that are lent for them: which slot holds a
 // number or is free, whether a segment fits alone, whether a state is damaged (document 01, STATE), a segment taken
 // into one of the slots, a slot dropped, and a finished object's part of a store. Everything that runs over slots or
 // marks stands here; the collector above has the type, the answers and the counts. Each function is one definition
@@ -77,8 +77,8 @@ fn holds(number: u16, slot: &Slot) -> bool
 }
 
 // The lowest of the first count slots that holds a number.
-pub fn find(number: u16, count: usize, slots: [Slot; SLOTS_MOST]) -> Option<usize>
-    ensures { result ≡ find_in number count slots }
+pub fn find(number: u16, count: usize, slots: &[Slot; SLOTS_MOST]) -> Option<usize>
+    ensures { result ≡ find_in number count slots.now }
 {
     slots
         .iter()
@@ -86,10 +86,9 @@ pub fn find(number: u16, count: usize, slots: [Slot; SLOTS_MOST]) -> Option<usiz
         .position(|slot| holds(number, slot))
 }
 
-// The lowest of the first count slots that is free. Not inlined: it puts no copy of the slots on its caller's stack.
-#[inline(never)]
-pub fn free(count: usize, slots: [Slot; SLOTS_MOST]) -> Option<usize>
-    ensures { result ≡ free_in count slots }
+// The lowest of the first count slots that is free.
+pub fn free(count: usize, slots: &[Slot; SLOTS_MOST]) -> Option<usize>
+    ensures { result ≡ free_in count slots.now }
 {
     slots.iter().take(count).position(|slot| is_free(slot))
 }
@@ -180,17 +179,17 @@ fn right_at(limit: usize, i: usize, slot: &Slot, header: &[u8], marks: &[u8]) ->
 pub fn sound(
     limit: usize,
     count: usize,
-    slots: [Slot; SLOTS_MOST],
+    slots: &[Slot; SLOTS_MOST],
     header: &[u8],
     body: &[u8],
     marks: &[u8],
 ) -> bool
-    ensures { result ≡ sound_slots limit count slots (stores header.now body.now marks.now) }
+    ensures { result ≡ sound_slots limit count slots.now (stores header.now body.now marks.now) }
 {
     if !within_limits(limit, count, header.len(), body.len(), marks.len()) {
         return false;
     }
-    if !all_distinct(&keys_of(&slots)[..count]) {
+    if !all_distinct(&keys_of(slots)[..count]) {
         return false;
     }
     for i in 0..count {

@@ -22,7 +22,7 @@ unfolding slot_at free_slot
 legible_in-header-requires c =
     let a = c.args in
     let inside : c.slots.i < a.count = omega (arith, rw length-take at c.slots-test.true) in
-    rw (get_or-take a.count a.slots c.slots.i free_slot inside) (c.requires.cores c.slots.i inside)
+    rw (get_or-take a.count a.slots.now c.slots.i free_slot inside) (c.requires.cores c.slots.i inside)
 
 pub parameters-init : goal.parameters-init
 parameters-init c = (refl, rw c.legible_in-header.ensures (left-first _ _ _ _))
@@ -48,7 +48,7 @@ unfolding free_slot
 slots-preserved c =
     let a = c.args in
     let inv = c.parameters.invariant in
-    let slot = get_or (take a.count a.slots) c.slots.i free_slot in
+    let slot = get_or (take a.count a.slots.now) c.slots.i free_slot in
     let held = c.slots.lowest in
     let passed : c.match-parameter_at.lowest ≡ lower held (holder_in a.asked.now c.slots.i slot a.store.now) =
     elim c.match-parameter_at.branch [
@@ -65,7 +65,7 @@ slots-preserved c =
 pub returns-after-slots : goal.returns-after-slots
 returns-after-slots c =
     let a = c.args in
-    let none = lowest-none a.asked.now (take a.count a.slots) a.store.now c.slots.i c.slots-test.false in
+    let none = lowest-none a.asked.now (take a.count a.slots.now) a.store.now c.slots.i c.slots-test.false in
     sym (c.slots.invariant ∙ rw none (lower-nobody c.slots.lowest))
 
 pub returns-then-slot-eq0 : goal.returns-then-slot-eq0

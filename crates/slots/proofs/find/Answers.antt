@@ -13,6 +13,6 @@ pub returns : goal.returns
 unfolding find_in
 returns c =
     position_from_yields_List (holds c.args.number) _ _ c.position.result c.position.ensures.ran
-    (YieldsList-from_take c.args.count (YieldsList-from_slice c.args.slots cc) cc)
+    (YieldsList-from_take c.args.count (YieldsList-from_slice c.args.slots.now cc) cc)
     (λ x b q k. search rules)
-    ∙ first-position (holds c.args.number) (take c.args.count c.args.slots)
+    ∙ first-position (holds c.args.number) (take c.args.count c.args.slots.now)

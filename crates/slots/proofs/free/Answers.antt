@@ -13,6 +13,6 @@ pub returns : goal.returns
 unfolding free_in
 returns c =
     position_from_yields_List is_free _ _ c.position.result c.position.ensures.ran
-    (YieldsList-from_take c.args.count (YieldsList-from_slice c.args.slots cc) cc)
+    (YieldsList-from_take c.args.count (YieldsList-from_slice c.args.slots.now cc) cc)
     (λ x b q k. search rules)
-    ∙ first-position is_free (take c.args.count c.args.slots)
+    ∙ first-position is_free (take c.args.count c.args.slots.now)

@@ -40,14 +40,14 @@ pub returns-then-not-all_distinct : goal.returns-then-not-all_distinct
 unfolding sound_slots
 returns-then-not-all_distinct c = rw (
   sym c.within_limits.ensures ∙ c.if-not-within_limits.false,
-  told c.args.count c.args.slots c.keys_of.ensures c.all_distinct.ensures ∙ c.if-not-all_distinct.true,
+  told c.args.count c.args.slots.now c.keys_of.ensures c.all_distinct.ensures ∙ c.if-not-all_distinct.true,
 ) refl
 
 pub loop-i-init : goal.loop-i-init
 unfolding sound_slots
 loop-i-init c = rw (
   sym c.within_limits.ensures ∙ c.if-not-within_limits.false,
-  told c.args.count c.args.slots c.keys_of.ensures c.all_distinct.ensures ∙ c.if-not-all_distinct.false,
+  told c.args.count c.args.slots.now c.keys_of.ensures c.all_distinct.ensures ∙ c.if-not-all_distinct.false,
   both-only,
 ) refl
 
@@ -69,7 +69,7 @@ returns-then-not-right_at c =
     let m = limits c.within_limits.ensures c.if-not-within_limits.false in
     sym (c.loop-i.invariant
     ∙ rw (
-      right-on a.slots a.count c.loop-i.i (omega arith) (omega arith) a.limit
+      right-on a.slots.now a.count c.loop-i.i (omega arith) (omega arith) a.limit
           (stores a.header.now a.body.now a.marks.now),
       sym c.right_at.ensures ∙ c.if-not-right_at.true,
     ) refl)
@@ -81,7 +81,7 @@ loop-i-preserved c =
     let m = limits c.within_limits.ensures c.if-not-within_limits.false in
     c.loop-i.invariant
     ∙ rw (
-      right-on a.slots a.count c.loop-i.i (omega arith) (omega arith) a.limit
+      right-on a.slots.now a.count c.loop-i.i (omega arith) (omega arith) a.limit
           (stores a.header.now a.body.now a.marks.now),
       sym c.right_at.ensures ∙ c.if-not-right_at.false,
     ) refl
@@ -90,5 +90,5 @@ pub returns : goal.returns
 returns c =
     let a = c.args in
     let lent = stores a.header.now a.body.now a.marks.now in
-    sym (c.loop-i.invariant ∙ right-none a.slots a.count c.loop-i.i a.limit lent
+    sym (c.loop-i.invariant ∙ right-none a.slots.now a.count c.loop-i.i a.limit lent
     (rw length-take (omega arith)))
