@@ -8,6 +8,7 @@ use Rattle.counts.specs.declared.Counts.{Counts}
 use Rattle.slots.specs.Stores.{Stores, slots_most, free_slot}
 use Rattle.slots.specs.Find.{find_in, free_in}
 use Rattle.collector.specs.declared.Collector.{Collector}
+use Rattle.collector.specs.declared.Lent.{Lent}
 use Rattle.collector.specs.declared.Reply.{Reply as ReplyOf}
 use Rattle.collector.specs.declared.Opened.{Opened as OpenedOf}
 
@@ -38,6 +39,10 @@ stores header body marks = record { header = header.now; body = body.now; marks 
 
 abbrev pub state : Collector → Counts → Stores → State
 state c counts lent = record { collector = c; counts = counts; stores = lent }
+
+-- the state that is lent for a question
+abbrev pub lent_state : Lent → State
+lent_state l = state l.collector.now l.counts (stores l.header l.body l.marks)
 
 abbrev pub reply : ReplyOf → Stores → Reply
 reply r lent = record { answer = r.answer; left = state r.collector r.counts lent }

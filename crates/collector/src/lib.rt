@@ -12,7 +12,7 @@ ghost use Rattle.slots.specs.State.{sound_slots};
 ghost use Rattle.slots.specs.Stores.{Stores, stores, slots_most, slot_at, lent_at};
 ghost use Rattle.slots.specs.Take.{Inside};
 ghost use Rattle.collector.specs.Bounds.{bounds};
-ghost use Rattle.collector.specs.State.{state, reply, start, opened};
+ghost use Rattle.collector.specs.State.{state, lent_state, reply, start, opened};
 ghost use Rattle.collector.specs.Calls.{answer_as, into_held, take_segment, take_group, drop_number, open_with, locate, show, sound, answering};
 ghost use Rattle.collector.specs.Changes.{place_of, left_by, offered_at};
 ghost use Rattle.collector.specs.Arrival.{no_repetition, arrival};
@@ -47,6 +47,17 @@ pub struct BoundingNumbers {
     pub slots_least: usize,
     pub slots_most: usize,
     pub slot_marks: usize,
+}
+
+// A collector with all that its caller lends for a question: the counts, the stores and the marks. The calls that
+// change stores take those as three `&mut`: a struct of them would have every contract name what each one leaves.
+#[derive(Clone, Copy)]
+pub struct Lent<'a> {
+    pub collector: &'a Collector,
+    pub counts: Counts,
+    pub header: &'a [u8],
+    pub body: &'a [u8],
+    pub marks: &'a [u8],
 }
 
 // What an opening hands back: whether the collector is open, or why it is not. A refused one hands back a collector
@@ -209,69 +220,12 @@ impl Collector {
         }
     }
 
-    // Whether the state is not damaged. Inlined, it puts no copy of the collector on the stack.
-    #[inline(always)]
-    pub fn is_sound(self, counts: Counts, header: &[u8], body: &[u8], marks: &[u8]) -> bool
-        ensures { result ≡ sound (state self counts (stores header.now body.now marks.now)) }
+    // Whether the state is not damaged.
+    fn is_sound(&self, counts: Counts, header: &[u8], body: &[u8], marks: &[u8]) -> bool
+        ensures { result ≡ sound (state self.now counts (stores header.now body.now marks.now)) }
     {
         slots::sound(self.limit, self.count, &self.slots, header, body, marks)
             && counts::are_within(counts)
-    }
-
-    // Where the finished object of a number is, or why it can't be shown.
-    pub fn locate(
-        self,
-        counts: Counts,
-        number: u16,
-        header: &[u8],
-        body: &[u8],
-        marks: &[u8],
-    ) -> Result<usize, Reason>
-        ensures { result ≡ locate number (state self counts (stores header.now body.now marks.now)) }
-    {
-        if !self.is_sound(counts, header, body, marks) {
-            return Err(Reason::State);
-        }
-        let Some(i) = slots::find(number, self.count, &self.slots) else {
-            return Err(Reason::NotHeld);
-        };
-        match self.slots[i].stage {
-            Stage::Free => Err(Reason::NotHeld),
-            Stage::Gathering => Err(Reason::Unfinished),
-            Stage::Finished(_, _) => Ok(i),
-        }
-    }
-
-    // A part of the finished object in slot i; nothing where there is none.
-    pub fn shown_at<'a>(self, part: Part, i: usize, header: &'a [u8], body: &'a [u8]) -> &'a [u8]
-        ensures { result.now
-            ≡ shown_of part i self.limit (slot_at i self.slots) header.now body.now }
-    {
-        if Collector::SLOTS_MOST <= i {
-            return &header[..0];
-        }
-        let slot = self.slots[i];
-        slots::shown(part, i, self.limit, slot, header, body)
-    }
-
-    // A finished object's header or body, as the part of the store that has it, without copying;
-    // nothing where `locate` says why.
-    pub fn show<'a>(
-        self,
-        counts: Counts,
-        number: u16,
-        part: Part,
-        header: &'a [u8],
-        body: &'a [u8],
-        marks: &[u8],
-    ) -> &'a [u8]
-        ensures { result.now ≡ show number part
-            (state self counts (stores header.now body.now marks.now)) }
-    {
-        let Ok(i) = self.locate(counts, number, header, body, marks) else {
-            return &header[..0];
-        };
-        self.shown_at(part, i, header, body)
     }
 
     // The answer is counted, and nothing else changes.
@@ -301,7 +255,7 @@ impl Collector {
 
     // A segment whose number holds no slot.
     fn take_first(
-        self,
+        &self,
         heard: Heard,
         repetition: Repetition,
         last: bool,
@@ -310,11 +264,11 @@ impl Collector {
         body: &mut [u8],
         marks: &mut [u8],
     ) -> Change
-        requires { sound_slots self.limit self.count self.slots (stores header.old body.old marks.old) ≡ true }
+        requires { sound_slots self.now.limit self.now.count self.now.slots (stores header.old body.old marks.old) ≡ true }
         ensures { (place_of result < slots_most) × ((counts : Counts)
-            → left_by result (state self counts (stores header.new body.new marks.new))
+            → left_by result (state self.now counts (stores header.new body.new marks.new))
             ≡ into_held None (arrival heard repetition last bytes.now)
-            (state self counts (stores header.old body.old marks.old))) }
+            (state self.now counts (stores header.old body.old marks.old))) }
     {
         let segment = Segment {
             number: heard.segment as usize,
@@ -335,7 +289,7 @@ impl Collector {
 
     // What a segment comes to, in a sound state.
     fn take_segment(
-        self,
+        &self,
         heard: Heard,
         repetition: Repetition,
         last: bool,
@@ -344,12 +298,12 @@ impl Collector {
         body: &mut [u8],
         marks: &mut [u8],
     ) -> Change
-        requires { sound_slots self.limit self.count self.slots (stores header.old body.old marks.old) ≡ true }
+        requires { sound_slots self.now.limit self.now.count self.now.slots (stores header.old body.old marks.old) ≡ true }
         ensures { (place_of result < slots_most) × ((counts : Counts)
-            → left_by result (state self counts (stores header.new body.new marks.new))
-            ≡ into_held (find_in heard.number self.count self.slots)
+            → left_by result (state self.now counts (stores header.new body.new marks.new))
+            ≡ into_held (find_in heard.number self.now.count self.now.slots)
             (arrival heard repetition last bytes.now)
-            (state self counts (stores header.old body.old marks.old))) }
+            (state self.now counts (stores header.old body.old marks.old))) }
     {
         let Some(i) = slots::find(heard.number, self.count, &self.slots) else {
             return self.take_first(heard, repetition, last, bytes, header, body, marks);
@@ -387,7 +341,7 @@ impl Collector {
     // What a group comes to.
     #[tactic(auto, using(wire::specs::laws::Theorems::inside), unfolding(crate::specs::Calls::take_group))]
     fn take_group(
-        self,
+        &self,
         counts: Counts,
         group: &[u8],
         header: &mut [u8],
@@ -395,9 +349,9 @@ impl Collector {
         marks: &mut [u8],
     ) -> Change
         ensures { (place_of result < slots_most)
-            × (left_by result (state self counts (stores header.new body.new marks.new))
+            × (left_by result (state self.now counts (stores header.new body.new marks.new))
             ≡ take_group group.now
-            (state self counts (stores header.old body.old marks.old))) }
+            (state self.now counts (stores header.old body.old marks.old))) }
     {
         if !self.is_sound(counts, header, body, marks) {
             return Change::Nothing(Answer::Denied(Reason::State));
@@ -462,5 +416,55 @@ impl Collector {
             slots: all,
         };
         next.answered(counts, Answer::Dropped(number))
+    }
+}
+
+impl<'a> Lent<'a> {
+    // Whether the state is not damaged.
+    pub fn is_sound(&self) -> bool
+        ensures { result ≡ sound (lent_state self.now) }
+    {
+        self.collector
+            .is_sound(self.counts, self.header, self.body, self.marks)
+    }
+
+    // Where the finished object of a number is, or why it can't be shown.
+    pub fn locate(&self, number: u16) -> Result<usize, Reason>
+        ensures { result ≡ locate number (lent_state self.now) }
+    {
+        if !self.is_sound() {
+            return Err(Reason::State);
+        }
+        let Some(i) = slots::find(number, self.collector.count, &self.collector.slots) else {
+            return Err(Reason::NotHeld);
+        };
+        match self.collector.slots[i].stage {
+            Stage::Free => Err(Reason::NotHeld),
+            Stage::Gathering => Err(Reason::Unfinished),
+            Stage::Finished(_, _) => Ok(i),
+        }
+    }
+
+    // A part of the finished object in slot i; nothing where there is none.
+    pub fn shown_at(&self, part: Part, i: usize) -> &'a [u8]
+        ensures { result.now
+            ≡ shown_of part i self.now.collector.now.limit (slot_at i self.now.collector.now.slots)
+            self.now.header.now self.now.body.now }
+    {
+        let Some(slot) = self.collector.slots.get(i) else {
+            return &self.header[..0];
+        };
+        slots::shown(part, i, self.collector.limit, *slot, self.header, self.body)
+    }
+
+    // A finished object's header or body, as the part of the store that has it, without copying;
+    // nothing where `locate` says why.
+    pub fn show(&self, number: u16, part: Part) -> &'a [u8]
+        ensures { result.now ≡ show number part (lent_state self.now) }
+    {
+        let Ok(i) = self.locate(number) else {
+            return &self.header[..0];
+        };
+        self.shown_at(part, i)
     }
 }

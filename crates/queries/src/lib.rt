@@ -5,15 +5,13 @@
 
 ghost use Rattle.std.specs.Prelude.{◌≡◌};
 ghost use Rattle.cut.specs.Missing.{amount_of};
-ghost use Rattle.slots.specs.Stores.{stores};
-ghost use Rattle.collector.specs.State.{state};
+ghost use Rattle.collector.specs.State.{lent_state};
 ghost use Rattle.queries.specs.Questions.{sought_as, parameters, name, find};
 ghost use Rattle.queries.specs.Missing.{missing};
 ghost use Rattle.queries.specs.Said.{reason_of, asked_as};
 
 use answer::{Part, Reason};
-use collector::Collector;
-use counts::Counts;
+use collector::Lent;
 use header::{Fields, Refusal};
 
 fn reason_of(refusal: Refusal) -> Reason
@@ -27,56 +25,32 @@ fn reason_of(refusal: Refusal) -> Reason
 
 // What the header of a finished object says, or why it is not told: its core fields, Priority's byte,
 // and where its name stands in it.
-pub fn parameters<'a>(
-    collector: Collector,
-    counts: Counts,
-    number: u16,
-    header: &'a [u8],
-    body: &'a [u8],
-    marks: &[u8],
-) -> Result<Fields, Reason>
-    ensures { result ≡ parameters number
-        (state collector counts (stores header.now body.now marks.now)) }
+pub fn parameters(lent: &Lent<'_>, number: u16) -> Result<Fields, Reason>
+    ensures { result ≡ parameters number (lent_state lent.now) }
 {
-    let i = collector.locate(counts, number, header, body, marks)?;
-    header::read(collector.shown_at(Part::Header, i, header, body)).map_err(reason_of)
+    let i = lent.locate(number)?;
+    header::read(lent.shown_at(Part::Header, i)).map_err(reason_of)
 }
 
 // The data of a finished object's name, as the part of the header store that has it, without
 // copying; nothing where it has no name or `parameters` refuses.
-pub fn name<'a>(
-    collector: Collector,
-    counts: Counts,
-    number: u16,
-    header: &'a [u8],
-    body: &'a [u8],
-    marks: &[u8],
-) -> &'a [u8]
-    ensures { result.now ≡ name number
-        (state collector counts (stores header.now body.now marks.now)) }
+pub fn name<'a>(lent: &Lent<'a>, number: u16) -> &'a [u8]
+    ensures { result.now ≡ name number (lent_state lent.now) }
 {
-    let Ok(i) = collector.locate(counts, number, header, body, marks) else {
-        return &header[..0];
+    let Ok(i) = lent.locate(number) else {
+        return &lent.header[..0];
     };
-    name_search::name_data(collector.shown_at(Part::Header, i, header, body))
+    name_search::name_data(lent.shown_at(Part::Header, i))
 }
 
 // The lowest transport number among the finished objects that have a name, or why none is told.
-pub fn find(
-    collector: Collector,
-    counts: Counts,
-    asked: &[u8],
-    header: &[u8],
-    body: &[u8],
-    marks: &[u8],
-) -> Result<u16, Reason>
-    ensures { result ≡ find asked.now
-        (state collector counts (stores header.now body.now marks.now)) }
+pub fn find(lent: &Lent<'_>, asked: &[u8]) -> Result<u16, Reason>
+    ensures { result ≡ find asked.now (lent_state lent.now) }
 {
-    if !collector.is_sound(counts, header, body, marks) {
+    if !lent.is_sound() {
         return Err(Reason::State);
     }
-    name_search::find(asked, collector.count, &collector.slots, header).ok_or(Reason::NotFound)
+    name_search::find(asked, lent.collector.count, &lent.collector.slots, lent.header).ok_or(Reason::NotFound)
 }
 
 // The number of bytes that a slot keeps so: 1 more, or 0 while it isn't known.
@@ -88,22 +62,14 @@ fn amount_of(kept: u32) -> Option<u32>
 
 // How many bytes of a number's object are still to come, finished or not, once that is known, or why it is not told:
 // what its slot keeps, so that no more is worked out than STATE asks for.
-pub fn missing(
-    collector: Collector,
-    counts: Counts,
-    number: u16,
-    header: &[u8],
-    body: &[u8],
-    marks: &[u8],
-) -> Result<Option<u32>, Reason>
-    ensures { result ≡ missing number
-        (state collector counts (stores header.now body.now marks.now)) }
+pub fn missing(lent: &Lent<'_>, number: u16) -> Result<Option<u32>, Reason>
+    ensures { result ≡ missing number (lent_state lent.now) }
 {
-    if !collector.is_sound(counts, header, body, marks) {
+    if !lent.is_sound() {
         return Err(Reason::State);
     }
-    let Some(i) = slots::find(number, collector.count, &collector.slots) else {
+    let Some(i) = slots::find(number, lent.collector.count, &lent.collector.slots) else {
         return Err(Reason::NotHeld);
     };
-    Ok(amount_of(collector.slots[i].missing))
+    Ok(amount_of(lent.collector.slots[i].missing))
 }

@@ -14,7 +14,7 @@ ghost use Rattle.cut.specs.Lists.{pick};
 ghost use Rattle.cut.specs.Missing.{amount_kept};
 
 use answer::{Answer, Heard, Part, Reason, Repetition, Returned};
-use collector::{Collector, Reply};
+use collector::{Collector, Lent, Reply};
 use counts::Counts;
 use header::{Fields, Place};
 use object::{Slot, Stage};
@@ -239,7 +239,14 @@ pub extern "C" fn yovtirak_finished(
     let Some((collector, counted)) = held_in(state, counts) else {
         return STATE;
     };
-    match collector.locate(counted, number, header, body, marks) {
+    let lent = Lent {
+        collector: &collector,
+        counts: counted,
+        header,
+        body,
+        marks,
+    };
+    match lent.locate(number) {
         Ok(i) => {
             put_place(place, i, stage_at(collector.slots, i));
             0
@@ -283,12 +290,12 @@ fn put_fields(told: &mut [u64], fields: Fields)
 
 // What a finished object's header says.
 #[unsafe(no_mangle)]
-pub extern "C" fn yovtirak_read<'a>(
+pub extern "C" fn yovtirak_read(
     state: &[u64],
     counts: &[u32],
     number: u16,
-    header: &'a [u8],
-    body: &'a [u8],
+    header: &[u8],
+    body: &[u8],
     marks: &[u8],
     told: &mut [u64],
 ) -> u64
@@ -302,7 +309,14 @@ pub extern "C" fn yovtirak_read<'a>(
     let Some((collector, counted)) = held_in(state, counts) else {
         return STATE;
     };
-    match queries::parameters(collector, counted, number, header, body, marks) {
+    let lent = Lent {
+        collector: &collector,
+        counts: counted,
+        header,
+        body,
+        marks,
+    };
+    match queries::parameters(&lent, number) {
         Ok(fields) => {
             put_fields(told, fields);
             0
@@ -333,7 +347,14 @@ pub extern "C" fn yovtirak_find(
     let Some((collector, counted)) = held_in(state, counts) else {
         return STATE;
     };
-    sought_word(queries::find(collector, counted, name, header, body, marks))
+    let lent = Lent {
+        collector: &collector,
+        counts: counted,
+        header,
+        body,
+        marks,
+    };
+    sought_word(queries::find(&lent, name))
 }
 
 // 1 more than a number of bytes, or 0 while it isn't known.
@@ -365,7 +386,14 @@ pub extern "C" fn yovtirak_missing(
     let Some((collector, counted)) = held_in(state, counts) else {
         return STATE;
     };
-    awaited_word(queries::missing(collector, counted, number, header, body, marks))
+    let lent = Lent {
+        collector: &collector,
+        counts: counted,
+        header,
+        body,
+        marks,
+    };
+    awaited_word(queries::missing(&lent, number))
 }
 
 // Where the end user address of a group stands, or why the group is not read.

@@ -4,8 +4,7 @@ use mathlib.Core.Path.{◌≡◌, refl, sym, ap, ◌∙◌}
 use Rattle.std.specs.Prelude.{Option, Some, None, ℕ}
 use Rattle.std.specs.Option.{ok_or}
 use Rattle.answer.specs.declared.Reason.{Reason}
-use Rattle.collector.specs.State.{state}
-use Rattle.slots.specs.Stores.{stores}
+use Rattle.collector.specs.State.{lent_state}
 use Rattle.queries.specs.Questions.{sought_as, find}
 use Rattle.queries.specs.laws.Theorems.{cores-searched}
 use Rattle.queries.proofs.find.Goals as goal
@@ -17,9 +16,8 @@ returns-then-not-is_sound c = rw (sym c.is_sound.ensures ∙ c.if-not-is_sound.t
 pub find-requires : goal.find-requires
 find-requires c =
     let a = c.args in
-    let lent = stores a.header.now a.body.now a.marks.now in
     let good = sym c.is_sound.ensures ∙ c.if-not-is_sound.false in
-    cores-searched (state a.collector a.counts lent) good
+    cores-searched (lent_state a.lent.now) good
 
 -- what the library makes of none is what the definition says
 or-sought : (held : Option ℕ) → ok_or held Reason.NotFound ≡ sought_as held

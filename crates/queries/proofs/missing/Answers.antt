@@ -1,10 +1,10 @@
 -- `queries::missing` meets its contract: STATE, NOTHELD, then what the slot keeps.
 -- Assumes nothing.
+use native.Mathlib.Omega.{arith}
 use mathlib.Core.Path.{refl, sym, ap, ◌∙◌}
 use Rattle.std.specs.Prelude.{Ok}
-use native.Mathlib.Omega.{arith}
-use Rattle.slots.specs.Stores.{stores, free_slot, slot_at}
-use Rattle.collector.specs.State.{state}
+use Rattle.slots.specs.Stores.{free_slot, slot_at}
+use Rattle.collector.specs.State.{lent_state}
 use Rattle.collector.specs.laws.State.{found-among}
 use Rattle.queries.specs.Missing.{missing}
 use Rattle.queries.proofs.missing.Goals as goal
@@ -19,19 +19,17 @@ returns-in_default c =
     let good = sym c.is_sound.ensures ∙ c.if-not-is_sound.false in
     rw (good, sym c.find.ensures ∙ c.in_default.is) refl
 
-pub offset_bounds-collector-i : goal.offset_bounds-collector-i
-offset_bounds-collector-i c =
+pub offset_bounds-slots-i : goal.offset_bounds-slots-i
+offset_bounds-slots-i c =
     let a = c.args in
     let good = sym c.is_sound.ensures ∙ c.if-not-is_sound.false in
-    let s = state a.collector a.counts (stores a.header.now a.body.now a.marks.now) in
-    omega (arith, found-among a.number _ s good (sym c.find.ensures ∙ c.in-Some.is))
+    omega (arith, found-among a.number _ (lent_state a.lent.now) good (sym c.find.ensures ∙ c.in-Some.is))
 
-pub bounds-collector-i : goal.bounds-collector-i
-bounds-collector-i c =
+pub bounds-slots-i : goal.bounds-slots-i
+bounds-slots-i c =
     let a = c.args in
     let good = sym c.is_sound.ensures ∙ c.if-not-is_sound.false in
-    let s = state a.collector a.counts (stores a.header.now a.body.now a.marks.now) in
-    found-among a.number _ s good (sym c.find.ensures ∙ c.in-Some.is)
+    found-among a.number _ (lent_state a.lent.now) good (sym c.find.ensures ∙ c.in-Some.is)
 
 pub returns : goal.returns
 unfolding missing slot_at free_slot

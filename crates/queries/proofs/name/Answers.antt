@@ -2,8 +2,7 @@
 -- Assumes nothing.
 use mathlib.Core.Path.{sym, ap, ◌∙◌}
 use Rattle.header.specs.Names.{name_data}
-use Rattle.collector.specs.State.{state}
-use Rattle.slots.specs.Stores.{stores}
+use Rattle.collector.specs.State.{lent_state}
 use Rattle.collector.specs.Calls.{show}
 use Rattle.queries.specs.Questions.{name}
 use Rattle.queries.specs.laws.Theorems.{core-shown}
@@ -17,7 +16,7 @@ pub name_data-requires : goal.name_data-requires
 unfolding show
 name_data-requires c =
     let a = c.args in
-    let s = state a.collector a.counts (stores a.header.now a.body.now a.marks.now) in
+    let s = lent_state a.lent.now in
     let there = sym c.locate.ensures ∙ c.in-Ok.is in
     rw c.shown_at.ensures (rw there at (core-shown a.number _ s there))
 

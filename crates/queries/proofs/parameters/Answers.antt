@@ -7,8 +7,7 @@ use Rattle.header.specs.declared.Fields.{Fields}
 use Rattle.header.specs.declared.Refusal.{Refusal}
 use Rattle.std.proofs.lemmas.Result.{err_from_is_err_and}
 use Rattle.header.specs.Parameters.{read_header}
-use Rattle.collector.specs.State.{state}
-use Rattle.slots.specs.Stores.{stores}
+use Rattle.collector.specs.State.{lent_state}
 use Rattle.collector.specs.Calls.{show}
 use Rattle.queries.specs.Questions.{parameters}
 use Rattle.queries.specs.laws.Theorems.{core-shown}
@@ -19,7 +18,7 @@ pub read-requires : goal.read-requires
 unfolding show
 read-requires c =
     let a = c.args in
-    let s = state a.collector a.counts (stores a.header.now a.body.now a.marks.now) in
+    let s = lent_state a.lent.now in
     let there = sym c.locate.ensures ∙ c.in_ok-i.was in
     rw c.shown_at.ensures (rw there at (core-shown a.number _ s there))
 

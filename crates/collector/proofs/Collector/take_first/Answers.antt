@@ -25,11 +25,11 @@ pub take_at-requires : goal.take_at-requires
 take_at-requires c =
     let a = c.args in
     let lent = stores a.header.now a.body.now a.marks.now in
-    let o = sound-open a.self.limit a.self.count a.self.slots lent c.requires _
+    let o = sound-open a.self.now.limit a.self.now.count a.self.now.slots lent c.requires _
     (sym c.free.ensures ∙ c.in-Some.is) in
     record {
       inside = o.inside;
-      offered = rw c.fresh_slot-fresh.ensures (fresh-offered a.self.limit _ a.heard.number lent o);
+      offered = rw c.fresh_slot-fresh.ensures (fresh-offered a.self.now.limit _ a.heard.number lent o);
     }
 
 pub returns : goal.returns
@@ -37,10 +37,10 @@ unfolding take_new
 returns c =
     let a = c.args in
     let lent = stores a.header.now a.body.now a.marks.now in
-    let o = sound-open a.self.limit a.self.count a.self.slots lent c.requires _
+    let o = sound-open a.self.now.limit a.self.now.count a.self.now.slots lent c.requires _
     (sym c.free.ensures ∙ c.in-Some.is) in
     let alone = sym c.fits_alone.ensures ∙ c.if-not-fits_alone.false in
     rw (alone, sym c.free.ensures ∙ c.in-Some.is)
-    (put_as a.self _ (arrival a.heard a.repetition a.last a.bytes.now) lent
+    (put_as a.self.now _ (arrival a.heard a.repetition a.last a.bytes.now) lent
     c.fresh_slot-fresh.result (fresh_slot a.heard.number) c.take_at.ensures
     c.fresh_slot-fresh.ensures o.inside.slot)

@@ -14,7 +14,7 @@ take_segment-requires c =
     let a = c.args in
     let lent = stores a.header.now a.body.now a.marks.now in
     let good = sym c.is_sound.ensures ∙ c.if-not-is_sound.false in
-    slots-sound (state a.self a.counts lent) good
+    slots-sound (state a.self.now a.counts lent) good
 
 pub returns : goal.returns
 unfolding take_group take_segment

@@ -19,7 +19,7 @@ offset_bounds-self-i c =
     let a = c.args in
     let lent = stores a.header.now a.body.now a.marks.now in
     let found = sym c.find.ensures ∙ c.in-Some.is in
-    let o = sound-offered a.self.limit a.self.count a.self.slots lent c.requires a.heard.number _ found in
+    let o = sound-offered a.self.now.limit a.self.now.count a.self.now.slots lent c.requires a.heard.number _ found in
     omega (arith, o.inside.slot)
 
 pub bounds-self-i : goal.bounds-self-i
@@ -27,7 +27,7 @@ bounds-self-i c =
     let a = c.args in
     let lent = stores a.header.now a.body.now a.marks.now in
     let found = sym c.find.ensures ∙ c.in-Some.is in
-    let o = sound-offered a.self.limit a.self.count a.self.slots lent c.requires a.heard.number _ found in
+    let o = sound-offered a.self.now.limit a.self.now.count a.self.now.slots lent c.requires a.heard.number _ found in
     o.inside.slot
 
 pub take_at-requires : goal.take_at-requires
@@ -36,7 +36,7 @@ take_at-requires c =
     let a = c.args in
     let lent = stores a.header.now a.body.now a.marks.now in
     let found = sym c.find.ensures ∙ c.in-Some.is in
-    let o = sound-offered a.self.limit a.self.count a.self.slots lent c.requires a.heard.number _ found in
+    let o = sound-offered a.self.now.limit a.self.now.count a.self.now.slots lent c.requires a.heard.number _ found in
     record { inside = o.inside; offered = o.offered }
 
 pub returns : goal.returns
@@ -45,7 +45,7 @@ returns c =
     let a = c.args in
     let lent = stores a.header.now a.body.now a.marks.now in
     let found = sym c.find.ensures ∙ c.in-Some.is in
-    let o = sound-offered a.self.limit a.self.count a.self.slots lent c.requires a.heard.number _ found in
+    let o = sound-offered a.self.now.limit a.self.now.count a.self.now.slots lent c.requires a.heard.number _ found in
     let i = c.in-Some.i in
-    rw found (put_as a.self i (arrival a.heard a.repetition a.last a.bytes.now) lent
-    (slot_at i a.self.slots) (slot_at i a.self.slots) c.take_at.ensures refl o.inside.slot)
+    rw found (put_as a.self.now i (arrival a.heard a.repetition a.last a.bytes.now) lent
+    (slot_at i a.self.now.slots) (slot_at i a.self.now.slots) c.take_at.ensures refl o.inside.slot)

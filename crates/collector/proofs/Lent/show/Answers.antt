@@ -1,8 +1,8 @@
--- `collector::Collector::show` meets its contract: where the object is, then its part of a store.
+-- `collector::Lent::show` meets its contract: where the object is, then its part of a store.
 -- Assumes nothing.
 use mathlib.Core.Path.{sym, ◌∙◌}
 use Rattle.collector.specs.Calls.{show}
-use Rattle.collector.proofs.Collector.show.Goals as goal
+use Rattle.collector.proofs.Lent.show.Goals as goal
 
 pub returns-in_default : goal.returns-in_default
 unfolding show

@@ -1,12 +1,12 @@
--- `collector::Collector::locate` meets its contract: STATE, NOTHELD, then the stage.
+-- `collector::Lent::locate` meets its contract: STATE, NOTHELD, then the stage.
 -- Assumes nothing.
 use Rattle.collector.specs.Calls.{locate}
-use Rattle.slots.specs.Stores.{stores, free_slot, slot_at}
-use Rattle.collector.specs.State.{state}
+use Rattle.slots.specs.Stores.{free_slot, slot_at}
+use Rattle.collector.specs.State.{lent_state}
 use Rattle.collector.specs.laws.State.{found-among}
 use native.Mathlib.Omega.{arith}
 use mathlib.Core.Path.{sym, ◌∙◌}
-use Rattle.collector.proofs.Collector.locate.Goals as goal
+use Rattle.collector.proofs.Lent.locate.Goals as goal
 
 pub returns-then-not-is_sound : goal.returns-then-not-is_sound
 unfolding locate
@@ -18,19 +18,17 @@ returns-in_default c =
     let good = sym c.is_sound.ensures ∙ c.if-not-is_sound.false in
     rw (good, sym c.find.ensures ∙ c.in_default.is)
 
-pub offset_bounds-self-i : goal.offset_bounds-self-i
-offset_bounds-self-i c =
+pub offset_bounds-slots-i : goal.offset_bounds-slots-i
+offset_bounds-slots-i c =
     let a = c.args in
     let good = sym c.is_sound.ensures ∙ c.if-not-is_sound.false in
-    let s = state a.self a.counts (stores a.header.now a.body.now a.marks.now) in
-    omega (arith, found-among a.number _ s good (sym c.find.ensures ∙ c.in-Some.is))
+    omega (arith, found-among a.number _ (lent_state a.self.now) good (sym c.find.ensures ∙ c.in-Some.is))
 
 pub bounds : goal.bounds
 bounds c =
     let a = c.args in
     let good = sym c.is_sound.ensures ∙ c.if-not-is_sound.false in
-    let s = state a.self a.counts (stores a.header.now a.body.now a.marks.now) in
-    found-among a.number _ s good (sym c.find.ensures ∙ c.in-Some.is)
+    found-among a.number _ (lent_state a.self.now) good (sym c.find.ensures ∙ c.in-Some.is)
 
 pub returns-in-Free : goal.returns-in-Free
 unfolding locate slot_at free_slot
