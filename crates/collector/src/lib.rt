@@ -393,7 +393,7 @@ impl Collector {
 
     // Drops a number, by value.
     pub fn dropped(
-        self,
+        mut self,
         counts: Counts,
         number: u16,
         header: &[u8],
@@ -409,13 +409,8 @@ impl Collector {
         let Some(i) = slots::find(number, self.count, &self.slots) else {
             return self.answered(counts, Answer::Denied(Reason::NotHeld));
         };
-        let all = slots::drop_at(i, self.slots, marks);
-        let next = Collector {
-            limit: self.limit,
-            count: self.count,
-            slots: all,
-        };
-        next.answered(counts, Answer::Dropped(number))
+        slots::drop_at(i, &mut self.slots, marks);
+        self.answered(counts, Answer::Dropped(number))
     }
 }
 

@@ -236,15 +236,14 @@ pub fn take_into(
 }
 
 // Slot i is dropped: its marks are 0 and it is free; its store bytes stay.
-pub fn drop_at(i: usize, mut slots: [Slot; SLOTS_MOST], marks: &mut [u8]) -> [Slot; SLOTS_MOST]
+pub fn drop_at(i: usize, slots: &mut [Slot; SLOTS_MOST], marks: &mut [u8])
     requires { (i < slots_most) × (i * slot_marks + slot_marks ≤ length marks.old) }
-    ensures { record { slots = result; marks = marks.new } ≡ drop_at i slots marks.old }
+    ensures { record { slots = slots.new; marks = marks.new } ≡ drop_at i slots.old marks.old }
 {
     let start = i * SLOT_MARKS;
     let end = start + SLOT_MARKS;
     octets::clear(&mut marks[start..end]);
     slots[i] = free_slot();
-    slots
 }
 
 // The first bytes of share i of a store, or nothing where the store ends before them.

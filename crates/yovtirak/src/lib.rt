@@ -93,25 +93,24 @@ fn changes(answer: Answer) -> bool
 }
 
 // The state's words are written only where it is another one now.
-fn keep(state: &mut [u64], changed: bool, next: Collector)
+fn keep(state: &mut [u64], changed: bool, next: &Collector)
     requires { length state.old ≡ 178 }
-    ensures { state.new ≡ pick changed (words_of next) state.old }
+    ensures { state.new ≡ pick changed (words_of next.now) state.old }
 {
     if changed {
         layout::put_collector(state, next);
     }
 }
 
-// What a call leaves in words, and its answer's word. Inlined, it puts no copy of the reply on the stack.
-#[inline(always)]
-fn leave(state: &mut [u64], counts: &mut [u32], after: Reply) -> u64
+// What a call leaves in words, and its answer's word.
+fn leave(state: &mut [u64], counts: &mut [u32], after: &Reply) -> u64
     requires { (length state.old ≡ 178) × (length counts.old ≡ 5) }
-    ensures { (result ≡ answer_word after.answer)
-        × (state.new ≡ pick (changes after.answer) (words_of after.collector) state.old)
-        × (counts.new ≡ count_words after.counts) }
+    ensures { (result ≡ answer_word after.now.answer)
+        × (state.new ≡ pick (changes after.now.answer) (words_of after.now.collector) state.old)
+        × (counts.new ≡ count_words after.now.counts) }
 {
     layout::put_counts(counts, after.counts);
-    keep(state, changes(after.answer), after.collector);
+    keep(state, changes(after.answer), &after.collector);
     answer_word(after.answer)
 }
 
@@ -150,7 +149,7 @@ pub extern "C" fn yovtirak_open(
     let before = layout::counts_from(counts);
     let opened = Collector::opened(limit, slots, before, header, body, marks);
     layout::put_counts(counts, opened.counts);
-    keep(state, opened.opening.is_ok(), opened.collector);
+    keep(state, opened.opening.is_ok(), &opened.collector);
     opening_word(opened.opening)
 }
 
@@ -173,7 +172,7 @@ pub extern "C" fn yovtirak_take(
         return STATE;
     };
     let after = collector.taken(before, group, header, body, marks);
-    leave(state, counts, after)
+    leave(state, counts, &after)
 }
 
 // Drops a number.
@@ -195,16 +194,15 @@ pub extern "C" fn yovtirak_drop(
         return STATE;
     };
     let after = collector.dropped(before, number, header, body, marks);
-    leave(state, counts, after)
+    leave(state, counts, &after)
 }
 
-fn stage_at(slots: [Slot; Collector::SLOTS_MOST], i: usize) -> Stage
-    ensures { result ≡ (slot_at i slots).stage }
+fn stage_at(slots: &[Slot; Collector::SLOTS_MOST], i: usize) -> Stage
+    ensures { result ≡ (slot_at i slots.now).stage }
 {
-    if Collector::SLOTS_MOST <= i {
+    let Some(slot) = slots.get(i) else {
         return Stage::Free;
-    }
-    let slot = slots[i];
+    };
     slot.stage
 }
 
@@ -248,7 +246,7 @@ pub extern "C" fn yovtirak_finished(
     };
     match lent.locate(number) {
         Ok(i) => {
-            put_place(place, i, stage_at(collector.slots, i));
+            put_place(place, i, stage_at(&collector.slots, i));
             0
         }
         Err(why) => reason_word(why),
