@@ -244,13 +244,14 @@ impl Collector {
         requires { place_of change < slots_most }
         ensures { (lent : Stores) → reply result lent ≡ left_by change (state self counts lent) }
     {
-        match change {
-            Change::Nothing(answer) => self.answered(counts, answer),
+        let answer = match change {
+            Change::Nothing(answer) => answer,
             Change::At(i, slot, answer) => {
                 self.slots[i] = slot;
-                self.answered(counts, answer)
+                answer
             }
-        }
+        };
+        self.answered(counts, answer)
     }
 
     // A segment whose number holds no slot.

@@ -93,7 +93,9 @@ pub fn free(count: usize, slots: &[Slot; SLOTS_MOST]) -> Option<usize>
     slots.iter().take(count).position(|slot| is_free(slot))
 }
 
-// Whether a segment fits some object and cut by itself: what comes of it where nothing is in yet.
+// Whether a segment fits some object and cut by itself: what comes of it where nothing is in yet. Not inlined: its
+// marks are off the stack again before anything is stored.
+#[inline(never)]
 pub fn fits_alone(part: Part, limit: usize, segment: &Segment<'_>) -> bool
     ensures { result ≡ fits_alone part limit (sent segment.now) }
 {

@@ -102,12 +102,13 @@ fn keep(state: &mut [u64], changed: bool, next: &Collector)
     }
 }
 
-// What a call leaves in words, and its answer's word.
-fn leave(state: &mut [u64], counts: &mut [u32], after: &Reply) -> u64
+// What a call leaves in words, and its answer's word. Inlined, it puts no copy of the reply on the stack.
+#[inline(always)]
+fn leave(state: &mut [u64], counts: &mut [u32], after: Reply) -> u64
     requires { (length state.old ≡ 178) × (length counts.old ≡ 5) }
-    ensures { (result ≡ answer_word after.now.answer)
-        × (state.new ≡ pick (changes after.now.answer) (words_of after.now.collector) state.old)
-        × (counts.new ≡ count_words after.now.counts) }
+    ensures { (result ≡ answer_word after.answer)
+        × (state.new ≡ pick (changes after.answer) (words_of after.collector) state.old)
+        × (counts.new ≡ count_words after.counts) }
 {
     layout::put_counts(counts, after.counts);
     keep(state, changes(after.answer), &after.collector);
@@ -172,7 +173,7 @@ pub extern "C" fn yovtirak_take(
         return STATE;
     };
     let after = collector.taken(before, group, header, body, marks);
-    leave(state, counts, &after)
+    leave(state, counts, after)
 }
 
 // Drops a number.
@@ -194,7 +195,7 @@ pub extern "C" fn yovtirak_drop(
         return STATE;
     };
     let after = collector.dropped(before, number, header, body, marks);
-    leave(state, counts, &after)
+    leave(state, counts, after)
 }
 
 fn stage_at(slots: &[Slot; Collector::SLOTS_MOST], i: usize) -> Stage
