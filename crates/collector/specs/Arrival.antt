@@ -6,6 +6,7 @@ use Rattle.answer.specs.declared.Repetition.{Repetition}
 use Rattle.wire.specs.declared.Carried.{Carried}
 use Rattle.wire.specs.Reading.{bytes_in}
 use Rattle.cut.specs.Requirement.{Segment}
+use Rattle.collector.specs.declared.Arrival.{Arrival as ArrivalOf}
 
 -- a segment as it comes in: its transport number and its part, the segment itself, and what its sender meant by a
 -- repeat
@@ -19,7 +20,7 @@ pub record Arrival : Type 0 where
 abbrev pub no_repetition : Repetition
 no_repetition = record { index = 0; continuity = 0; count = 0 }
 
--- as a contract has it
+-- as a contract has it, of what is passed and of what is lent
 abbrev pub arrival : Heard → Repetition → Bool → List ℕ → Arrival
 arrival heard repetition last bytes = record {
   number = heard.number;
@@ -27,6 +28,9 @@ arrival heard repetition last bytes = record {
   segment = record { number = heard.segment; last = last; bytes = bytes };
   repetition = repetition;
 }
+
+abbrev pub arrival_of : ArrivalOf → Arrival
+arrival_of came = arrival came.heard came.repetition came.last came.bytes.now
 
 abbrev pub heard_as : Arrival → Heard
 heard_as a = record { number = a.number; part = a.part; segment = a.segment.number }

@@ -5,6 +5,7 @@
 #![tactic(auto)]
 
 ghost use Rattle.std.specs.Prelude.{◌≡◌, true, ◌<◌};
+ghost use Rattle.cut.specs.Requirement.{sent};
 ghost use Rattle.object.specs.Asked.{Offered};
 ghost use Rattle.slots.specs.Find.{find_in};
 ghost use Rattle.slots.specs.Show.{shown_of};
@@ -15,7 +16,7 @@ ghost use Rattle.collector.specs.Bounds.{bounds};
 ghost use Rattle.collector.specs.State.{state, lent_state, reply, start, opened};
 ghost use Rattle.collector.specs.Calls.{answer_as, into_held, take_segment, take_group, drop_number, open_with, locate, show, sound, answering};
 ghost use Rattle.collector.specs.Changes.{place_of, left_by, offered_at};
-ghost use Rattle.collector.specs.Arrival.{no_repetition, arrival};
+ghost use Rattle.collector.specs.Arrival.{no_repetition, arrival, arrival_of};
 
 use answer::{Answer, Heard, Part, Reason, Repetition};
 use counts::Counts;
@@ -97,15 +98,34 @@ fn answer_as(outcome: Outcome, heard: Heard, repetition: Repetition) -> Answer
     }
 }
 
+// A segment as it comes in, by itself or carried by a group: which one it is, what its sender meant by a repeat, whether
+// it is the last one of its part, and its bytes.
+#[derive(Clone, Copy)]
+struct Arrival<'a> {
+    heard: Heard,
+    repetition: Repetition,
+    last: bool,
+    bytes: &'a [u8],
+}
+
+impl<'a> Arrival<'a> {
+    fn segment(&self) -> Segment<'a>
+        ensures { sent result ≡ (arrival_of self.now).segment }
+    {
+        Segment {
+            number: self.heard.segment as usize,
+            last: self.last,
+            bytes: self.bytes,
+        }
+    }
+}
+
 // A segment is offered to a slot that stands, or is to stand, at i.
 fn take_at(
     slot: Slot,
     limit: usize,
     i: usize,
-    heard: Heard,
-    repetition: Repetition,
-    last: bool,
-    bytes: &[u8],
+    came: &Arrival<'_>,
     header: &mut [u8],
     body: &mut [u8],
     marks: &mut [u8],
@@ -113,18 +133,22 @@ fn take_at(
     requires inside { Inside limit i (stores header.old body.old marks.old) }
     requires offered { Offered limit slot (lent_at limit i (stores header.old body.old marks.old)) }
     ensures { record { change = result; stores = stores header.new body.new marks.new }
-        ≡ offered_at limit i (arrival heard repetition last bytes.now) slot
-        (stores header.old body.old marks.old) }
+        ≡ offered_at limit i (arrival_of came.now) slot (stores header.old body.old marks.old) }
 {
-    let segment = Segment {
-        number: heard.segment as usize,
-        last,
-        bytes,
-    };
-    let took = slots::take_into(slot, heard.part, limit, i, &segment, header, body, marks);
+    let segment = came.segment();
+    let took = slots::take_into(
+        slot,
+        came.heard.part,
+        limit,
+        i,
+        &segment,
+        header,
+        body,
+        marks,
+    );
     let outcome = took.outcome;
     let after = took.slot;
-    Change::At(i, after, answer_as(outcome, heard, repetition))
+    Change::At(i, after, answer_as(outcome, came.heard, came.repetition))
 }
 
 impl Collector {
@@ -257,10 +281,7 @@ impl Collector {
     // A segment whose number holds no slot.
     fn take_first(
         &self,
-        heard: Heard,
-        repetition: Repetition,
-        last: bool,
-        bytes: &[u8],
+        came: &Arrival<'_>,
         header: &mut [u8],
         body: &mut [u8],
         marks: &mut [u8],
@@ -268,33 +289,23 @@ impl Collector {
         requires { sound_slots self.now.limit self.now.count self.now.slots (stores header.old body.old marks.old) ≡ true }
         ensures { (place_of result < slots_most) × ((counts : Counts)
             → left_by result (state self.now counts (stores header.new body.new marks.new))
-            ≡ into_held None (arrival heard repetition last bytes.now)
+            ≡ into_held None (arrival_of came.now)
             (state self.now counts (stores header.old body.old marks.old))) }
     {
-        let segment = Segment {
-            number: heard.segment as usize,
-            last,
-            bytes,
-        };
-        if !slots::fits_alone(heard.part, self.limit, &segment) {
-            return Change::Nothing(Answer::Conflict(heard));
+        if !slots::fits_alone(came.heard.part, self.limit, &came.segment()) {
+            return Change::Nothing(Answer::Conflict(came.heard));
         }
         let Some(i) = slots::free(self.count, &self.slots) else {
-            return Change::Nothing(Answer::Full(heard));
+            return Change::Nothing(Answer::Full(came.heard));
         };
-        let fresh = slots::fresh_slot(heard.number);
-        take_at(
-            fresh, self.limit, i, heard, repetition, last, bytes, header, body, marks,
-        )
+        let fresh = slots::fresh_slot(came.heard.number);
+        take_at(fresh, self.limit, i, came, header, body, marks)
     }
 
     // What a segment comes to, in a sound state.
     fn take_segment(
         &self,
-        heard: Heard,
-        repetition: Repetition,
-        last: bool,
-        bytes: &[u8],
+        came: &Arrival<'_>,
         header: &mut [u8],
         body: &mut [u8],
         marks: &mut [u8],
@@ -302,17 +313,14 @@ impl Collector {
         requires { sound_slots self.now.limit self.now.count self.now.slots (stores header.old body.old marks.old) ≡ true }
         ensures { (place_of result < slots_most) × ((counts : Counts)
             → left_by result (state self.now counts (stores header.new body.new marks.new))
-            ≡ into_held (find_in heard.number self.now.count self.now.slots)
-            (arrival heard repetition last bytes.now)
+            ≡ into_held (find_in came.now.heard.number self.now.count self.now.slots)
+            (arrival_of came.now)
             (state self.now counts (stores header.old body.old marks.old))) }
     {
-        let Some(i) = slots::find(heard.number, self.count, &self.slots) else {
-            return self.take_first(heard, repetition, last, bytes, header, body, marks);
+        let Some(i) = slots::find(came.heard.number, self.count, &self.slots) else {
+            return self.take_first(came, header, body, marks);
         };
-        let old = self.slots[i];
-        take_at(
-            old, self.limit, i, heard, repetition, last, bytes, header, body, marks,
-        )
+        take_at(self.slots[i], self.limit, i, came, header, body, marks)
     }
 
     // Takes a segment that came without a group, by value: its transport number, part and segment number,
@@ -334,8 +342,13 @@ impl Collector {
         if !self.is_sound(counts, header, body, marks) {
             return self.answered(counts, Answer::Denied(Reason::State));
         }
-        let repetition = Repetition::default();
-        let change = self.take_segment(heard, repetition, last, bytes, header, body, marks);
+        let came = Arrival {
+            heard,
+            repetition: Repetition::default(),
+            last,
+            bytes,
+        };
+        let change = self.take_segment(&came, header, body, marks);
         self.changed(counts, change)
     }
 
@@ -364,15 +377,13 @@ impl Collector {
         };
         let start = carried.bytes.start;
         let end = start + carried.bytes.length;
-        self.take_segment(
-            carried.heard,
-            carried.repetition,
-            carried.last,
-            &group[start..end],
-            header,
-            body,
-            marks,
-        )
+        let came = Arrival {
+            heard: carried.heard,
+            repetition: carried.repetition,
+            last: carried.last,
+            bytes: &group[start..end],
+        };
+        self.take_segment(&came, header, body, marks)
     }
 
     // Takes a group, by value.

@@ -28,5 +28,5 @@ pub returns : goal.returns
 unfolding take_segment
 returns c =
     let good = sym c.is_sound.ensures ∙ c.if-not-is_sound.false in
-    let none : c.default-repetition.result ≡ no_repetition = search rules in
+    let none : c.default.result ≡ no_repetition = search rules in
     rw (good, ← none) (c.changed.ensures _ ∙ c.take_segment-change.ensures.1 c.args.counts)

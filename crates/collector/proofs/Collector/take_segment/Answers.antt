@@ -6,7 +6,7 @@ use Rattle.slots.specs.Stores.{stores, free_slot, slot_at}
 use Rattle.slots.specs.Take.{take_at}
 use Rattle.slots.specs.laws.Ready.{sound-offered}
 use Rattle.collector.proofs.Laws.{put_as}
-use Rattle.collector.specs.Arrival.{arrival}
+use Rattle.collector.specs.Arrival.{arrival_of}
 use Rattle.collector.proofs.Collector.take_segment.Goals as goal
 
 pub returns-in_default : goal.returns-in_default
@@ -19,7 +19,7 @@ offset_bounds-self-i c =
     let a = c.args in
     let lent = stores a.header.now a.body.now a.marks.now in
     let found = sym c.find.ensures ∙ c.in-Some.is in
-    let o = sound-offered a.self.now.limit a.self.now.count a.self.now.slots lent c.requires a.heard.number _ found in
+    let o = sound-offered a.self.now.limit a.self.now.count a.self.now.slots lent c.requires a.came.now.heard.number _ found in
     omega (arith, o.inside.slot)
 
 pub bounds-self-i : goal.bounds-self-i
@@ -27,7 +27,7 @@ bounds-self-i c =
     let a = c.args in
     let lent = stores a.header.now a.body.now a.marks.now in
     let found = sym c.find.ensures ∙ c.in-Some.is in
-    let o = sound-offered a.self.now.limit a.self.now.count a.self.now.slots lent c.requires a.heard.number _ found in
+    let o = sound-offered a.self.now.limit a.self.now.count a.self.now.slots lent c.requires a.came.now.heard.number _ found in
     o.inside.slot
 
 pub take_at-requires : goal.take_at-requires
@@ -36,7 +36,7 @@ take_at-requires c =
     let a = c.args in
     let lent = stores a.header.now a.body.now a.marks.now in
     let found = sym c.find.ensures ∙ c.in-Some.is in
-    let o = sound-offered a.self.now.limit a.self.now.count a.self.now.slots lent c.requires a.heard.number _ found in
+    let o = sound-offered a.self.now.limit a.self.now.count a.self.now.slots lent c.requires a.came.now.heard.number _ found in
     record { inside = o.inside; offered = o.offered }
 
 pub returns : goal.returns
@@ -45,7 +45,7 @@ returns c =
     let a = c.args in
     let lent = stores a.header.now a.body.now a.marks.now in
     let found = sym c.find.ensures ∙ c.in-Some.is in
-    let o = sound-offered a.self.now.limit a.self.now.count a.self.now.slots lent c.requires a.heard.number _ found in
+    let o = sound-offered a.self.now.limit a.self.now.count a.self.now.slots lent c.requires a.came.now.heard.number _ found in
     let i = c.in-Some.i in
-    rw found (put_as a.self.now i (arrival a.heard a.repetition a.last a.bytes.now) lent
+    rw found (put_as a.self.now i (arrival_of a.came.now) lent
     (slot_at i a.self.now.slots) (slot_at i a.self.now.slots) c.take_at.ensures refl o.inside.slot)
