@@ -50,13 +50,9 @@ pub fn find(lent: &Lent<'_>, asked: &[u8]) -> Result<u16, Reason>
     if !lent.is_sound() {
         return Err(Reason::State);
     }
-    name_search::find(
-        asked,
-        lent.collector.count,
-        &lent.collector.slots,
-        lent.header,
-    )
-    .ok_or(Reason::NotFound)
+    let collector = lent.collector;
+    let found = name_search::find(asked, collector.count, &collector.slots, lent.header);
+    found.ok_or(Reason::NotFound)
 }
 
 // The number of bytes that a slot keeps so: 1 more, or 0 while it isn't known.

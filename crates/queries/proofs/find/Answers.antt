@@ -13,8 +13,8 @@ pub returns-then-not-is_sound : goal.returns-then-not-is_sound
 unfolding find
 returns-then-not-is_sound c = rw (sym c.is_sound.ensures ∙ c.if-not-is_sound.true)
 
-pub find-requires : goal.find-requires
-find-requires c =
+pub find-found-requires : goal.find-found-requires
+find-found-requires c =
     let a = c.args in
     let good = sym c.is_sound.ensures ∙ c.if-not-is_sound.false in
     cores-searched (lent_state a.lent.now) good
@@ -28,4 +28,4 @@ pub returns : goal.returns
 unfolding find
 returns c =
     let good = sym c.is_sound.ensures ∙ c.if-not-is_sound.false in
-    rw good (c.ok_or.ensures.value ∙ or-sought c.find.result ∙ ap sought_as c.find.ensures)
+    rw good (c.ok_or.ensures.value ∙ or-sought c.find-found.result ∙ ap sought_as c.find-found.ensures)
