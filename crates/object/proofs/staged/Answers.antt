@@ -5,6 +5,7 @@ use native.Mathlib.Omega.{arith}
 use Rattle.answer.specs.declared.Part.TheVariants.{Header}
 use Rattle.object.specs.Take.{slot_with}
 use Rattle.object.specs.laws.Inside.{marks-length}
+use Rattle.object.specs.Parts.{parts_of}
 use Rattle.object.specs.Stage.{core_in, stage_of, missing_in}
 use Rattle.object.proofs.core_from.Reads as core-from-reads
 use Rattle.object.proofs.decision.missing.Reads as missing-reads
@@ -22,7 +23,7 @@ core_from-core-requires c = rw c.marks_of.ensures
     ))
 
 pub returns : goal.returns
-unfolding slot_with stage_of missing_in core_in
+unfolding slot_with stage_of missing_in core_in parts_of
 returns c =
     let pre = c.requires.0 in
     let core = rw c.marks_of.ensures at
