@@ -25,10 +25,6 @@ use Rattle.object.specs.laws.Inside.{marks-bits, right-small}
 use Rattle.object.proofs.soundness_of.Goals.{then-core_fits, else-core_fits, then-sound, else-sound, then-sound-2, else-sound-2, then-eq, else-eq}
 use Rattle.object.proofs.soundness_of.Goals as goal
 
-pub returns-then-not-marks_right : goal.returns-then-not-marks_right
-unfolding soundness sound_slot sound_parts parts_of core_in
-returns-then-not-marks_right c = rw (sym c.marks_right.ensures ∙ c.if-not-marks_right.true)
-
 pub sound-requires : goal.sound-requires
 sound-requires c = rw (c.tally_of-held.ensures.0, c.marks_of.ensures, c.bounds_of-bounds.ensures)
     (counted Header c.args.limit c.tally_of-held.result.core c.args.marks.now c.requires

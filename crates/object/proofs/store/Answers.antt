@@ -28,9 +28,6 @@ with-new-requires c =
     c.args.part
     c.requires
 
-pub slice_bounds-put-end : goal.slice_bounds-put-end
-slice_bounds-put-end c = omega (arith, c.requires.marks)
-
 pub slice_bounds-put-end-in-Header : goal.slice_bounds-put-end-in-Header
 slice_bounds-put-end-in-Header c = simp length-take (omega (arith, c.requires.marks))
 
