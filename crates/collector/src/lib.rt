@@ -244,13 +244,14 @@ impl Collector {
         requires { place_of change < slots_most }
         ensures { (lent : Stores) → reply result lent ≡ left_by change (state self counts lent) }
     {
-        match change {
-            Change::Nothing(answer) => self.answered(counts, answer),
+        let answer = match change {
+            Change::Nothing(answer) => answer,
             Change::At(i, slot, answer) => {
                 self.slots[i] = slot;
-                self.answered(counts, answer)
+                answer
             }
-        }
+        };
+        self.answered(counts, answer)
     }
 
     // A segment whose number holds no slot.
@@ -393,7 +394,7 @@ impl Collector {
 
     // Drops a number, by value.
     pub fn dropped(
-        self,
+        mut self,
         counts: Counts,
         number: u16,
         header: &[u8],
@@ -409,13 +410,8 @@ impl Collector {
         let Some(i) = slots::find(number, self.count, &self.slots) else {
             return self.answered(counts, Answer::Denied(Reason::NotHeld));
         };
-        let all = slots::drop_at(i, self.slots, marks);
-        let next = Collector {
-            limit: self.limit,
-            count: self.count,
-            slots: all,
-        };
-        next.answered(counts, Answer::Dropped(number))
+        slots::drop_at(i, &mut self.slots, marks);
+        self.answered(counts, Answer::Dropped(number))
     }
 }
 

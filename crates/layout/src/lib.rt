@@ -171,9 +171,9 @@ fn slot_words(slot: Slot) -> [u64; SLOT]
 }
 
 // The collector's state, into the words.
-pub fn put_collector(words: &mut [u64], collector: Collector)
+pub fn put_collector(words: &mut [u64], collector: &Collector)
     requires { length words.old ≡ 178 }
-    ensures { words.new ≡ words_of collector }
+    ensures { words.new ≡ words_of collector.now }
 {
     words[0] = collector.limit as u64;
     words[1] = collector.count as u64;

@@ -66,8 +66,8 @@ unfolding largest_of
 largest-none [] h = refl
 largest-none (b ∷ marks) h = omega (arith, largest-none marks (omega (arith, h)), h)
 
-pub right-largest : (marks : List ℕ) → eqb (largest_of marks) 1 ≡ marks_right marks
-right-largest marks = go (dec_le (largest_of marks) 1)
+pub right_largest : (marks : List ℕ) → eqb (largest_of marks) 1 ≡ marks_right marks
+right_largest marks = go (dec_le (largest_of marks) 1)
   where
     some : largest_of marks ≤ 1 → Dec (largest_of marks ≡ 1) → eqb (largest_of marks) 1 ≡ leb 1 (sum_of marks)
     some h (yes d) =

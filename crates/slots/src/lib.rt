@@ -93,7 +93,9 @@ pub fn free(count: usize, slots: &[Slot; SLOTS_MOST]) -> Option<usize>
     slots.iter().take(count).position(|slot| is_free(slot))
 }
 
-// Whether a segment fits some object and cut by itself: what comes of it where nothing is in yet.
+// Whether a segment fits some object and cut by itself: what comes of it where nothing is in yet. Not inlined: its
+// marks are off the stack again before anything is stored.
+#[inline(never)]
 pub fn fits_alone(part: Part, limit: usize, segment: &Segment<'_>) -> bool
     ensures { result ≡ fits_alone part limit (sent segment.now) }
 {
@@ -236,15 +238,14 @@ pub fn take_into(
 }
 
 // Slot i is dropped: its marks are 0 and it is free; its store bytes stay.
-pub fn drop_at(i: usize, mut slots: [Slot; SLOTS_MOST], marks: &mut [u8]) -> [Slot; SLOTS_MOST]
+pub fn drop_at(i: usize, slots: &mut [Slot; SLOTS_MOST], marks: &mut [u8])
     requires { (i < slots_most) × (i * slot_marks + slot_marks ≤ length marks.old) }
-    ensures { record { slots = result; marks = marks.new } ≡ drop_at i slots marks.old }
+    ensures { record { slots = slots.new; marks = marks.new } ≡ drop_at i slots.old marks.old }
 {
     let start = i * SLOT_MARKS;
     let end = start + SLOT_MARKS;
     octets::clear(&mut marks[start..end]);
     slots[i] = free_slot();
-    slots
 }
 
 // The first bytes of share i of a store, or nothing where the store ends before them.

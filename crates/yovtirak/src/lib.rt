@@ -93,9 +93,9 @@ fn changes(answer: Answer) -> bool
 }
 
 // The state's words are written only where it is another one now.
-fn keep(state: &mut [u64], changed: bool, next: Collector)
+fn keep(state: &mut [u64], changed: bool, next: &Collector)
     requires { length state.old ≡ 178 }
-    ensures { state.new ≡ pick changed (words_of next) state.old }
+    ensures { state.new ≡ pick changed (words_of next.now) state.old }
 {
     if changed {
         layout::put_collector(state, next);
@@ -111,7 +111,7 @@ fn leave(state: &mut [u64], counts: &mut [u32], after: Reply) -> u64
         × (counts.new ≡ count_words after.counts) }
 {
     layout::put_counts(counts, after.counts);
-    keep(state, changes(after.answer), after.collector);
+    keep(state, changes(after.answer), &after.collector);
     answer_word(after.answer)
 }
 
@@ -150,7 +150,7 @@ pub extern "C" fn yovtirak_open(
     let before = layout::counts_from(counts);
     let opened = Collector::opened(limit, slots, before, header, body, marks);
     layout::put_counts(counts, opened.counts);
-    keep(state, opened.opening.is_ok(), opened.collector);
+    keep(state, opened.opening.is_ok(), &opened.collector);
     opening_word(opened.opening)
 }
 
@@ -198,13 +198,12 @@ pub extern "C" fn yovtirak_drop(
     leave(state, counts, after)
 }
 
-fn stage_at(slots: [Slot; Collector::SLOTS_MOST], i: usize) -> Stage
-    ensures { result ≡ (slot_at i slots).stage }
+fn stage_at(slots: &[Slot; Collector::SLOTS_MOST], i: usize) -> Stage
+    ensures { result ≡ (slot_at i slots.now).stage }
 {
-    if Collector::SLOTS_MOST <= i {
+    let Some(slot) = slots.get(i) else {
         return Stage::Free;
-    }
-    let slot = slots[i];
+    };
     slot.stage
 }
 
@@ -248,7 +247,7 @@ pub extern "C" fn yovtirak_finished(
     };
     match lent.locate(number) {
         Ok(i) => {
-            put_place(place, i, stage_at(collector.slots, i));
+            put_place(place, i, stage_at(&collector.slots, i));
             0
         }
         Err(why) => reason_word(why),

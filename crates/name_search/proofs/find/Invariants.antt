@@ -16,5 +16,5 @@ decreases-parameters l = length l.header - l.at
 
 abbrev pub invariant-slots : goal.invariant-slots
 invariant-slots l =
-    found_by_name l.asked l.count l.fn.slots.now l.store
+    found_by_name l.asked l.count l.fn.slots l.store
     ≡ lower l.lowest (lowest_from l.asked l.i (drop l.i l.slot-items) l.store)

@@ -25,10 +25,6 @@ use Rattle.object.specs.laws.Inside.{marks-bits, right-small}
 use Rattle.object.proofs.soundness_of.Goals.{then-core_fits, else-core_fits, then-sound, else-sound, then-sound-2, else-sound-2, then-eq, else-eq}
 use Rattle.object.proofs.soundness_of.Goals as goal
 
-pub returns-then-not-marks_right : goal.returns-then-not-marks_right
-unfolding soundness sound_slot sound_parts parts_of core_in
-returns-then-not-marks_right c = rw (sym c.marks_right.ensures ∙ c.if-not-marks_right.true)
-
 pub missing-requires : goal.missing-requires
 missing-requires c =
     let a = c.args in

@@ -19,14 +19,14 @@ returns-in_default c =
     let good = sym c.is_sound.ensures ∙ c.if-not-is_sound.false in
     rw (good, sym c.find.ensures ∙ c.in_default.is) refl
 
-pub offset_bounds-slots-i : goal.offset_bounds-slots-i
-offset_bounds-slots-i c =
+pub offset_bounds-lent-i : goal.offset_bounds-lent-i
+offset_bounds-lent-i c =
     let a = c.args in
     let good = sym c.is_sound.ensures ∙ c.if-not-is_sound.false in
     omega (arith, found-among a.number _ (lent_state a.lent.now) good (sym c.find.ensures ∙ c.in-Some.is))
 
-pub bounds-slots-i : goal.bounds-slots-i
-bounds-slots-i c =
+pub bounds-lent-i : goal.bounds-lent-i
+bounds-lent-i c =
     let a = c.args in
     let good = sym c.is_sound.ensures ∙ c.if-not-is_sound.false in
     found-among a.number _ (lent_state a.lent.now) good (sym c.find.ensures ∙ c.in-Some.is)

@@ -8,5 +8,5 @@ use Rattle.slots.proofs.sound.Given as goal
 
 abbrev pub invariant-loop-i : goal.invariant-loop-i
 invariant-loop-i l =
-    sound_slots l.limit l.count l.slots.now (stores l.header l.body l.marks)
-    ≡ right_from l.limit l.i (drop l.i (take l.count l.slots.now)) (stores l.header l.body l.marks)
+    sound_slots l.limit l.count l.slots (stores l.header l.body l.marks)
+    ≡ right_from l.limit l.i (drop l.i (take l.count l.slots)) (stores l.header l.body l.marks)

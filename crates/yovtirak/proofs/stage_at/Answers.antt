@@ -1,19 +1,18 @@
--- `yovtirak::stage_at` meets its contract.
+-- `yovtirak::stage_at` meets its contract: past the slots there is a free one.
 -- Assumes nothing.
-use mathlib.Core.Path.{refl}
-use Rattle.slots.specs.Stores.{slot_at, free_slot}
-use Prim.Native.Nat.{◌≤◌}
+use mathlib.Core.Path.{◌≡◌, refl, sym, ap}
 use native.Mathlib.Omega.{arith}
-use lib.ListN.{length, get_or-eq_default}
+use Rattle.object.specs.declared.Slot.{Slot}
+use Rattle.slots.specs.Stores.{free_slot, slot_at}
 use Rattle.yovtirak.proofs.stage_at.Goals as goal
 
-pub returns-then-i-ge-SLOTS_MOST : goal.returns-then-i-ge-SLOTS_MOST
+pub returns-in_default : goal.returns-in_default
 unfolding slot_at free_slot
-returns-then-i-ge-SLOTS_MOST c =
-    let a = c.args in
-    let past : length a.slots ≤ a.i = omega arith in
-    rw (get_or-eq_default a.slots free_slot past) refl
+returns-in_default c =
+    let past : slot_at c.args.i c.args.slots.now ≡ free_slot =
+    sym (c.in_default.ensures.lookup.4 (omega arith) free_slot) in
+    rw past refl
 
 pub returns : goal.returns
 unfolding slot_at free_slot
-returns c = refl
+returns c = ap (λ (slot : Slot). slot.stage) (c.in-Some.ensures.lookup.4 (omega arith) free_slot)

@@ -1,7 +1,9 @@
 -- `collector::Collector::changed` meets its contract: nothing changes, or one slot does.
 -- Assumes nothing.
+use mathlib.Core.Path.{refl, ◌∙◌}
 use borrow.Author.Rules.{rules}
 use Rattle.collector.proofs.Collector.changed.Goals as goal
+use Rattle.collector.proofs.Collector.changed.Goals.{in-Nothing, in-At}
 
 pub offset_bounds-self-i : goal.offset_bounds-self-i
 offset_bounds-self-i c = let inside = rw c.in-At.is at c.requires in search rules
@@ -9,8 +11,8 @@ offset_bounds-self-i c = let inside = rw c.in-At.is at c.requires in search rule
 pub bounds-self-i : goal.bounds-self-i
 bounds-self-i c = rw c.in-At.is at c.requires
 
-pub returns-in-Nothing : goal.returns-in-Nothing
-returns-in-Nothing c = rw c.in-Nothing.is c.answered.ensures
-
-pub returns-in-At : goal.returns-in-At
-returns-in-At c = rw c.in-At.is c.answered-in-At.ensures
+pub returns : goal.returns
+returns c = λ lent. c.answered.ensures lent ∙ elim c.match-change.branch [
+  | in-Nothing w ↦ rw (w.self-is, w.answer-is, w.in-Nothing.is) refl
+  | in-At w ↦ rw (w.self-is, w.answer-is, w.in-At.is) refl
+]

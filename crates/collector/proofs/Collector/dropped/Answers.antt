@@ -23,8 +23,8 @@ returns-in_default c =
     rw (good, sym c.find.ensures ∙ c.in_default.is)
     (c.answered-in_default.ensures lent)
 
-pub drop_at-all-requires : goal.drop_at-all-requires
-drop_at-all-requires c =
+pub drop_at-requires : goal.drop_at-requires
+drop_at-requires c =
     let a = c.args in
     let lent = stores a.header.now a.body.now a.marks.now in
     let good = sym c.is_sound.ensures ∙ c.if-not-is_sound.false in
@@ -37,5 +37,5 @@ pub returns : goal.returns
 unfolding drop_number
 returns c =
     let good = sym c.is_sound.ensures ∙ c.if-not-is_sound.false in
-    rw (good, sym c.find.ensures ∙ c.in-Some.is, ← c.drop_at-all.ensures)
+    rw (good, sym c.find.ensures ∙ c.in-Some.is, ← c.drop_at.ensures)
     (c.answered-2.ensures _)

@@ -18,8 +18,8 @@ returns-in_default c =
     let good = sym c.is_sound.ensures ∙ c.if-not-is_sound.false in
     rw (good, sym c.find.ensures ∙ c.in_default.is)
 
-pub offset_bounds-slots-i : goal.offset_bounds-slots-i
-offset_bounds-slots-i c =
+pub offset_bounds-self-i : goal.offset_bounds-self-i
+offset_bounds-self-i c =
     let a = c.args in
     let good = sym c.is_sound.ensures ∙ c.if-not-is_sound.false in
     omega (arith, found-among a.number _ (lent_state a.self.now) good (sym c.find.ensures ∙ c.in-Some.is))
