@@ -4,7 +4,7 @@ use Rattle.std.specs.Prelude.{Option}
 use mathlib.Core.Path.{◌≡◌, refl, sym, ap, ◌∙◌}
 use mathlib.Core.Bool.{Bool, true}
 use mathlib.Core.List.{List, [], ◌∷◌, ◌++◌, append-nil}
-use Prim.Native.Nat.{ℕ, ◌+◌, ◌-◌, ◌≤◌}
+use Prim.Native.Nat.{ℕ, ◌-◌, ◌≤◌}
 use native.Mathlib.Decide.{ℕ_discrete, dec_le}
 use native.Mathlib.Omega.{arith}
 use lib.ListN.{length, take, drop, length-drop, drop_of_length-le}
@@ -13,25 +13,33 @@ use lib.Dec.{leb, eqb}
 use borrow.Author.Tests.{le-leb, lt-leb, leb-true, eq-eqb, ne_eqb}
 use Rattle.octets.specs.Octets.{sum_of, largest_of}
 use Rattle.answer.specs.declared.Part.{Part}
+use Rattle.answer.specs.declared.Part.TheVariants.{Header, Body}
 use Rattle.cut.specs.declared.Sizes.{Sizes}
-use Rattle.cut.specs.Requirement.{header_numbers, body_numbers}
+use Rattle.cut.specs.Requirement.{header_numbers}
 use Rattle.cut.specs.Kept.{bounds_of}
 use Rattle.part.specs.Asked.{Counted}
 use Rattle.cut.specs.laws.Decision.{both_true}
 use Rattle.object.specs.Sound.{marks_right}
 use Rattle.object.specs.laws.Inside.{bounds-numbers, numbers-most, marks-length, marks-bits}
+use Rattle.object.specs.declared.Tally.{Tally}
+use Rattle.object.specs.Asked.{total_in, Summed}
 use Rattle.object.specs.Parts.{marks_of}
 
 -- ---- a part's marks
 
-pub counted : (part : Part) (limit : ℕ) (core : Option Sizes) (marks : List ℕ)
-    → length marks ≡ header_numbers + body_numbers
-    → largest_of marks ≤ 1 → Counted (bounds_of part limit core) (sum_of (marks_of part marks)) (marks_of part marks)
-counted part limit core marks h bits = record {
-  numbers = marks-length part marks h ∙ sym (bounds-numbers part limit core);
+summed-in : (part : Part) (tally : Tally) (marks : List ℕ) → Summed Header tally.headers tally.bodies marks
+    → total_in part tally ≡ sum_of (marks_of part marks)
+summed-in Header tally marks s = s.ours
+summed-in Body tally marks s = s.theirs
+
+pub counted : (part : Part) (limit : ℕ) (core : Option Sizes) (tally : Tally) (marks : List ℕ)
+    → Summed Header tally.headers tally.bodies marks → largest_of marks ≤ 1
+    → Counted (bounds_of part limit core) (total_in part tally) (marks_of part marks)
+counted part limit core tally marks s bits = record {
+  numbers = marks-length part marks s.long ∙ sym (bounds-numbers part limit core);
   few = omega (arith, bounds-numbers part limit core, numbers-most part);
   bits = marks-bits part marks bits;
-  sum = refl;
+  sum = summed-in part tally marks s;
 }
 
 -- marks that are right are 0 or 1
@@ -58,8 +66,8 @@ unfolding largest_of
 largest-none [] h = refl
 largest-none (b ∷ marks) h = omega (arith, largest-none marks (omega (arith, h)), h)
 
-pub right-largest : (marks : List ℕ) → eqb (largest_of marks) 1 ≡ marks_right marks
-right-largest marks = go (dec_le (largest_of marks) 1)
+pub right_largest : (marks : List ℕ) → eqb (largest_of marks) 1 ≡ marks_right marks
+right_largest marks = go (dec_le (largest_of marks) 1)
   where
     some : largest_of marks ≤ 1 → Dec (largest_of marks ≡ 1) → eqb (largest_of marks) 1 ≡ leb 1 (sum_of marks)
     some h (yes d) =

@@ -10,7 +10,6 @@ use Rattle.cut.specs.MissingKept.{missing_by}
 use Rattle.cut.specs.Lists.{pick}
 use Rattle.part.specs.Memory.{Memory}
 use Rattle.object.specs.declared.Stage.{Stage}
-use Rattle.object.specs.declared.Stage.TheVariants as Stage
 use Rattle.object.specs.Parts.{Parts}
 
 -- what header segment 0 says, once it is in

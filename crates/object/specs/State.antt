@@ -10,7 +10,6 @@ use Rattle.cut.specs.Lists.{Each}
 use Rattle.object.specs.declared.Slot.{Slot}
 use Rattle.part.specs.Memory.{held_in}
 use Rattle.object.specs.declared.Stage.{Stage}
-use Rattle.object.specs.declared.Stage.TheVariants as Stage
 use Rattle.object.specs.Parts.{Lent, parts_of, memory_of}
 
 -- the marked segments of a part, with their recorded lengths and stored bytes

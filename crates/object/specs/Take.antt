@@ -14,9 +14,7 @@ use Rattle.part.specs.Moves.{settled, put}
 use Rattle.part.specs.Asked.{same_segment, record_with, record_within}
 use Rattle.object.specs.declared.Slot.{Slot}
 use Rattle.object.specs.declared.Stage.{Stage}
-use Rattle.object.specs.declared.Stage.TheVariants as Stage
 use Rattle.object.specs.declared.Outcome.{Outcome}
-use Rattle.object.specs.declared.Outcome.TheVariants as Outcome
 use Rattle.object.specs.declared.Decided.{Decided}
 use Rattle.object.specs.declared.Decided.TheVariants.{Repeat, Conflict, Fits}
 use Rattle.object.specs.declared.Took.{Took}

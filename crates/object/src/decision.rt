@@ -7,6 +7,7 @@ ghost use Rattle.cut.specs.Kept.{bounds_of};
 ghost use Rattle.cut.specs.Missing.{amount_kept};
 ghost use Rattle.cut.specs.MissingKept.{length_kept, missing_by, Narrow, Small};
 
+use crate::Tally;
 use answer::Part;
 use cut::{BODY_NUMBERS, Bounds, HEADER_LEAST, HEADER_MOST, HEADER_NUMBERS, Record, Sizes};
 
@@ -84,23 +85,25 @@ fn length_of(part: Part, core: Option<Sizes>, kept: Record) -> Option<u32>
     Some(length as u32)
 }
 
-// How many bytes are still to come, once both lengths are known. Of the header h segments are in, and b of the body.
+// How many bytes are still to come, once both lengths are known: of an object whose marks come to the tally, with the
+// records of its header and its body.
 #[tactic(auto, unfolding(cut::specs::MissingKept::missing_by))]
-fn missing_by(core: Option<Sizes>, h: u32, p: Record, b: u32, q: Record) -> Option<u32>
-    requires { Narrow core × Small p × Small q }
-    ensures value { result ≡ missing_by core h p b q }
+fn missing_by(tally: Tally, header: Record, body: Record) -> Option<u32>
+    requires { Narrow tally.core × Small header × Small body }
+    ensures value { result ≡ missing_by tally.core tally.headers header tally.bodies body }
     ensures low { IfSome result (λ bytes. bytes < 0x20000000) }
 {
-    let header = length_of(Part::Header, core, p)? as usize;
-    let body = length_of(Part::Body, core, q)? as usize;
-    let came = part::record::arrived(h, p) + part::record::arrived(b, q);
-    Some((header + body).saturating_sub(came) as u32)
+    let header_length = length_of(Part::Header, tally.core, header)? as usize;
+    let body_length = length_of(Part::Body, tally.core, body)? as usize;
+    let came = part::record::arrived(tally.headers, header)
+        + part::record::arrived(tally.bodies, body);
+    Some((header_length + body_length).saturating_sub(came) as u32)
 }
 
 // The same as a slot keeps it: 1 more, or 0 while it isn't known.
-pub fn missing(core: Option<Sizes>, h: u32, p: Record, b: u32, q: Record) -> u32
-    requires { Narrow core × Small p × Small q }
-    ensures { result ≡ amount_kept (missing_by core h p b q) }
+pub fn missing(tally: Tally, header: Record, body: Record) -> u32
+    requires { Narrow tally.core × Small header × Small body }
+    ensures { result ≡ amount_kept (missing_by tally.core tally.headers header tally.bodies body) }
 {
-    missing_by(core, h, p, b, q).map_or(0, |bytes| bytes + 1)
+    missing_by(tally, header, body).map_or(0, |bytes| bytes + 1)
 }

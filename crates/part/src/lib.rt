@@ -1,18 +1,19 @@
 // One part of an object being gathered (document 01, "One object, one cut"), within any bounds: its record by value,
-// its marks and its share of a store lent. Whether a number is in and what stands there, whether one segment more fits,
-// the record with it, the segment put, and whether the part is sound. It knows neither header nor body.
+// its marks and its share of a store lent. Whether a number is in and what stands there, the record with one segment
+// more, and the segment put; `gathered` says whether one more fits and whether the part is sound. It knows neither
+// header nor body.
 #![tactic(auto)]
 
 pub mod bounds;
+pub mod gathered;
 pub mod record;
 
-ghost use Rattle.std.specs.Prelude.{◌≡◌, suc, ◌*◌, ◌≤◌, ◌<◌, eqb, length, drop};
-ghost use Rattle.octets.specs.Octets.{largest_of, sum_of};
-ghost use Rattle.cut.specs.Requirement.{body_numbers, sent};
-ghost use Rattle.cut.specs.Sums.{ended, full_by, possible_in, accepts_in, fits_in};
+ghost use Rattle.std.specs.Prelude.{◌≡◌, suc, ◌*◌, ◌≤◌, ◌<◌, eqb, length};
+ghost use Rattle.cut.specs.Requirement.{sent};
+ghost use Rattle.cut.specs.Sums.{ended, full_by};
 ghost use Rattle.part.specs.Memory.{memory, place_of, length_of};
 ghost use Rattle.part.specs.Moves.{moved_as, settled, put};
-ghost use Rattle.part.specs.Asked.{mark_of, held_at, same_segment, record_adding, record_settled, end_right, record_right, sound_part, Counted, Held, CanMove, CanPut};
+ghost use Rattle.part.specs.Asked.{mark_of, held_at, same_segment, record_adding, record_settled, Held, CanMove, CanPut};
 
 use cut::{Bounds, Record, Segment};
 
@@ -69,8 +70,9 @@ pub fn same(kept: Record, segment: &Segment<'_>, share: &[u8]) -> bool
         && octets::same(segment.bytes, segment_at(kept, segment.number, share))
 }
 
-// ---- whether it can be
+// ---- one segment more
 
+// How many last segments are in: one or none.
 fn ended(kept: Record) -> u32
     ensures { result ≡ ended kept }
 {
@@ -84,66 +86,7 @@ fn full(kept: Record, total: u32) -> bool
     ended(kept) < total
 }
 
-// How many are in from a number on, where total are in all: the shorter side is summed.
-fn total_from(total: u32, from: usize, marks: &[u8]) -> u32
-    requires { (total ≡ sum_of marks.now) × (from ≤ length marks.now)
-        × (length marks.now ≤ body_numbers) × (largest_of marks.now ≤ 1) }
-    ensures { result ≡ sum_of (drop from marks.now) }
-{
-    if from < marks.len() - from {
-        return total - octets::sum(&marks[..from]);
-    }
-    octets::sum(&marks[from..])
-}
-
-// Whether what is in fits some length and size within the bounds.
-pub fn possible(bounds: Bounds, kept: Record, total: u32, marks: &[u8]) -> bool
-    requires { Counted bounds total marks.now }
-    ensures { result ≡ possible_in bounds kept marks.now }
-{
-    let ends = ended(kept);
-    if total == ends {
-        return bounds::alone(bounds, kept);
-    }
-    let room = bounds::room(bounds, kept);
-    total_from(total, room, marks) == ends
-}
-
-// The same of a part with one segment more, whose record is that with it and whose mark is not set yet.
-#[tactic(auto, using(cut::specs::laws::Sums::room_within))]
-fn accepts(segment: &Segment<'_>, bounds: Bounds, kept: Record, total: u32, marks: &[u8]) -> bool
-    requires { Counted bounds total marks.now }
-    ensures { result ≡ accepts_in segment.now.last segment.now.number bounds kept marks.now }
-{
-    let room = bounds::room(bounds, kept);
-    if segment.last {
-        if total == 0 {
-            return bounds::alone(bounds, kept);
-        }
-        return total_from(total, room, marks) == 0;
-    }
-    segment.number < room && total_from(total, room, marks) == ended(kept)
-}
-
-// Whether a segment of a number that is not in fits, with those that are.
-#[tactic(auto, unfolding(cut::specs::Sums::fits_in))]
-pub fn fits(bounds: Bounds, kept: Record, total: u32, marks: &[u8], segment: &Segment<'_>) -> bool
-    requires { Counted bounds total marks.now }
-    ensures { result
-        ≡ fits_in bounds kept marks.now segment.now.last segment.now.number (length segment.now.bytes.now) }
-{
-    if bounds.numbers <= segment.number {
-        return false;
-    }
-    let count = segment.bytes.len();
-    let with = record::add(segment.last, segment.number, count, kept);
-    record::joins(full(kept, total), segment.last, count, kept)
-        && accepts(segment, bounds, with, total, marks)
-}
-
-// ---- one segment more
-
-// The record with it.
+// The record with one segment more.
 pub fn with(bounds: Bounds, kept: Record, total: u32, segment: &Segment<'_>) -> Record
     requires { segment.now.number < 32768 }
     ensures { result ≡ record_adding bounds kept total segment.now.last segment.now.number
@@ -184,33 +127,4 @@ pub fn put(old: Record, new: Record, segment: &Segment<'_>, share: &mut [u8], ma
     let at = place_of(segment.last, new.size, share.len(), segment.number, count);
     octets::copy_in(&mut share[at..at + count], segment.bytes);
     marks[segment.number] = 1;
-}
-
-// ---- whether it is sound
-
-// Whether the last segment that a record tells of is marked.
-fn end_right(end: usize, tail: usize, marks: &[u8]) -> bool
-    ensures { result ≡ end_right end tail marks.now }
-{
-    if end == 0 {
-        tail == 0
-    } else {
-        holds(end - 1, marks)
-    }
-}
-
-fn record_right(bounds: Bounds, kept: Record, total: u32, marks: &[u8]) -> bool
-    requires { Counted bounds total marks.now }
-    ensures { result ≡ record_right bounds kept marks.now }
-{
-    end_right(kept.end, kept.tail, marks)
-        && (full(kept, total) || kept.size == record::settle(bounds, false, kept).size)
-}
-
-// Whether a part's record is the one that its marked segments give, and these can be.
-pub fn sound(bounds: Bounds, kept: Record, total: u32, marks: &[u8]) -> bool
-    requires { Counted bounds total marks.now }
-    ensures { result ≡ sound_part bounds kept marks.now }
-{
-    record_right(bounds, kept, total, marks) && possible(bounds, kept, total, marks)
 }

@@ -18,26 +18,12 @@ use Rattle.part.specs.Asked.{sound_part}
 use Rattle.object.specs.declared.Tally.{Tally}
 use Rattle.object.specs.Sound.{same_stage, sound_parts, sound_slot}
 use Rattle.object.specs.Asked.{tally_of, soundness}
-use Rattle.object.proofs.Laws.{counted, right-bits}
+use Rattle.object.proofs.Laws.{right-bits}
 use Rattle.object.specs.Parts.{marks_of, parts_of}
 use Rattle.object.specs.Stage.{core_in, stage_from, stage_of, missing_in}
 use Rattle.object.specs.laws.Inside.{marks-bits, right-small}
 use Rattle.object.proofs.soundness_of.Goals.{then-core_fits, else-core_fits, then-sound, else-sound, then-sound-2, else-sound-2, then-eq, else-eq}
 use Rattle.object.proofs.soundness_of.Goals as goal
-
-pub returns-then-not-marks_right : goal.returns-then-not-marks_right
-unfolding soundness sound_slot sound_parts parts_of core_in
-returns-then-not-marks_right c = rw (sym c.marks_right.ensures ∙ c.if-not-marks_right.true)
-
-pub sound-requires : goal.sound-requires
-sound-requires c = rw (c.tally_of-held.ensures.0, c.marks_of.ensures, c.bounds_of-bounds.ensures)
-    (counted Header c.args.limit c.tally_of-held.result.core c.args.marks.now c.requires
-    (right-bits _ _ c.marks_right.ensures c.if-not-marks_right.false))
-
-pub sound-requires-then-sound : goal.sound-requires-then-sound
-sound-requires-then-sound c = rw (c.tally_of-held.ensures.0, c.marks_of-then-sound.ensures, c.bounds_of-within.ensures)
-    (counted Body c.args.limit c.tally_of-held.result.core c.args.marks.now c.requires
-    (right-bits _ _ c.marks_right.ensures c.if-not-marks_right.false))
 
 pub missing-requires : goal.missing-requires
 missing-requires c =
@@ -47,15 +33,15 @@ missing-requires c =
     elim c.if-sound-2.branch [
       | then-sound-2 u ↦ elim c.if-sound.branch [
         | then-sound v ↦ elim c.if-core_fits.branch [
-          | then-core_fits w ↦ (
+          | then-core_fits w ↦ let h = w.gathered.ensures in let b = v.gathered-then-sound.ensures in (
             c.tally_of-held.ensures.1,
             right-small Header a.limit core a.slot.header (marks_of Header a.marks.now)
                 (marks-bits Header a.marks.now bits)
-                (sym (rw (c.bounds_of-bounds.ensures, w.marks_of.ensures) at w.sound.ensures)
+                (sym (rw (h.bounds, h.kept, h.marks) at w.sound.ensures)
                 ∙ sym w.value-is ∙ v.if-sound.true),
             right-small Body a.limit core a.slot.body (marks_of Body a.marks.now)
                 (marks-bits Body a.marks.now bits)
-                (sym (rw (c.bounds_of-within.ensures, v.marks_of-then-sound.ensures) at v.sound-then-sound.ensures)
+                (sym (rw (b.bounds, b.kept, b.marks) at v.sound-then-sound.ensures)
                 ∙ sym v.value-is ∙ u.if-sound-2.true),
           )
           | else-core_fits w ↦ absurd (false-true (w.value-is ∙ w.if-core_fits.false) v.if-sound.true)
@@ -88,16 +74,15 @@ returns c =
     (amount_kept (missing_by tally.core tally.headers a.slot.header tally.bodies a.slot.body)) in
     let fit : c.core_fits.result ≡ f = rw c.tally_of-held.ensures.0 at c.core_fits.ensures in
     let fits : c.if-core_fits.value ≡ both f h = elim c.if-core_fits.branch [
-      | then-core_fits w ↦ both-then h (sym fit ∙ w.if-core_fits.true) w.value-is
-          (rw (c.bounds_of-bounds.ensures, c.tally_of-held.ensures.0, w.marks_of.ensures) at w.sound.ensures)
+      | then-core_fits w ↦ let own = w.gathered.ensures in
+          both-then h (sym fit ∙ w.if-core_fits.true) w.value-is
+          (rw (own.bounds, own.kept, own.marks, c.tally_of-held.ensures.0) at w.sound.ensures)
       | else-core_fits w ↦ both-else h (sym fit ∙ w.if-core_fits.false) (w.value-is ∙ fit)
     ] in
     let bodies : c.if-sound.value ≡ both c.if-core_fits.value b = elim c.if-sound.branch [
-      | then-sound w ↦ both-then b w.if-sound.true w.value-is (rw (
-        c.bounds_of-within.ensures,
-        c.tally_of-held.ensures.0,
-        w.marks_of-then-sound.ensures,
-      ) at w.sound-then-sound.ensures)
+      | then-sound w ↦ let own = w.gathered-then-sound.ensures in
+          both-then b w.if-sound.true w.value-is
+          (rw (own.bounds, own.kept, own.marks, c.tally_of-held.ensures.0) at w.sound-then-sound.ensures)
       | else-sound w ↦ both-else b w.if-sound.false w.value-is
     ] in
     let stages : c.if-sound-2.value ≡ both c.if-sound.value s = elim c.if-sound-2.branch [

@@ -28,9 +28,6 @@ with-new-requires c =
     c.args.part
     c.requires
 
-pub slice_bounds-put-end : goal.slice_bounds-put-end
-slice_bounds-put-end c = omega (arith, c.requires.marks)
-
 pub slice_bounds-put-end-in-Header : goal.slice_bounds-put-end-in-Header
 slice_bounds-put-end-in-Header c = simp length-take (omega (arith, c.requires.marks))
 
@@ -59,8 +56,8 @@ settle-requires c =
     ∙ still-is c.args.tally c.args.limit c.args.core s c.args.slot lent f in
     rw still (still-move c.args.tally c.args.limit c.args.core s c.args.slot lent f)
 
-pub overflow_add-own : goal.overflow_add-own
-overflow_add-own c =
+pub overflow_add-tally : goal.overflow_add-tally
+overflow_add-tally c =
     let lent : Lent = shares c.args.header.now c.args.body.now c.args.marks.now in
     let s : Segment = sent c.args.segment.now in
     omega (
@@ -115,8 +112,8 @@ put-requires-in-Body c =
       can_put = can-put c.args.tally c.args.limit c.args.core s c.args.slot lent Body f;
     }
 
-pub overflow_add-own-in-Body : goal.overflow_add-own-in-Body
-overflow_add-own-in-Body c =
+pub overflow_add-tally-in-Body : goal.overflow_add-tally-in-Body
+overflow_add-tally-in-Body c =
     let lent : Lent = shares c.args.header.now c.args.body.now c.args.marks.now in
     let s : Segment = sent c.args.segment.now in
     omega (

@@ -2,7 +2,6 @@
 -- Assumes nothing.
 use mathlib.Core.Path.{sym, ◌∙◌}
 use Rattle.cut.specs.Requirement.{Segment, sent}
-use Rattle.object.specs.Take.{take_into}
 use Rattle.object.specs.laws.Decided.{offered-readable, decided-fits}
 use Rattle.object.specs.Parts.{Lent, shares}
 use Rattle.object.proofs.take.Goals as goal
@@ -29,15 +28,3 @@ store-requires c =
     c.in-Fits.core
     c.requires c.tally_of-held.ensures.0 (sym c.decide-decided.ensures ∙
     c.in-Fits.is)
-
-pub returns-in-Repeat : goal.returns-in-Repeat
-unfolding take_into
-returns-in-Repeat c = rw (sym c.decide-decided.ensures ∙ c.in-Repeat.is)
-
-pub returns-in-Conflict : goal.returns-in-Conflict
-unfolding take_into
-returns-in-Conflict c = rw (sym c.decide-decided.ensures ∙ c.in-Conflict.is)
-
-pub returns-in-Fits : goal.returns-in-Fits
-unfolding take_into
-returns-in-Fits c = rw (sym c.decide-decided.ensures ∙ c.in-Fits.is) c.store.ensures

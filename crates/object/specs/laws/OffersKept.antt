@@ -12,7 +12,6 @@ use Rattle.cut.specs.laws.Finished.{segment_of, segment-is, finished-every, fini
 use Rattle.cut.specs.Lists.{Each, Among, Bytes}
 use Rattle.object.specs.declared.Slot.{Slot}
 use Rattle.object.specs.declared.Stage.{Stage}
-use Rattle.object.specs.declared.Stage.TheVariants as Stage
 use Rattle.object.specs.declared.Outcome.{Outcome}
 use Rattle.object.specs.declared.Outcome.TheVariants.{Stored, Complete, Repeat, Conflict}
 use Rattle.object.specs.Take.{Taken, take_into}

@@ -17,7 +17,6 @@ use Rattle.cut.specs.laws.Finished.{whole_numbers, part-joined, finished-joined,
 use Rattle.cut.specs.Lists.{Each}
 use Rattle.object.specs.declared.Slot.{Slot}
 use Rattle.object.specs.declared.Stage.{Stage}
-use Rattle.object.specs.declared.Stage.TheVariants as Stage
 use Rattle.part.specs.Memory.{Memory, place_of}
 use Rattle.object.specs.Sound.{sound_slot}
 use Rattle.object.specs.laws.Shape.{IsLent, numbers_of}

@@ -19,7 +19,6 @@ use Rattle.cut.specs.laws.Empty.{no_other}
 use Rattle.cut.specs.Lists.{Each, Among, Bytes}
 use Rattle.object.specs.declared.Slot.{Slot}
 use Rattle.object.specs.declared.Stage.{Stage}
-use Rattle.object.specs.declared.Stage.TheVariants as Stage
 use Rattle.object.specs.declared.Outcome.{Outcome}
 use Rattle.object.specs.declared.Outcome.TheVariants.{Stored, Complete, Repeat, Conflict}
 use Rattle.part.specs.Memory.{segment_at}

@@ -23,7 +23,6 @@ use Rattle.part.specs.Memory.{Memory, place_of}
 use Rattle.part.specs.Moves.{moved_as, settled, put}
 use Rattle.object.specs.Take.{parts_with, Taken, unchanged, decided, taken_by, take_into}
 use Rattle.object.specs.declared.Decided.{Decided}
-use Rattle.object.specs.declared.Decided.TheVariants as Decided
 use Rattle.part.specs.Asked.{record_with, record_within}
 use Rattle.object.specs.Sound.{sound_slot}
 use Rattle.object.specs.laws.Shape.{IsLent, Shaped}

@@ -12,7 +12,6 @@ use Rattle.cut.specs.laws.Finished.{finished-core, finished-every, finished-one}
 use Rattle.cut.specs.laws.Marks.{finished-marked}
 use Rattle.object.specs.declared.Slot.{Slot}
 use Rattle.object.specs.declared.Stage.{Stage}
-use Rattle.object.specs.declared.Stage.TheVariants as Stage
 use Rattle.object.specs.laws.Held.{Gathers, Holds}
 use Rattle.object.specs.State.{StageFor}
 use Rattle.object.specs.laws.HeldSlot.{core-read}
