@@ -7,7 +7,7 @@
 
 ghost use Rattle.std.specs.Prelude.{◌≡◌, ◌+◌, ◌*◌, ◌≤◌, length};
 ghost use Rattle.slots.specs.Stores.{slots_most};
-ghost use Rattle.layout.specs.Layout.{stage_tag, header_word, body_word, slot_words, words_of, count_words, stage_from, record_at, slot_in, slots_from, collector_from, counts_from, slot_readable, readable_from, readable};
+ghost use Rattle.layout.specs.Layout.{stage_tag, header_word, body_word, slot_words, words_of, count_words, stage_from, slot_in, slots_from, collector_from, counts_from, slot_readable, readable_from, readable};
 
 use collector::Collector;
 use counts::Counts;
@@ -68,43 +68,37 @@ fn stage_from(tag: u64, header: u64, body: u64) -> Stage
     }
 }
 
-// A record, from three words.
-#[tactic(auto, unfolding(crate::specs::Layout::record_at))]
-fn record_at(words: &[u64], at: usize) -> Record
-    requires { at + 3 ≤ length words.now }
-    ensures { result ≡ record_at words.now at }
+fn record_from(size: u64, end: u64, tail: u64) -> Record
+    ensures { result ≡ record { size = size; end = end; tail = tail } }
 {
     Record {
-        size: words[at] as usize,
-        end: words[at + 1] as usize,
-        tail: words[at + 2] as usize,
+        size: size as usize,
+        end: end as usize,
+        tail: tail as usize,
     }
 }
 
-// A slot, from the words that begin at `at`.
-#[tactic(auto, unfolding(crate::specs::Layout::slot_in, crate::specs::Layout::stage_at))]
-fn slot_at(words: &[u64], at: usize) -> Slot
-    requires { at + 11 ≤ length words.now }
-    ensures { result ≡ slot_in words.now at }
+// The slot that its words hold.
+fn slot_from(words: &[u64; SLOT]) -> Slot
+    ensures { result ≡ slot_in words.now 0 }
 {
     Slot {
-        number: u16::try_from(words[at]).unwrap_or(0),
-        stage: stage_from(words[at + 1], words[at + 2], words[at + 3]),
-        header: record_at(words, at + 4),
-        body: record_at(words, at + 7),
-        missing: u32::try_from(words[at + 10]).unwrap_or(0),
+        number: u16::try_from(words[0]).unwrap_or(0),
+        stage: stage_from(words[1], words[2], words[3]),
+        header: record_from(words[4], words[5], words[6]),
+        body: record_from(words[7], words[8], words[9]),
+        missing: u32::try_from(words[10]).unwrap_or(0),
     }
 }
 
-// Whether the words that begin at `at` hold a slot.
+// Whether the words of a slot hold one.
 #[tactic(auto, unfolding(crate::specs::Layout::slot_readable))]
-fn slot_readable(words: &[u64], at: usize) -> bool
-    requires { at + 11 ≤ length words.now }
-    ensures { result ≡ slot_readable words.now at }
+fn slot_readable(words: &[u64; SLOT]) -> bool
+    ensures { result ≡ slot_readable words.now 0 }
 {
-    match words[at + 1] {
+    match words[1] {
         0 => true,
-        1 | 2 => u16::try_from(words[at]).is_ok() && u32::try_from(words[at + 10]).is_ok(),
+        1 | 2 => u16::try_from(words[0]).is_ok() && u32::try_from(words[10]).is_ok(),
         _ => false,
     }
 }
@@ -114,7 +108,8 @@ fn all_readable(words: &[u64], count: usize) -> bool
     requires { 2 + count * 11 ≤ length words.now }
     ensures { result ≡ readable_from words.now count 2 }
 {
-    (0..count).all(|i| slot_readable(words, BEFORE_SLOTS + i * SLOT))
+    let (slots, _) = words[BEFORE_SLOTS..].as_chunks::<SLOT>();
+    slots[..count].iter().all(|slot| slot_readable(slot))
 }
 
 // Whether words hold a state, sound or not.
@@ -135,7 +130,8 @@ fn slots_from(words: &[u64]) -> [Slot; SLOTS_MOST]
     requires { length words.now ≡ 178 }
     ensures { result ≡ slots_from words.now slots_most 2 }
 {
-    array::from_fn(|i| slot_at(words, BEFORE_SLOTS + i * SLOT))
+    let (slots, _) = words[BEFORE_SLOTS..].as_chunks::<SLOT>();
+    array::from_fn(|i| slot_from(&slots[i]))
 }
 
 // The collector whose state the words hold.
