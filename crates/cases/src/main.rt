@@ -13,12 +13,6 @@ const LIMIT: usize = 12288;
 
 const MOST: usize = 1048576;
 
-const NOTHING: Record = Record {
-    size: 0,
-    end: 0,
-    tail: 0,
-};
-
 // A segment, as far as the decision looks at it.
 #[derive(Clone, Copy)]
 struct Piece {
@@ -99,8 +93,8 @@ fn verdict_of(case: Case) -> Verdict
     ensures { result ≡ verdict_of case.limit case.core case.header case.first case.second }
 {
     let core = case.core;
-    let headers = kept_with(case.header, NOTHING);
-    let held = kept_with(case.first, NOTHING);
+    let headers = kept_with(case.header, Record::default());
+    let held = kept_with(case.first, Record::default());
     let top = top_with(case.first, 0);
     if !goes_with(case.second, top, held) {
         return Verdict::Conflicts;

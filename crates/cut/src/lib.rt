@@ -37,8 +37,8 @@ pub struct Bounds {
 }
 
 // What is kept of a part: the size of its cut, 0 while it isn't known; end, 1 + the number of the last segment, 0 while
-// it isn't in; tail, the length of that one.
-#[derive(Clone, Copy)]
+// it isn't in; tail, the length of that one. That of a part that has no segment yet is the default.
+#[derive(Clone, Copy, Default)]
 pub struct Record {
     pub size: usize,
     pub end: usize,

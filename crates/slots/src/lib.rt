@@ -10,7 +10,7 @@ ghost use Rattle.octets.specs.Octets.{zeros};
 ghost use Rattle.cut.specs.Requirement.{header_most, sent};
 ghost use Rattle.object.specs.Take.{take_into};
 ghost use Rattle.object.specs.Asked.{Offered};
-ghost use Rattle.slots.specs.Stores.{slots_most, slot_marks, no_record, free_slot, fresh_slot, stores, lent_at};
+ghost use Rattle.slots.specs.Stores.{slots_most, slot_marks, free_slot, fresh_slot, stores, lent_at};
 ghost use Rattle.slots.specs.Find.{is_free, holds, find_in, free_in};
 ghost use Rattle.slots.specs.Alone.{fits_alone};
 ghost use Rattle.slots.specs.State.{within_limits, right_by, sound_slots};
@@ -30,25 +30,14 @@ pub const SLOTS_MOST: usize = 16;
 // Marks of a slot: one for each number of the header and of the body.
 pub const SLOT_MARKS: usize = cut::HEADER_NUMBERS + cut::BODY_NUMBERS;
 
-// What is kept of a part that has no segment yet.
-fn no_record() -> Record
-    ensures { result ≡ no_record }
-{
-    Record {
-        size: 0,
-        end: 0,
-        tail: 0,
-    }
-}
-
 pub fn free_slot() -> Slot
     ensures { result ≡ free_slot }
 {
     Slot {
         number: 0,
         stage: Stage::Free,
-        header: no_record(),
-        body: no_record(),
+        header: Record::default(),
+        body: Record::default(),
         missing: 0,
     }
 }
@@ -101,11 +90,7 @@ pub fn fits_alone(part: Part, limit: usize, segment: &Segment<'_>) -> bool
 {
     let marks = [0; SLOT_MARKS];
     let fresh = fresh_slot(0);
-    let nothing = Tally {
-        core: None,
-        headers: 0,
-        bodies: 0,
-    };
+    let nothing = Tally::default();
     let bytes = segment.bytes;
     let decided = object::decide(fresh, nothing, limit, part, segment, bytes, bytes, &marks);
     matches!(decided, Decided::Fits(_))
@@ -194,8 +179,8 @@ pub fn sound(
     if !all_distinct(&keys_of(slots)[..count]) {
         return false;
     }
-    for i in 0..count {
-        if !right_at(limit, i, &slots[i], header, marks) {
+    for (i, slot) in slots[..count].iter().enumerate() {
+        if !right_at(limit, i, slot, header, marks) {
             return false;
         }
     }

@@ -103,6 +103,11 @@ steps-linear zero a b h g = refl
 steps-linear (suc count) a b h g = ap (steps count) (step-linear a b h g)
     ∙ steps-linear count (step a) (step b) (step_small a h) (step_small b g)
 
+pub steps-small : (count r : ℕ) → r < 0x10000 → steps count r < 0x10000
+unfolding steps
+steps-small zero r h = h
+steps-small (suc count) r h = steps-small count (step r) (step_small r h)
+
 doubled-first : (r p : ℕ) → r * (p * 2) ≡ r * 2 * p
 doubled-first r p = ap (λ (x : ℕ). r * x) (mul_comm p 2) ∙ sym (mul_assoc r 2 p)
 

@@ -53,6 +53,12 @@ some-fails bs h = go (all bs) refl
     go false e = refl
 
 -- a number that is 0 unless every test passes
+pub pick-fails : (bs : List Bool) (v : ℕ) → ¬ (Each (λ b. b ≡ true) bs) → 0 ≡ pick (all bs) v 0
+pick-fails bs v h = rw (some-fails bs h) refl
+
+pub pick-passes : (bs : List Bool) (v : ℕ) → Each (λ b. b ≡ true) bs → v ≡ pick (all bs) v 0
+pick-passes bs v h = rw (true-all bs h) refl
+
 pick_some : (c : Bool) (v t : ℕ) → suc t ≤ pick c v 0 → (c ≡ true) × (suc t ≤ v)
 pick_some true v t h = (refl, h)
 pick_some false v t h = absurd (omega arith)

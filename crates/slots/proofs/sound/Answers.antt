@@ -2,10 +2,11 @@
 -- Assumes nothing.
 use mathlib.Core.Bool.{Bool, true}
 use mathlib.Core.List.{List}
-use Prim.Native.Nat.{ℕ}
+use Prim.Native.Nat.{ℕ, ◌<◌}
 use mathlib.Core.Path.{◌≡◌, refl, sym, ◌∙◌}
 use native.Mathlib.Omega.{arith}
 use lib.ListN.{take, length-take}
+use Rattle.std.proofs.lemmas.List.{get_or-take}
 use Rattle.object.specs.declared.Slot.{Slot}
 use Rattle.slots.specs.Stores.{free_slot, Limits, stores}
 use Rattle.slots.specs.State.{within_limits, distinct, sound_slots}
@@ -51,11 +52,14 @@ loop-i-init c = rw (
   both-only,
 ) refl
 
-pub offset_bounds-slots-i : goal.offset_bounds-slots-i
-offset_bounds-slots-i c = omega (arith, limits c.within_limits.ensures c.if-not-within_limits.false)
+pub shared_ref_as_front-slot-items : goal.shared_ref_as_front-slot-items
+shared_ref_as_front-slot-items c = omega (arith, limits c.within_limits.ensures c.if-not-within_limits.false)
 
-pub bounds-slots-i : goal.bounds-slots-i
-bounds-slots-i c = omega (arith, limits c.within_limits.ensures c.if-not-within_limits.false)
+pub offset_bounds-slot-items-i : goal.offset_bounds-slot-items-i
+offset_bounds-slot-items-i c = omega (arith, limits c.within_limits.ensures c.if-not-within_limits.false)
+
+pub bounds-slot-items-i : goal.bounds-slot-items-i
+bounds-slot-items-i c = omega (arith, limits c.within_limits.ensures c.if-not-within_limits.false)
 
 pub right_at-requires : goal.right_at-requires
 right_at-requires c =
@@ -67,10 +71,12 @@ unfolding free_slot
 returns-then-not-right_at c =
     let a = c.args in
     let m = limits c.within_limits.ensures c.if-not-within_limits.false in
+    let inside : c.loop-i.i < a.count = omega (arith, rw length-take at c.loop-i-test.true) in
     sym (c.loop-i.invariant
     ∙ rw (
-      right-on a.slots.now a.count c.loop-i.i (omega arith) (omega arith) a.limit
+      right-on a.slots.now a.count c.loop-i.i inside (omega (arith, inside)) a.limit
           (stores a.header.now a.body.now a.marks.now),
+      ← get_or-take a.count a.slots.now c.loop-i.i free_slot inside,
       sym c.right_at.ensures ∙ c.if-not-right_at.true,
     ) refl)
 
@@ -79,10 +85,12 @@ unfolding free_slot
 loop-i-preserved c =
     let a = c.args in
     let m = limits c.within_limits.ensures c.if-not-within_limits.false in
+    let inside : c.loop-i.i < a.count = omega (arith, rw length-take at c.loop-i-test.true) in
     c.loop-i.invariant
     ∙ rw (
-      right-on a.slots.now a.count c.loop-i.i (omega arith) (omega arith) a.limit
+      right-on a.slots.now a.count c.loop-i.i inside (omega (arith, inside)) a.limit
           (stores a.header.now a.body.now a.marks.now),
+      ← get_or-take a.count a.slots.now c.loop-i.i free_slot inside,
       sym c.right_at.ensures ∙ c.if-not-right_at.false,
     ) refl
 
