@@ -98,8 +98,8 @@ fn answer_as(outcome: Outcome, heard: Heard, repetition: Repetition) -> Answer
     }
 }
 
-// A segment as it comes in, by itself or carried by a group: which one it is, what its sender meant by a repeat, whether
-// it is the last one of its part, and its bytes.
+// A segment as it comes in, by itself or carried by a group: which one it is, what its sender meant by a repeat,
+// whether it is the last one of its part, and its bytes.
 #[derive(Clone, Copy)]
 struct Arrival<'a> {
     heard: Heard,
@@ -286,7 +286,8 @@ impl Collector {
         body: &mut [u8],
         marks: &mut [u8],
     ) -> Change
-        requires { sound_slots self.now.limit self.now.count self.now.slots (stores header.old body.old marks.old) ≡ true }
+        requires { sound_slots self.now.limit self.now.count self.now.slots
+            (stores header.old body.old marks.old) ≡ true }
         ensures { (place_of result < slots_most) × ((counts : Counts)
             → left_by result (state self.now counts (stores header.new body.new marks.new))
             ≡ into_held None (arrival_of came.now)
@@ -310,7 +311,8 @@ impl Collector {
         body: &mut [u8],
         marks: &mut [u8],
     ) -> Change
-        requires { sound_slots self.now.limit self.now.count self.now.slots (stores header.old body.old marks.old) ≡ true }
+        requires { sound_slots self.now.limit self.now.count self.now.slots
+            (stores header.old body.old marks.old) ≡ true }
         ensures { (place_of result < slots_most) × ((counts : Counts)
             → left_by result (state self.now counts (stores header.new body.new marks.new))
             ≡ into_held (find_in came.now.heard.number self.now.count self.now.slots)

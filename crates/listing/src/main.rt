@@ -26,7 +26,7 @@ const BODY_STORE: usize = SLOTS * LIMIT;
 
 const MARKS: usize = SLOTS * Collector::SLOT_MARKS;
 
-// The collector, and the counts that are lent to it.
+// The collector and its counts.
 #[derive(Clone, Copy)]
 struct Held {
     collector: Collector,

@@ -22,8 +22,8 @@ pub fn copy_in(dst: &mut [u8], src: &[u8])
     }
 }
 
-// The `count` bytes that stood at `from` stand at `to`, which is no higher; the two places may overlap, so the copy goes
-// upward from the start. All other bytes stay.
+// The `count` bytes that stood at `from` stand at `to`, which is no higher; the two places may overlap, so the copy
+// goes upward from the start. All other bytes stay.
 pub fn move_down(bytes: &mut [u8], from: usize, to: usize, count: usize)
     requires { (to ≤ from) × (from + count ≤ length bytes.old) }
     ensures { bytes.new ≡ over bytes.old to (take count (drop from bytes.old)) }
