@@ -61,6 +61,16 @@ fn word_after<'a>(line: &'a str, before: &str) -> Option<&'a str> {
         .filter(|word| !word.is_empty())
 }
 
+/// The type whose `impl` a line begins: `Lent` of `impl<'a> Lent<'a> {`.
+fn type_of(line: &str) -> Option<&str> {
+    let after = line.strip_prefix("impl")?;
+    let named = match after.strip_prefix('<') {
+        Some(parameters) => parameters.split_once('>')?.1,
+        None => after,
+    };
+    word_after(named.strip_prefix(' ')?, "")
+}
+
 /// The modules that a file of code stands for.
 fn modules(file: &str) -> Vec<String> {
     let inner = file.trim_start_matches("src/").trim_end_matches(".rt");
@@ -80,8 +90,8 @@ pub fn functions(file: &str, text: &str) -> Vec<Item> {
         if line.text.starts_with("//") {
             continue;
         }
-        if line.text.starts_with("impl ") {
-            owner = word_after(line.text, "impl ").map(|name| (line.indent, name));
+        if let Some(name) = type_of(line.text) {
+            owner = Some((line.indent, name));
         } else if line.text == "}" && owner.is_some_and(|(indent, _)| indent == line.indent) {
             owner = None;
         }

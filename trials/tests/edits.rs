@@ -185,3 +185,15 @@ fn parts_of_names_are_changed_where_they_stand_whole() {
     assert_eq!(renamed(proof, &[]), proof);
     assert_eq!(renamed("- a-b -", &names), "- b-a -");
 }
+
+#[test]
+fn a_method_is_named_by_its_type() {
+    for line in ["impl Pair {", "impl Pair<'_> {", "impl<'a> Pair<'a> {"] {
+        let text = CODE.replace("impl Pair {", line);
+        let paths: Vec<String> = functions("src/lib.rt", &text)
+            .into_iter()
+            .map(|item| item.path)
+            .collect();
+        assert_eq!(paths, ["first", "Pair/second"]);
+    }
+}
