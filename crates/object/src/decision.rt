@@ -43,30 +43,42 @@ pub fn bounds_of(part: Part, limit: usize, core: Option<Sizes>) -> Bounds
 pub fn core_fits(limit: usize, core: Option<Sizes>) -> bool
     ensures { result ≡ core_fits limit core }
 {
-    let Some(sizes) = core else {
-        return true;
-    };
-    HEADER_LEAST <= sizes.header && sizes.header <= HEADER_MOST && sizes.body <= limit
+    core.is_none_or(|sizes| {
+        HEADER_LEAST <= sizes.header && sizes.header <= HEADER_MOST && sizes.body <= limit
+    })
 }
 
-// Whether what is kept of the header, its top h and its record p, and of the body, b and q, suits some object and cut.
+// Whether what is kept of the header and of the body, a top and a record of each, suits some object and cut.
 #[tactic(auto, unfolding(cut::specs::Decision::suits))]
-pub fn suits(limit: usize, core: Option<Sizes>, h: usize, p: Record, b: usize, q: Record) -> bool
-    ensures { result ≡ suits limit core h p b q }
+pub fn suits(
+    limit: usize,
+    core: Option<Sizes>,
+    header_top: usize,
+    header: Record,
+    body_top: usize,
+    body: Record,
+) -> bool
+    ensures { result ≡ suits limit core header_top header body_top body }
 {
     core_fits(limit, core)
-        && part::bounds::possible(bounds_of(Part::Header, limit, core), h, p)
-        && part::bounds::possible(bounds_of(Part::Body, limit, core), b, q)
+        && part::bounds::possible(bounds_of(Part::Header, limit, core), header_top, header)
+        && part::bounds::possible(bounds_of(Part::Body, limit, core), body_top, body)
 }
 
-// Whether every segment of the object is in: h numbers of the header are, and b of the body, which may have none.
-pub fn finished(core: Option<Sizes>, h: usize, p: Record, b: usize, q: Record) -> bool
-    ensures { result ≡ finished core h p b q }
+// Whether every segment of the object is in, with so many of the header and of the body, which may have none.
+pub fn finished(
+    core: Option<Sizes>,
+    headers: usize,
+    header: Record,
+    bodies: usize,
+    body: Record,
+) -> bool
+    ensures { result ≡ finished core headers header bodies body }
 {
-    let Some(sizes) = core else {
-        return false;
-    };
-    part::record::whole(h, p) && (sizes.body == 0 || part::record::whole(b, q))
+    core.is_some_and(|sizes| {
+        part::record::whole(headers, header)
+            && (sizes.body == 0 || part::record::whole(bodies, body))
+    })
 }
 
 // A part's length: from the core, or from its last segment.

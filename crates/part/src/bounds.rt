@@ -15,88 +15,90 @@ fn reaches(least: usize, numbers: usize, size: usize) -> bool
     least == 0 || (least - 1) / size < numbers
 }
 
-fn room_open(b: Bounds, size: usize) -> usize
+fn room_open(bounds: Bounds, size: usize) -> usize
     requires { (size_least ≤ size) × (size ≤ size_most) }
-    ensures { result ≡ room_open b size }
+    ensures { result ≡ room_open bounds size }
 {
-    if b.most < b.least || !reaches(b.least, b.numbers, size) {
+    if bounds.most < bounds.least || !reaches(bounds.least, bounds.numbers, size) {
         return 0;
     }
-    let numbers = b.numbers.saturating_sub(1);
-    numbers.min(b.most.saturating_sub(1) / size)
+    let numbers = bounds.numbers.saturating_sub(1);
+    numbers.min(bounds.most.saturating_sub(1) / size)
 }
 
-fn room_ended(b: Bounds, size: usize, n: usize, tail: usize) -> usize
+fn room_ended(bounds: Bounds, size: usize, number: usize, tail: usize) -> usize
     requires { (size_least ≤ size) × (size ≤ size_most) }
-    ensures { result ≡ room_ended b size n tail }
+    ensures { result ≡ room_ended bounds size number tail }
 {
-    if tail < 1 || size < tail || b.numbers <= n || b.most < tail {
+    if tail < 1 || size < tail || bounds.numbers <= number || bounds.most < tail {
         return 0;
     }
-    if (b.most - tail) / size < n || n * size + tail < b.least {
+    if (bounds.most - tail) / size < number || number * size + tail < bounds.least {
         return 0;
     }
-    n
+    number
 }
 
 // How many numbers a full segment of the part's size may have, from 0: the numbers of all that are in lie below it, or
 // they don't fit. 0 where no full segment of that size does.
 #[tactic(auto, unfolding(cut::specs::Decision::room))]
-pub fn room(b: Bounds, p: Record) -> usize
-    ensures { result ≡ room b p }
+pub fn room(bounds: Bounds, kept: Record) -> usize
+    ensures { result ≡ room bounds kept }
 {
-    if p.size < SIZE_LEAST || SIZE_MOST < p.size {
+    if kept.size < SIZE_LEAST || SIZE_MOST < kept.size {
         return 0;
     }
-    match p.end.checked_sub(1) {
-        None => room_open(b, p.size),
-        Some(number) => room_ended(b, p.size, number, p.tail),
+    match kept.end.checked_sub(1) {
+        None => room_open(bounds, kept.size),
+        Some(number) => room_ended(bounds, kept.size, number, kept.tail),
     }
 }
 
-fn alone_none(b: Bounds) -> bool
-    ensures { result ≡ all (nothing_tests b) }
+fn alone_none(bounds: Bounds) -> bool
+    ensures { result ≡ all (nothing_tests bounds) }
 {
-    1 <= b.numbers && b.least <= b.most && reaches(b.least, b.numbers, SIZE_MOST)
+    1 <= bounds.numbers
+        && bounds.least <= bounds.most
+        && reaches(bounds.least, bounds.numbers, SIZE_MOST)
 }
 
-fn alone_first(b: Bounds, tail: usize) -> bool
-    ensures { result ≡ all (first_tests b tail) }
+fn alone_first(bounds: Bounds, tail: usize) -> bool
+    ensures { result ≡ all (first_tests bounds tail) }
 {
-    tail <= SIZE_MOST && 1 <= b.numbers && b.least <= tail && tail <= b.most
+    tail <= SIZE_MOST && 1 <= bounds.numbers && bounds.least <= tail && tail <= bounds.most
 }
 
 #[tactic(auto, unfolding(cut::specs::Decision::largest))]
-fn alone_later(b: Bounds, n: usize, tail: usize) -> bool
-    requires { 0 < n }
-    ensures { result ≡ all (later_tests b n tail) }
+fn alone_later(bounds: Bounds, number: usize, tail: usize) -> bool
+    requires { 0 < number }
+    ensures { result ≡ all (later_tests bounds number tail) }
 {
-    if tail < 1 || b.most < tail || b.numbers <= n {
+    if tail < 1 || bounds.most < tail || bounds.numbers <= number {
         return false;
     }
-    let size = SIZE_MOST.min((b.most - tail) / n);
-    SIZE_LEAST <= size && tail <= size && b.least <= n * size + tail
+    let size = SIZE_MOST.min((bounds.most - tail) / number);
+    SIZE_LEAST <= size && tail <= size && bounds.least <= number * size + tail
 }
 
 // Whether what is kept can be while no full segment is in: nothing, or the last one alone.
 #[tactic(auto, unfolding(cut::specs::Decision::alone))]
-pub fn alone(b: Bounds, p: Record) -> bool
-    ensures { result ≡ alone b p }
+pub fn alone(bounds: Bounds, kept: Record) -> bool
+    ensures { result ≡ alone bounds kept }
 {
-    match p.end {
-        0 => alone_none(b),
-        1 => alone_first(b, p.tail),
-        end => alone_later(b, end - 1, p.tail),
+    match kept.end {
+        0 => alone_none(bounds),
+        1 => alone_first(bounds, kept.tail),
+        end => alone_later(bounds, end - 1, kept.tail),
     }
 }
 
 // Whether some length and size within the bounds suit what is in; top is 1 + the highest number of a full segment, or
 // 0.
-pub fn possible(b: Bounds, top: usize, p: Record) -> bool
-    ensures { result ≡ possible b top p }
+pub fn possible(bounds: Bounds, top: usize, kept: Record) -> bool
+    ensures { result ≡ possible bounds top kept }
 {
     if top == 0 {
-        return alone(b, p);
+        return alone(bounds, kept);
     }
-    top <= room(b, p)
+    top <= room(bounds, kept)
 }

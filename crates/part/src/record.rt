@@ -10,28 +10,31 @@ ghost use Rattle.cut.specs.MissingKept.{length_in, arrived_kept, Small};
 use cut::{Bounds, Record};
 
 // Whether a segment of a new number goes with what is kept: there is one last segment, and full ones have one length.
-pub fn joins(full: bool, last: bool, length: usize, p: Record) -> bool
-    ensures { result ≡ joins full last length p }
+pub fn joins(full: bool, last: bool, length: usize, kept: Record) -> bool
+    ensures { result ≡ joins full last length kept }
 {
     if last {
-        return p.end == 0;
+        return kept.end == 0;
     }
-    !full || length == p.size
+    !full || length == kept.size
 }
 
 // What is kept, with one segment more.
-pub fn add(last: bool, number: usize, length: usize, p: Record) -> Record
+pub fn add(last: bool, number: usize, length: usize, kept: Record) -> Record
     requires { number < 65536 }
-    ensures { result ≡ add_part last number length p }
+    ensures { result ≡ add_part last number length kept }
 {
     if last {
         return Record {
             end: number + 1,
             tail: length,
-            ..p
+            ..kept
         };
     }
-    Record { size: length, ..p }
+    Record {
+        size: length,
+        ..kept
+    }
 }
 
 // 1 + the highest number of a full segment, or 0, with one segment more.
@@ -42,57 +45,57 @@ pub fn add_top(last: bool, number: usize, top: usize) -> usize
     if last { top } else { top.max(number + 1) }
 }
 
-fn derived(b: Bounds, end: usize, tail: usize) -> usize
-    ensures { result ≡ derived b end tail }
+fn derived(bounds: Bounds, end: usize, tail: usize) -> usize
+    ensures { result ≡ derived bounds end tail }
 {
-    if end < 2 || b.least != b.most {
+    if end < 2 || bounds.least != bounds.most {
         return 0;
     }
-    b.most.saturating_sub(tail) / (end - 1)
+    bounds.most.saturating_sub(tail) / (end - 1)
 }
 
 // The record under these bounds: without a full segment the size is the one that the part's length and its last segment
 // give, and nothing else gives it.
 #[tactic(auto, unfolding(cut::specs::Kept::settle))]
-pub fn settle(b: Bounds, full: bool, p: Record) -> Record
-    ensures { result ≡ settle b full p }
+pub fn settle(bounds: Bounds, full: bool, kept: Record) -> Record
+    ensures { result ≡ settle bounds full kept }
 {
     if full {
-        return p;
+        return kept;
     }
-    let size = derived(b, p.end, p.tail);
-    Record { size, ..p }
+    let size = derived(bounds, kept.end, kept.tail);
+    Record { size, ..kept }
 }
 
 // Whether a part is whole, with so many of its numbers in.
-pub fn whole(count: usize, p: Record) -> bool
-    ensures { result ≡ whole count p }
+pub fn whole(count: usize, kept: Record) -> bool
+    ensures { result ≡ whole count kept }
 {
-    p.end != 0 && count == p.end
+    kept.end != 0 && count == kept.end
 }
 
 // The part's length, where its last segment gives it: that is number 0, or the size is known.
-pub fn length(p: Record) -> Option<u32>
-    requires { Small p }
-    ensures value { result ≡ length_in p.size p.end p.tail }
+pub fn length(kept: Record) -> Option<u32>
+    requires { Small kept }
+    ensures value { result ≡ length_in kept.size kept.end kept.tail }
     ensures low { IfSome result (λ bytes. bytes < 0x10000000) }
 {
-    let number = p.end.checked_sub(1)?;
-    if number != 0 && p.size == 0 {
+    let number = kept.end.checked_sub(1)?;
+    if number != 0 && kept.size == 0 {
         return None;
     }
-    let whole = number * p.size + p.tail;
+    let whole = number * kept.size + kept.tail;
     Some(whole as u32)
 }
 
 // The bytes of the part that have arrived, with so many of its segments in.
-pub fn arrived(total: u32, p: Record) -> usize
-    requires { Small p }
-    ensures { (result ≡ arrived_kept total p) × (result < 70368744177664) }
+pub fn arrived(total: u32, kept: Record) -> usize
+    requires { Small kept }
+    ensures { (result ≡ arrived_kept total kept) × (result < 70368744177664) }
 {
     let count = total as usize;
-    if p.end == 0 {
-        return count * p.size;
+    if kept.end == 0 {
+        return count * kept.size;
     }
-    count.saturating_sub(1) * p.size + p.tail
+    count.saturating_sub(1) * kept.size + kept.tail
 }

@@ -2,7 +2,7 @@
 -- Assumes nothing.
 use mathlib.Core.Path.{◌≡◌, refl, sym, ◌∙◌}
 use mathlib.Core.Bool.{Bool, true, false}
-use mathlib.Core.List.{[], ◌∷◌}
+use mathlib.Core.List.{List, [], ◌∷◌}
 use Rattle.std.specs.Prelude.{None, Some}
 use Rattle.std.specs.Bool.{then_some}
 use Rattle.std.proofs.Common.{rules}
@@ -13,7 +13,7 @@ use Rattle.cut.specs.Missing.{amount_kept}
 use Rattle.cut.specs.MissingKept.{missing_by}
 use lib.Dec.{eqb}
 use Rattle.cut.specs.Lists.{both, all, pick}
-use Rattle.cut.specs.laws.Decision.{false-true, both-then, both-else}
+use Rattle.cut.specs.laws.Decision.{false-true, all_true, both-then, both-else}
 use Rattle.part.specs.Asked.{sound_part}
 use Rattle.object.specs.declared.Tally.{Tally}
 use Rattle.object.specs.Sound.{same_stage, sound_parts, sound_slot}
@@ -22,36 +22,29 @@ use Rattle.object.proofs.Laws.{right-bits}
 use Rattle.object.specs.Parts.{marks_of, parts_of}
 use Rattle.object.specs.Stage.{core_in, stage_from, stage_of, missing_in}
 use Rattle.object.specs.laws.Inside.{marks-bits, right-small}
-use Rattle.object.proofs.soundness_of.Goals.{then-core_fits, else-core_fits, then-sound, else-sound, then-sound-2, else-sound-2, then-eq, else-eq}
+use Rattle.object.proofs.soundness_of.Goals.{then-sound, else-sound, then-eq, else-eq}
 use Rattle.object.proofs.soundness_of.Goals as goal
 
 pub missing-requires : goal.missing-requires
 missing-requires c =
     let a = c.args in
-    let bits = right-bits _ _ c.marks_right.ensures c.if-not-marks_right.false in
     let core = c.tally_of-held.result.core in
-    elim c.if-sound-2.branch [
-      | then-sound-2 u ↦ elim c.if-sound.branch [
-        | then-sound v ↦ elim c.if-core_fits.branch [
-          | then-core_fits w ↦ let h = w.gathered.ensures in let b = v.gathered-then-sound.ensures in (
-            c.tally_of-held.ensures.1,
-            right-small Header a.limit core a.slot.header (marks_of Header a.marks.now)
-                (marks-bits Header a.marks.now bits)
-                (sym (rw (h.bounds, h.kept, h.marks) at w.sound.ensures)
-                ∙ sym w.value-is ∙ v.if-sound.true),
-            right-small Body a.limit core a.slot.body (marks_of Body a.marks.now)
-                (marks-bits Body a.marks.now bits)
-                (sym (rw (b.bounds, b.kept, b.marks) at v.sound-then-sound.ensures)
-                ∙ sym v.value-is ∙ u.if-sound-2.true),
-          )
-          | else-core_fits w ↦ absurd (false-true (w.value-is ∙ w.if-core_fits.false) v.if-sound.true)
-        ]
-        | else-sound v ↦ absurd (false-true (v.value-is ∙ v.if-sound.false) u.if-sound-2.true)
-      ]
-      | else-sound-2 u ↦ absurd (false-true (u.value-is ∙ u.if-sound-2.false) c.if-eq.true)
+    let header = marks_of Header a.marks.now in
+    let body = marks_of Body a.marks.now in
+    let bits = right-bits _ _ c.marks_right.ensures c.if-not-marks_right.false in
+    let tests : List Bool = core_fits a.limit core
+    ∷ sound_part (bounds_of Header a.limit core) a.slot.header header
+    ∷ sound_part (bounds_of Body a.limit core) a.slot.body body ∷ [] in
+    elim c.if-sound.branch [
+      | then-sound w ↦ let t = all_true tests (sym c.sound.ensures ∙ w.if-sound.true) in (
+        c.tally_of-held.ensures.1,
+        right-small Header a.limit core a.slot.header header (marks-bits Header a.marks.now bits) t.1.0,
+        right-small Body a.limit core a.slot.body body (marks-bits Body a.marks.now bits) t.1.1.0,
+      )
+      | else-sound w ↦ absurd (false-true (w.value-is ∙ w.if-sound.false) c.if-eq.true)
     ]
 
-told : (f h b s m : Bool) (tally : Tally) → then_some (both (both (both (both f h) b) s) m) tally
+told : (f h b s m : Bool) (tally : Tally) → then_some (both (both (all (f ∷ h ∷ b ∷ [])) s) m) tally
     ≡ pick (all (true ∷ all (f ∷ h ∷ b ∷ s ∷ []) ∷ m ∷ [])) (Some tally) None
 told false h b s m tally = refl
 told true false b s m tally = refl
@@ -72,26 +65,15 @@ returns c =
     (stage_from tally.core tally.headers a.slot.header tally.bodies a.slot.body) in
     let m : Bool = eqb a.slot.missing
     (amount_kept (missing_by tally.core tally.headers a.slot.header tally.bodies a.slot.body)) in
-    let fit : c.core_fits.result ≡ f = rw c.tally_of-held.ensures.0 at c.core_fits.ensures in
-    let fits : c.if-core_fits.value ≡ both f h = elim c.if-core_fits.branch [
-      | then-core_fits w ↦ let own = w.gathered.ensures in
-          both-then h (sym fit ∙ w.if-core_fits.true) w.value-is
-          (rw (own.bounds, own.kept, own.marks, c.tally_of-held.ensures.0) at w.sound.ensures)
-      | else-core_fits w ↦ both-else h (sym fit ∙ w.if-core_fits.false) (w.value-is ∙ fit)
-    ] in
-    let bodies : c.if-sound.value ≡ both c.if-core_fits.value b = elim c.if-sound.branch [
-      | then-sound w ↦ let own = w.gathered-then-sound.ensures in
-          both-then b w.if-sound.true w.value-is
-          (rw (own.bounds, own.kept, own.marks, c.tally_of-held.ensures.0) at w.sound-then-sound.ensures)
-      | else-sound w ↦ both-else b w.if-sound.false w.value-is
-    ] in
-    let stages : c.if-sound-2.value ≡ both c.if-sound.value s = elim c.if-sound-2.branch [
-      | then-sound-2 w ↦
+    let parts : c.sound.result ≡ all (f ∷ h ∷ b ∷ []) = rw c.tally_of-held.ensures.0 at c.sound.ensures in
+    let stages : c.if-sound.value ≡ both (all (f ∷ h ∷ b ∷ [])) s = elim c.if-sound.branch [
+      | then-sound w ↦
           let same : w.eq.result ≡ same_stage a.slot.stage w.stage_from.result = search rules in
-          both-then s w.if-sound-2.true w.value-is (rw (w.stage_from.ensures, c.tally_of-held.ensures.0) at same)
-      | else-sound-2 w ↦ both-else s w.if-sound-2.false w.value-is
+          both-then s (sym parts ∙ w.if-sound.true) w.value-is
+          (rw (w.stage_from.ensures, c.tally_of-held.ensures.0) at same)
+      | else-sound w ↦ both-else s (sym parts ∙ w.if-sound.false) (w.value-is ∙ parts)
     ] in
-    let every : c.if-eq.sound ≡ both c.if-sound-2.value m = elim c.if-eq.branch [
+    let every : c.if-eq.sound ≡ both c.if-sound.value m = elim c.if-eq.branch [
       | then-eq w ↦ both-then m w.if-eq.true w.sound-is (rw (w.missing.ensures, c.tally_of-held.ensures.0) refl)
       | else-eq w ↦ both-else m w.if-eq.false w.sound-is
     ] in
@@ -99,8 +81,6 @@ returns c =
       c.then_some.ensures,
       every,
       stages,
-      bodies,
-      fits,
       c.tally_of-held.ensures.0,
       sym c.marks_right.ensures ∙ c.if-not-marks_right.false,
     ) (told f h b s m tally)
