@@ -9,14 +9,14 @@ ghost use Rattle.answer.specs.Table.{number_of};
 ghost use Rattle.answer.specs.declared.Answer.TheVariants.{Denied};
 ghost use Rattle.slots.specs.Stores.{stores, slot_at};
 ghost use Rattle.layout.specs.Layout.{words_of, count_words};
-ghost use Rattle.yovtirak.specs.Exports.{called, opening_word, open_call, part_word, heard_word, repetition_word, returned_word, answer_word, changes, take_call, drop_call, place_words, finished_call, priority_word, name_start, name_length, field_words, read_call, sought_word, find_call, awaited_word, missing_call, address_call, held_in};
+ghost use Rattle.yovtirak.specs.Exports.{called, opening_word, open_call, part_word, heard_word, repetition_word, returned_word, answer_word, changes, take_call, drop_call, place_words, finished_call, priority_word, field_words, read_call, sought_word, find_call, awaited_word, missing_call, address_call, held_in};
 ghost use Rattle.cut.specs.Lists.{pick};
 ghost use Rattle.cut.specs.Missing.{amount_kept};
 
 use answer::{Answer, Heard, Part, Reason, Repetition, Returned};
 use collector::{Collector, Lent, Reply};
 use counts::Counts;
-use header::{Fields, Place};
+use header::Fields;
 use object::{Slot, Stage};
 
 // The answers that are given of wrong words, before there is a collector.
@@ -260,30 +260,19 @@ fn priority_word(priority: Option<u8>) -> u64
     priority.map_or(256, |byte| u64::from(byte))
 }
 
-fn name_start(name: Option<Place>) -> u64
-    ensures { result ≡ name_start name }
-{
-    name.map_or(0, |place| place.start as u64)
-}
-
-fn name_length(name: Option<Place>) -> u64
-    ensures { result ≡ name_length name }
-{
-    name.map_or(0, |place| place.size as u64)
-}
-
 fn put_fields(told: &mut [u64], fields: Fields)
     requires { length told.old ≡ 7 }
     ensures { told.new ≡ field_words fields }
 {
+    let name = fields.name.unwrap_or_default();
     told.copy_from_slice(&[
         u64::from(fields.body_size),
         u64::from(fields.header_size),
         u64::from(fields.content_type),
         u64::from(fields.content_sub_type),
         priority_word(fields.priority),
-        name_start(fields.name),
-        name_length(fields.name),
+        name.start as u64,
+        name.size as u64,
     ]);
 }
 
