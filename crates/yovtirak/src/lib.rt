@@ -8,6 +8,7 @@ ghost use Rattle.std.specs.Prelude.{◌≡◌, ◌<◌, length};
 ghost use Rattle.answer.specs.Table.{number_of};
 ghost use Rattle.answer.specs.declared.Answer.TheVariants.{Denied};
 ghost use Rattle.slots.specs.Stores.{stores, slot_at};
+ghost use Rattle.collector.specs.State.{state, lent_state};
 ghost use Rattle.layout.specs.Layout.{words_of, count_words};
 ghost use Rattle.yovtirak.specs.Exports.{called, opening_word, open_call, part_word, heard_word, repetition_word, returned_word, answer_word, changes, take_call, drop_call, place_words, finished_call, priority_word, field_words, read_call, sought_word, find_call, awaited_word, missing_call, address_call, held_in};
 ghost use Rattle.cut.specs.Lists.{pick};
@@ -198,6 +199,25 @@ pub extern "C" fn yovtirak_drop(
     leave(state, counts, after)
 }
 
+// What a question is asked of.
+fn lent<'a>(
+    held: &'a (Collector, Counts),
+    header: &'a [u8],
+    body: &'a [u8],
+    marks: &'a [u8],
+) -> Lent<'a>
+    ensures { lent_state result ≡ state held.now.0 held.now.1 (stores header.now body.now marks.now) }
+{
+    let (collector, counts) = held;
+    Lent {
+        collector,
+        counts: *counts,
+        header,
+        body,
+        marks,
+    }
+}
+
 fn stage_at(slots: &[Slot; Collector::SLOTS_MOST], i: usize) -> Stage
     ensures { result ≡ (slot_at i slots.now).stage }
 {
@@ -235,19 +255,12 @@ pub extern "C" fn yovtirak_finished(
     if place.len() != 3 {
         return STATE;
     }
-    let Some((collector, counted)) = held_in(state, counts) else {
+    let Some(held) = held_in(state, counts) else {
         return STATE;
     };
-    let lent = Lent {
-        collector: &collector,
-        counts: counted,
-        header,
-        body,
-        marks,
-    };
-    match lent.locate(number) {
+    match lent(&held, header, body, marks).locate(number) {
         Ok(i) => {
-            put_place(place, i, stage_at(&collector.slots, i));
+            put_place(place, i, stage_at(&held.0.slots, i));
             0
         }
         Err(why) => reason_word(why),
@@ -294,17 +307,10 @@ pub extern "C" fn yovtirak_read(
     if told.len() != 7 {
         return STATE;
     }
-    let Some((collector, counted)) = held_in(state, counts) else {
+    let Some(held) = held_in(state, counts) else {
         return STATE;
     };
-    let lent = Lent {
-        collector: &collector,
-        counts: counted,
-        header,
-        body,
-        marks,
-    };
-    match queries::parameters(&lent, number) {
+    match queries::parameters(&lent(&held, header, body, marks), number) {
         Ok(fields) => {
             put_fields(told, fields);
             0
@@ -332,17 +338,10 @@ pub extern "C" fn yovtirak_find(
     ensures { result ≡ find_call name.now state.now counts.now
         (stores header.now body.now marks.now) }
 {
-    let Some((collector, counted)) = held_in(state, counts) else {
+    let Some(held) = held_in(state, counts) else {
         return STATE;
     };
-    let lent = Lent {
-        collector: &collector,
-        counts: counted,
-        header,
-        body,
-        marks,
-    };
-    sought_word(queries::find(&lent, name))
+    sought_word(queries::find(&lent(&held, header, body, marks), name))
 }
 
 // 1 more than a number of bytes, or 0 while it isn't known.
@@ -371,17 +370,10 @@ pub extern "C" fn yovtirak_missing(
     ensures { result ≡ missing_call number state.now counts.now
         (stores header.now body.now marks.now) }
 {
-    let Some((collector, counted)) = held_in(state, counts) else {
+    let Some(held) = held_in(state, counts) else {
         return STATE;
     };
-    let lent = Lent {
-        collector: &collector,
-        counts: counted,
-        header,
-        body,
-        marks,
-    };
-    awaited_word(queries::missing(&lent, number))
+    awaited_word(queries::missing(&lent(&held, header, body, marks), number))
 }
 
 // Where the end user address of a group stands, or why the group is not read.
