@@ -218,13 +218,11 @@ fn lent<'a>(
     }
 }
 
+#[tactic(auto, unfolding(slots::specs::Stores::slot_at, slots::specs::Stores::free_slot))]
 fn stage_at(slots: &[Slot; Collector::SLOTS_MOST], i: usize) -> Stage
     ensures { result ≡ (slot_at i slots.now).stage }
 {
-    let Some(slot) = slots.get(i) else {
-        return Stage::Free;
-    };
-    slot.stage
+    slots.get(i).map_or(Stage::Free, |slot| slot.stage)
 }
 
 fn put_place(place: &mut [u64], i: usize, stage: Stage)
@@ -270,7 +268,7 @@ pub extern "C" fn yovtirak_finished(
 fn priority_word(priority: Option<u8>) -> u64
     ensures { result ≡ priority_word priority }
 {
-    priority.map_or(256, |byte| u64::from(byte))
+    priority.map_or(256, u64::from)
 }
 
 fn put_fields(told: &mut [u64], fields: Fields)
