@@ -74,10 +74,13 @@ fn answer_word(answer: Answer) -> u64
 }
 
 // The collector and the counts that lent words hold, where they hold a state and five counts.
+#[tactic(auto, unfolding(layout::specs::Layout::readable))]
 fn held_in(state: &[u64], counts: &[u32]) -> Option<(Collector, Counts)>
     ensures { result ≡ held_in state.now counts.now }
 {
-    if counts.len() != layout::COUNTS || !layout::readable(state) {
+    let state = state.as_array()?;
+    let counts = counts.as_array()?;
+    if !layout::readable(state) {
         return None;
     }
     Some((layout::collector_from(state), layout::counts_from(counts)))
@@ -145,10 +148,13 @@ pub extern "C" fn yovtirak_open(
         ≡ open_call limit slots state.old counts.old
         (stores header.now body.now marks.old) }
 {
-    if state.len() != layout::STATE || counts.len() != layout::COUNTS {
+    if state.len() != layout::STATE {
         return LIMITS;
     }
-    let before = layout::counts_from(counts);
+    let Some(words) = counts.as_array() else {
+        return LIMITS;
+    };
+    let before = layout::counts_from(words);
     let opened = Collector::opened(limit, slots, before, header, body, marks);
     layout::put_counts(counts, opened.counts);
     keep(state, opened.opening.is_ok(), &opened.collector);
