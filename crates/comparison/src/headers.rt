@@ -2,9 +2,9 @@
 // one that is asked for.
 ghost use Rattle.std.specs.Prelude.{◌≡◌};
 ghost use Rattle.header.specs.Names.{name_matches};
-ghost use Rattle.comparison.specs.Headers.{refusal_number, priority_number, name_start, name_size, said_field, header_field};
+ghost use Rattle.comparison.specs.Headers.{refusal_number, priority_number, said_field, header_field};
 
-use header::{Fields, Place, Refusal};
+use header::{Fields, Refusal};
 
 fn refusal_number(refusal: Refusal) -> u8
     ensures { result ≡ refusal_number refusal }
@@ -21,30 +21,19 @@ fn priority_number(priority: Option<u8>) -> u64
     priority.map_or(0, |byte| byte as u64 + 1)
 }
 
-fn name_start(name: Option<Place>) -> u64
-    ensures { result ≡ name_start name }
-{
-    name.map_or(0, |place| place.start as u64)
-}
-
-fn name_size(name: Option<Place>) -> u64
-    ensures { result ≡ name_size name }
-{
-    name.map_or(0, |place| place.size as u64)
-}
-
 #[tactic(auto, unfolding(crate::specs::Headers::said_field))]
 fn said_field(fields: Fields, field: u8) -> u64
     ensures { result ≡ said_field fields field }
 {
+    let name = fields.name.unwrap_or_default();
     match field {
         1 => fields.body_size as u64,
         2 => fields.header_size as u64,
         3 => fields.content_type as u64,
         4 => fields.content_sub_type as u64,
         5 => priority_number(fields.priority),
-        6 => name_start(fields.name),
-        7 => name_size(fields.name),
+        6 => name.start as u64,
+        7 => name.size as u64,
         _ => 0,
     }
 }

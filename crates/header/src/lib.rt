@@ -27,7 +27,7 @@ pub struct Parameter {
 }
 
 // Where ContentName's data stands: where it starts in the header, and how many bytes it has.
-#[derive(Clone, Copy)]
+#[derive(Clone, Copy, Default)]
 pub struct Place {
     pub start: usize,
     pub size: usize,

@@ -126,8 +126,7 @@ pub fn readable(words: &[u64]) -> bool
 
 // The slots that the words of a state hold. Not inlined: what it needs of the stack is free again behind it.
 #[inline(never)]
-fn slots_from(words: &[u64]) -> [Slot; SLOTS_MOST]
-    requires { length words.now ≡ 178 }
+fn slots_from(words: &[u64; STATE]) -> [Slot; SLOTS_MOST]
     ensures { result ≡ slots_from words.now slots_most 2 }
 {
     let (slots, _) = words[BEFORE_SLOTS..].as_chunks::<SLOT>();
@@ -136,8 +135,7 @@ fn slots_from(words: &[u64]) -> [Slot; SLOTS_MOST]
 
 // The collector whose state the words hold.
 #[tactic(auto, unfolding(crate::specs::Layout::collector_from))]
-pub fn collector_from(words: &[u64]) -> Collector
-    requires { length words.now ≡ 178 }
+pub fn collector_from(words: &[u64; STATE]) -> Collector
     ensures { result ≡ collector_from words.now }
 {
     Collector {
@@ -180,8 +178,7 @@ pub fn put_collector(words: &mut [u64], collector: &Collector)
 }
 
 // The counts that the words hold.
-pub fn counts_from(words: &[u32]) -> Counts
-    requires { length words.now ≡ 5 }
+pub fn counts_from(words: &[u32; COUNTS]) -> Counts
     ensures { result ≡ counts_from words.now }
 {
     Counts {

@@ -8,15 +8,16 @@ ghost use Rattle.std.specs.Prelude.{◌≡◌, ◌<◌, length};
 ghost use Rattle.answer.specs.Table.{number_of};
 ghost use Rattle.answer.specs.declared.Answer.TheVariants.{Denied};
 ghost use Rattle.slots.specs.Stores.{stores, slot_at};
+ghost use Rattle.collector.specs.State.{state, lent_state};
 ghost use Rattle.layout.specs.Layout.{words_of, count_words};
-ghost use Rattle.yovtirak.specs.Exports.{called, opening_word, open_call, part_word, heard_word, repetition_word, returned_word, answer_word, changes, take_call, drop_call, place_words, finished_call, priority_word, name_start, name_length, field_words, read_call, sought_word, find_call, awaited_word, missing_call, address_call, held_in};
+ghost use Rattle.yovtirak.specs.Exports.{called, opening_word, open_call, part_word, heard_word, repetition_word, returned_word, answer_word, changes, take_call, drop_call, place_words, finished_call, priority_word, field_words, read_call, sought_word, find_call, awaited_word, missing_call, address_call, held_in};
 ghost use Rattle.cut.specs.Lists.{pick};
 ghost use Rattle.cut.specs.Missing.{amount_kept};
 
 use answer::{Answer, Heard, Part, Reason, Repetition, Returned};
 use collector::{Collector, Lent, Reply};
 use counts::Counts;
-use header::{Fields, Place};
+use header::Fields;
 use object::{Slot, Stage};
 
 // The answers that are given of wrong words, before there is a collector.
@@ -73,10 +74,13 @@ fn answer_word(answer: Answer) -> u64
 }
 
 // The collector and the counts that lent words hold, where they hold a state and five counts.
+#[tactic(auto, unfolding(layout::specs::Layout::readable))]
 fn held_in(state: &[u64], counts: &[u32]) -> Option<(Collector, Counts)>
     ensures { result ≡ held_in state.now counts.now }
 {
-    if counts.len() != layout::COUNTS || !layout::readable(state) {
+    let state = state.as_array()?;
+    let counts = counts.as_array()?;
+    if !layout::readable(state) {
         return None;
     }
     Some((layout::collector_from(state), layout::counts_from(counts)))
@@ -144,10 +148,13 @@ pub extern "C" fn yovtirak_open(
         ≡ open_call limit slots state.old counts.old
         (stores header.now body.now marks.old) }
 {
-    if state.len() != layout::STATE || counts.len() != layout::COUNTS {
+    if state.len() != layout::STATE {
         return LIMITS;
     }
-    let before = layout::counts_from(counts);
+    let Some(words) = counts.as_array() else {
+        return LIMITS;
+    };
+    let before = layout::counts_from(words);
     let opened = Collector::opened(limit, slots, before, header, body, marks);
     layout::put_counts(counts, opened.counts);
     keep(state, opened.opening.is_ok(), &opened.collector);
@@ -198,13 +205,30 @@ pub extern "C" fn yovtirak_drop(
     leave(state, counts, after)
 }
 
+// What a question is asked of.
+fn lent<'a>(
+    held: &'a (Collector, Counts),
+    header: &'a [u8],
+    body: &'a [u8],
+    marks: &'a [u8],
+) -> Lent<'a>
+    ensures { lent_state result ≡ state held.now.0 held.now.1 (stores header.now body.now marks.now) }
+{
+    let (collector, counts) = held;
+    Lent {
+        collector,
+        counts: *counts,
+        header,
+        body,
+        marks,
+    }
+}
+
+#[tactic(auto, unfolding(slots::specs::Stores::slot_at, slots::specs::Stores::free_slot))]
 fn stage_at(slots: &[Slot; Collector::SLOTS_MOST], i: usize) -> Stage
     ensures { result ≡ (slot_at i slots.now).stage }
 {
-    let Some(slot) = slots.get(i) else {
-        return Stage::Free;
-    };
-    slot.stage
+    slots.get(i).map_or(Stage::Free, |slot| slot.stage)
 }
 
 fn put_place(place: &mut [u64], i: usize, stage: Stage)
@@ -235,19 +259,12 @@ pub extern "C" fn yovtirak_finished(
     if place.len() != 3 {
         return STATE;
     }
-    let Some((collector, counted)) = held_in(state, counts) else {
+    let Some(held) = held_in(state, counts) else {
         return STATE;
     };
-    let lent = Lent {
-        collector: &collector,
-        counts: counted,
-        header,
-        body,
-        marks,
-    };
-    match lent.locate(number) {
+    match lent(&held, header, body, marks).locate(number) {
         Ok(i) => {
-            put_place(place, i, stage_at(&collector.slots, i));
+            put_place(place, i, stage_at(&held.0.slots, i));
             0
         }
         Err(why) => reason_word(why),
@@ -257,33 +274,22 @@ pub extern "C" fn yovtirak_finished(
 fn priority_word(priority: Option<u8>) -> u64
     ensures { result ≡ priority_word priority }
 {
-    priority.map_or(256, |byte| u64::from(byte))
-}
-
-fn name_start(name: Option<Place>) -> u64
-    ensures { result ≡ name_start name }
-{
-    name.map_or(0, |place| place.start as u64)
-}
-
-fn name_length(name: Option<Place>) -> u64
-    ensures { result ≡ name_length name }
-{
-    name.map_or(0, |place| place.size as u64)
+    priority.map_or(256, u64::from)
 }
 
 fn put_fields(told: &mut [u64], fields: Fields)
     requires { length told.old ≡ 7 }
     ensures { told.new ≡ field_words fields }
 {
+    let name = fields.name.unwrap_or_default();
     told.copy_from_slice(&[
         u64::from(fields.body_size),
         u64::from(fields.header_size),
         u64::from(fields.content_type),
         u64::from(fields.content_sub_type),
         priority_word(fields.priority),
-        name_start(fields.name),
-        name_length(fields.name),
+        name.start as u64,
+        name.size as u64,
     ]);
 }
 
@@ -305,17 +311,10 @@ pub extern "C" fn yovtirak_read(
     if told.len() != 7 {
         return STATE;
     }
-    let Some((collector, counted)) = held_in(state, counts) else {
+    let Some(held) = held_in(state, counts) else {
         return STATE;
     };
-    let lent = Lent {
-        collector: &collector,
-        counts: counted,
-        header,
-        body,
-        marks,
-    };
-    match queries::parameters(&lent, number) {
+    match queries::parameters(&lent(&held, header, body, marks), number) {
         Ok(fields) => {
             put_fields(told, fields);
             0
@@ -343,17 +342,10 @@ pub extern "C" fn yovtirak_find(
     ensures { result ≡ find_call name.now state.now counts.now
         (stores header.now body.now marks.now) }
 {
-    let Some((collector, counted)) = held_in(state, counts) else {
+    let Some(held) = held_in(state, counts) else {
         return STATE;
     };
-    let lent = Lent {
-        collector: &collector,
-        counts: counted,
-        header,
-        body,
-        marks,
-    };
-    sought_word(queries::find(&lent, name))
+    sought_word(queries::find(&lent(&held, header, body, marks), name))
 }
 
 // 1 more than a number of bytes, or 0 while it isn't known.
@@ -382,17 +374,10 @@ pub extern "C" fn yovtirak_missing(
     ensures { result ≡ missing_call number state.now counts.now
         (stores header.now body.now marks.now) }
 {
-    let Some((collector, counted)) = held_in(state, counts) else {
+    let Some(held) = held_in(state, counts) else {
         return STATE;
     };
-    let lent = Lent {
-        collector: &collector,
-        counts: counted,
-        header,
-        body,
-        marks,
-    };
-    awaited_word(queries::missing(&lent, number))
+    awaited_word(queries::missing(&lent(&held, header, body, marks), number))
 }
 
 // Where the end user address of a group stands, or why the group is not read.

@@ -26,7 +26,7 @@ made-by {F} {B} g f each made (suc n) i d calls result (suc k) j h e =
 pub returns : goal.returns
 returns c =
     let words = c.args.words.now in
-    let rest = take_all (length words - 2) (drop 2 words) (rw length-drop (omega arith)) in
+    let rest = take_all 176 (drop 2 words) (rw length-drop (omega arith)) in
     let sixteen : length (drop 2 words) / 11 ≡ 16 = omega (arith, length-drop {A = ℕ}) in
     let chunks = c.as_chunks.result.0.now in
     let these : chunks ≡ _ = (rw (rest, sixteen) at c.as_chunks.ensures.front) ∙ chunks-each words 16 0 in

@@ -13,4 +13,4 @@ pub returns : goal.returns
 unfolding find_call
 returns c =
     let h = holds _ _ _ _ (sym c.held_in.ensures ∙ c.in-Some.is) in
-    rw (h.right, h.collector, h.counted, ← c.find.ensures) c.sought_word.ensures
+    rw (h.right, h.collector, h.counted, ← c.lent.ensures, ← c.find.ensures) c.sought_word.ensures

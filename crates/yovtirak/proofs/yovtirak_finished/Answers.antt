@@ -27,6 +27,7 @@ returns-in-Err c =
       h.right,
       h.collector,
       h.counted,
+      ← c.lent.ensures,
       sym c.locate.ensures ∙ c.in-Err.is,
       c.reason_word.ensures,
     ) refl
@@ -40,6 +41,7 @@ returns-in-Ok c =
       h.right,
       h.collector,
       h.counted,
+      ← c.lent.ensures,
       sym c.locate.ensures ∙ c.in-Ok.is,
       c.put_place.ensures,
       c.stage_at.ensures,

@@ -13,4 +13,4 @@ pub returns : goal.returns
 unfolding missing_call
 returns c =
     let h = holds _ _ _ _ (sym c.held_in.ensures ∙ c.in-Some.is) in
-    rw (h.right, h.collector, h.counted, ← c.missing.ensures) c.awaited_word.ensures
+    rw (h.right, h.collector, h.counted, ← c.lent.ensures, ← c.missing.ensures) c.awaited_word.ensures
