@@ -14,7 +14,7 @@ FUNCTION = re.compile(r"^( *)(?:pub )?(?:const )?(?:extern \"C\" )?fn (\w+)", re
 TOGETHER = [
     ("last", "number", "bytes"), ("last", "number", "count"), ("heard", "repetition", "last", "bytes"),
     ("header", "body", "marks"), ("bounds", "kept", "total"), ("out", "at"), ("core", "p", "q"), ("words", "at"),
-    ("output", "line", "group"),
+    ("output", "line", "group"), ("slot", "tally", "limit"), ("slot", "part", "limit"),
 ]
 
 
@@ -121,7 +121,7 @@ def repeated_facts():
 def buffers():
     for name, text, _ in SOURCES:
         for found in re.finditer(r"^(?:pub )?struct (\w+)[^{;]* \{\n(.*?)^\}", text, re.M | re.S):
-            if re.search(r": \[u8; ", found.group(2)) and re.search(r": usize", found.group(2)):
+            if re.search(r": \[", found.group(2)) and re.search(r": usize", found.group(2)):
                 yield f"{name}: {found.group(1)}"
 
 
@@ -140,7 +140,7 @@ told("1. numbers that stand for a case, as the comments say them",
      [f"{name}:{at}: {line.strip()}" for name, _, text in SOURCES for at, line in enumerate(text.split("\n"), 1)
       if NUMBER.search(line)])
 told("2. functions of one shape", of_one_shape())
-told("3. loops by hand", lines_of(r"\bwhile\b|\bloop\b"))
+told("3. loops by hand", lines_of(r"\bwhile\b|\bloop\b|\bfor \w+ in 0\.\.[a-z]"))
 told("4. equality and order", lines_of(r"^ *(pub )?fn \w*(same|alike|unlike|less|lower|large)\w*\("))
 told("4. conversions of one value", lines_of(r"^ *(pub )?fn \w+_(from|of|as|word|number|tag|row)\(\w+: \w+\) ->"))
 told("4. values without an argument", lines_of(r"^ *(pub )?fn \w+\(\) ->"))

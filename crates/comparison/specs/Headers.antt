@@ -8,7 +8,6 @@ use Rattle.header.specs.Parameters.{read_header}
 use Rattle.header.specs.declared.Fields.{Fields}
 use Rattle.header.specs.declared.Place.{Place}
 use Rattle.header.specs.declared.Refusal.{Refusal}
-use Rattle.header.specs.declared.Refusal.TheVariants as Refusal
 use Rattle.comparison.specs.Fields.{refusal_field}
 
 abbrev pub refusal_number : Refusal → ℕ

@@ -3,7 +3,6 @@
 use Rattle.std.specs.Prelude.{◌≡◌, Option, None, Some, ℕ, List, []}
 use Rattle.object.specs.declared.Slot.{Slot}
 use Rattle.object.specs.declared.Stage.{Stage}
-use Rattle.object.specs.declared.Stage.TheVariants as Stage
 use Rattle.object.specs.State.{marked_segments}
 use Rattle.object.specs.Parts.{Lent}
 use Rattle.slots.specs.Stores.{lent_at, slot_at}

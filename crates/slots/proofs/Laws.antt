@@ -1,18 +1,16 @@
 -- Laws that the proofs of the code share.
 -- Assumes nothing.
-use mathlib.Core.Path.{◌≡◌, refl, sym, ◌∙◌}
+use mathlib.Core.Path.{◌≡◌, refl, ◌∙◌}
 use mathlib.Core.Logic.{◌≢◌}
 use mathlib.Core.Bool.{Bool, true, false, not, ◌||◌}
 use mathlib.Core.List.{List, [], ◌∷◌}
-use Rattle.std.specs.Prelude.{Option, None, Some, position, map, cond}
+use Rattle.std.specs.Prelude.{Option, Some, position, cond}
 use Rattle.std.specs.List.{position_from, list_any}
-use Prim.Native.Nat.{ℕ, suc, ◌+◌, ◌-◌, ◌*◌, ◌/◌, ◌≤◌, ◌<◌}
-use native.Mathlib.Nat.{le-div_iff_mul-le}
-use native.Mathlib.Decide.{dec_le}
+use Prim.Native.Nat.{ℕ, suc, ◌+◌, ◌-◌, ◌*◌, ◌≤◌, ◌<◌}
 use native.Mathlib.Numerals.{add-one}
 use native.Mathlib.Omega.{arith}
 use lib.ListN.{length, get_or, take, drop, length-replicate}
-use lib.Dec.{leb, eqb}
+use lib.Dec.{eqb}
 use borrow.Author.Tests.{le-leb, lt-leb}
 use Rattle.octets.specs.Octets.{zeros}
 use Rattle.answer.specs.declared.Part.{Part}
@@ -28,7 +26,6 @@ use Rattle.object.specs.declared.Stage.{Stage}
 use Rattle.object.specs.declared.Stage.TheVariants.{Free, Gathering, Finished}
 use Rattle.slots.specs.Stores.{free_slot}
 use Rattle.slots.specs.Find.{first_from}
-use Rattle.slots.specs.laws.StateTests.{spent, one_more}
 use Rattle.slots.specs.Show.{start_of, shown_as}
 
 -- ---- the first slot that passes

@@ -8,7 +8,6 @@ use Rattle.answer.specs.declared.Reason.{Reason}
 use Rattle.answer.specs.declared.Refusal.{Refusal}
 use Rattle.answer.specs.declared.Heard.{Heard}
 use Rattle.answer.specs.declared.Part.{Part}
-use Rattle.answer.specs.declared.Part.TheVariants as Part
 use Rattle.answer.specs.declared.Repetition.{Repetition}
 use Rattle.answer.specs.declared.Returned.{Returned}
 use Rattle.answer.specs.declared.Returned.TheVariants.{Sent, Segment, Number, Nothing}

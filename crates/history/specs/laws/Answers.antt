@@ -2,7 +2,6 @@
 use Rattle.std.specs.Prelude.{◌≡◌, refl, ◌⊎◌, ◌↔◌, Option, None, Some, List, [], ℕ, ◌≤◌}
 use Rattle.std.proofs.Common.{sym, ap, inl, inr, arith}
 use Rattle.answer.specs.declared.Answer.{Answer}
-use Rattle.answer.specs.declared.Answer.TheVariants as Answer
 use Rattle.answer.specs.declared.Part.{Part}
 use Rattle.answer.specs.declared.Part.TheVariants.{Header, Body}
 use Rattle.cut.specs.Requirement.{limit_most, Segment, Fits, Finished}

@@ -13,12 +13,12 @@ use Rattle.cut.specs.Lists.{pick, Each}
 use Rattle.cut.specs.Missing.{missing_of, outside_of, amount_of}
 use Rattle.cut.specs.laws.Missing.{missing-outside, missing-none, missing-falls, amount-back}
 use Rattle.collector.specs.State.{State, find}
-use Rattle.collector.specs.Calls.{drop_number, sound}
+use Rattle.collector.specs.Calls.{sound}
 use Rattle.collector.specs.Arrival.{Arrival}
 use Rattle.queries.specs.Missing.{missing}
-use Rattle.history.specs.Handed.{Handed, Brought, arrives, refused, brought_by}
+use Rattle.history.specs.Handed.{Brought, arrives, refused, brought_by}
 use Rattle.history.specs.Held.{limit_of}
-use Rattle.history.specs.History.{Call, hand, drop, ask, CallBytes, Keeps, Event, event, leaves, after, is_stored, with, after_handed, under, stored_under}
+use Rattle.history.specs.History.{Call, hand, drop, ask, CallBytes, Keeps, Event, event, after, is_stored, after_handed, under, stored_under}
 use Rattle.history.specs.Taking.{take}
 use Rattle.history.specs.laws.Call.{defined}
 use Rattle.history.specs.laws.Sound.{Intact}

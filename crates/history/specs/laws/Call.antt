@@ -5,7 +5,6 @@ use Rattle.std.proofs.Common.{subst, append_assoc, arith, take-append-drop, drop
 use Rattle.octets.specs.Octets.{over, zeros, share}
 use Rattle.octets.specs.laws.Over.{part_length}
 use Rattle.answer.specs.declared.Answer.{Answer}
-use Rattle.answer.specs.declared.Answer.TheVariants as Answer
 use Rattle.answer.specs.declared.Reason.TheVariants as Reason
 use Rattle.answer.specs.declared.Refusal.{Refusal}
 use Rattle.counts.specs.Counted.{none_yet, counted}

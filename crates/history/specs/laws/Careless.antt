@@ -8,7 +8,6 @@ use Rattle.octets.specs.Octets.{over, zeros, largest_of}
 use Rattle.answer.specs.declared.Answer.TheVariants as Answer
 use Rattle.answer.specs.declared.Reason.{Reason}
 use Rattle.answer.specs.declared.Refusal.{Refusal}
-use Rattle.answer.specs.declared.Refusal.TheVariants as Refusal
 use Rattle.answer.specs.Table.{number_of}
 use Rattle.counts.specs.Counted.{ceiling, none_yet, one_taken, one_refused}
 use Rattle.wire.specs.declared.Carried.{Carried}

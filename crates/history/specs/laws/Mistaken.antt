@@ -23,7 +23,6 @@ use Rattle.header.specs.Parameters.{read_header}
 use Rattle.header.specs.Names.{name_data, has_name}
 use Rattle.object.specs.declared.Slot.{Slot}
 use Rattle.object.specs.declared.Stage.{Stage}
-use Rattle.object.specs.declared.Stage.TheVariants as Stage
 use Rattle.name_search.specs.Finding.{lower, holds_name, found_by_name}
 use Rattle.collector.specs.State.{State, find}
 use Rattle.collector.specs.Calls.{locate, located_in, show, shown_at}

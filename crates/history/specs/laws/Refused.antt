@@ -7,7 +7,6 @@ use Rattle.std.proofs.Math.Bool.{true, false}
 use Rattle.std.proofs.lemmas.List.{set-get_or}
 use Rattle.octets.specs.Octets.{zeros}
 use Rattle.answer.specs.declared.Answer.{Answer}
-use Rattle.answer.specs.declared.Answer.TheVariants as Answer
 use Rattle.answer.specs.declared.Reason.TheVariants as Reason
 use Rattle.answer.specs.declared.Heard.{Heard}
 use Rattle.answer.specs.declared.Repetition.{Repetition}
@@ -21,11 +20,9 @@ use Rattle.cut.specs.Requirement.{limit_least, Segment}
 use Rattle.cut.specs.laws.Decision.{false-true}
 use Rattle.object.specs.declared.Slot.{Slot}
 use Rattle.object.specs.declared.Stage.{Stage}
-use Rattle.object.specs.declared.Stage.TheVariants as Stage
 use Rattle.object.specs.declared.Outcome.{Outcome}
 use Rattle.object.specs.declared.Outcome.TheVariants.{Stored, Complete, Repeat, Conflict}
 use Rattle.object.specs.declared.Decided.{Decided}
-use Rattle.object.specs.declared.Decided.TheVariants as Decided
 use Rattle.object.specs.Take.{decided, parts_with, outcome_by, Taken, unchanged, taken_by, take_into}
 use Rattle.object.specs.laws.Decided.{if_new}
 use Rattle.object.specs.Parts.{Lent, parts_of}
@@ -36,7 +33,7 @@ use Rattle.slots.specs.laws.Fresh.{fresh-taken}
 use Rattle.slots.specs.laws.StateTests.{limits-hold}
 use Rattle.collector.specs.State.{Start, Reply, State, all_free, find}
 use Rattle.collector.specs.Calls.{answer_for, drop_found, drop_number, in_limits, open_with, answering, sound}
-use Rattle.collector.specs.Arrival.{Arrival, heard_as}
+use Rattle.collector.specs.Arrival.{Arrival}
 use Rattle.history.specs.laws.Slots.{limits-within}
 use Rattle.history.specs.Held.{lent_of, limit_of, slot_of}
 use Rattle.history.specs.laws.Call.{drop_answer, drop_leaves, replacing, offering, Came, alone, full, first, more, unread, came, drop-damaged, none_dropped, found-dropped, lent_same, opened-all, opened-none, handed_answer, handed_leaves, handed-damaged}

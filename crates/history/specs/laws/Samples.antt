@@ -1,5 +1,5 @@
 -- Groups, an object and a small collector, with which histories are computed.
-use Rattle.std.specs.Prelude.{◌≡◌, refl, Bool, true, false, Ok, List, [], ◌∷◌, ℕ, zero, suc, ◌*◌, ◌<◌, length, replicate}
+use Rattle.std.specs.Prelude.{◌≡◌, refl, Bool, true, false, Ok, List, [], ◌∷◌, ℕ, zero, suc, ◌*◌, ◌<◌, replicate}
 use Rattle.std.proofs.Common.{inl, inr, arith}
 use Rattle.crc.specs.CheckWord.{step, entered, bits_entered, divided, check_word}
 use Rattle.octets.specs.Octets.{over, zeros, equal, largest_of}

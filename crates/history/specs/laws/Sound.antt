@@ -8,7 +8,6 @@ use Rattle.octets.specs.Octets.{zeros, sum_of, largest_of}
 use Rattle.octets.specs.laws.Over.{zeros-length}
 use Rattle.octets.specs.laws.Marks.{largest-part, zeros-largest}
 use Rattle.answer.specs.declared.Answer.{Answer}
-use Rattle.answer.specs.declared.Answer.TheVariants as Answer
 use Rattle.answer.specs.declared.Reason.TheVariants as Reason
 use Rattle.answer.specs.declared.Part.{Part}
 use Rattle.answer.specs.declared.Refusal.{Refusal}

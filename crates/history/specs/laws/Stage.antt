@@ -6,7 +6,6 @@ use Rattle.answer.specs.declared.Part.TheVariants.{Header, Body}
 use Rattle.cut.specs.Requirement.{header_numbers, body_numbers, Segment, Fits, Finished, joined}
 use Rattle.cut.specs.laws.Finished.{segment_of, segment-is, finished-every, finished-one}
 use Rattle.object.specs.declared.Stage.{Stage}
-use Rattle.object.specs.declared.Stage.TheVariants as Stage
 use Rattle.object.specs.State.{StageFor}
 use Rattle.object.specs.laws.Held.{Holds}
 use Rattle.object.specs.laws.Shown.{holds-shows}

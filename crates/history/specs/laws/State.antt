@@ -7,7 +7,6 @@ use Rattle.octets.specs.Octets.{largest_of}
 use Rattle.octets.specs.laws.Marks.{largest-each}
 use Rattle.answer.specs.declared.Answer.TheVariants as Answer
 use Rattle.answer.specs.declared.Reason.{Reason}
-use Rattle.answer.specs.declared.Heard.{Heard}
 use Rattle.answer.specs.declared.Part.{Part}
 use Rattle.answer.specs.declared.Part.TheVariants.{Header}
 use Rattle.counts.specs.Counted.{within}
@@ -15,11 +14,9 @@ use Rattle.cut.specs.Requirement.{limit_most}
 use Rattle.cut.specs.laws.Decision.{true-both}
 use Rattle.header.specs.declared.Fields.{Fields}
 use Rattle.header.specs.declared.Refusal.{Refusal as HeaderRefusal}
-use Rattle.header.specs.declared.Refusal.TheVariants as HeaderRefusal
 use Rattle.header.specs.Parameters.{read_header}
 use Rattle.object.specs.declared.Slot.{Slot}
 use Rattle.object.specs.declared.Stage.{Stage}
-use Rattle.object.specs.declared.Stage.TheVariants as Stage
 use Rattle.object.specs.declared.Outcome.{Outcome}
 use Rattle.object.specs.declared.Outcome.TheVariants.{Stored, Complete, Repeat, Conflict}
 use Rattle.object.specs.Take.{take_into}
@@ -33,7 +30,7 @@ use Rattle.slots.specs.State.{right_slot, sound_slots}
 use Rattle.name_search.specs.Finding.{found_by_name}
 use Rattle.collector.specs.State.{Reply, State, find}
 use Rattle.collector.specs.Calls.{answer_for, drop_number, locate, located_as, located_in, show, sound}
-use Rattle.collector.specs.Arrival.{Arrival, heard_as}
+use Rattle.collector.specs.Arrival.{Arrival}
 use Rattle.queries.specs.Questions as queries
 use Rattle.queries.specs.Questions.{asked_of, parameters, name, sought_as, find as find_by_name}
 use Rattle.queries.specs.Missing.{awaited_in, missing}

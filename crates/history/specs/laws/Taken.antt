@@ -13,11 +13,9 @@ use Rattle.cut.specs.Parts.{headers_with, bodies_with}
 use Rattle.cut.specs.Lists.{Bytes}
 use Rattle.object.specs.declared.Slot.{Slot}
 use Rattle.object.specs.declared.Stage.{Stage}
-use Rattle.object.specs.declared.Stage.TheVariants as Stage
 use Rattle.object.specs.declared.Outcome.{Outcome}
 use Rattle.object.specs.declared.Outcome.TheVariants.{Stored, Complete, Repeat, Conflict}
 use Rattle.object.specs.declared.Decided.{Decided}
-use Rattle.object.specs.declared.Decided.TheVariants as Decided
 use Rattle.object.specs.Take.{decided, parts_with, slot_with, outcome_by, Taken, taken_by, take_into}
 use Rattle.object.specs.laws.Decided.{if_new}
 use Rattle.object.specs.Sound.{sound_slot}

@@ -3,9 +3,7 @@ use Rattle.std.specs.Prelude.{◌≡◌, refl, Option, None, Some, Bool, true, f
 use Rattle.std.proofs.Common.{ap, ◌∙◌, arith, ltb-true, ltb-false}
 use Rattle.std.proofs.lemmas.Bool.{lt-leb}
 use Rattle.answer.specs.declared.Answer.{Answer}
-use Rattle.answer.specs.declared.Answer.TheVariants as Answer
 use Rattle.answer.specs.declared.Refusal.{Refusal}
-use Rattle.answer.specs.declared.Refusal.TheVariants as Refusal
 use Rattle.answer.specs.Table.{number_of}
 use Rattle.answer.specs.laws.Table.{reason-from}
 use Rattle.counts.specs.declared.Counts.{Counts}
@@ -18,7 +16,7 @@ use Rattle.history.specs.laws.Call.{Came, alone, full, first, more, unread, came
 use Rattle.history.specs.Handed.{Handed, Brought, arrives, refused, brought_by}
 use Rattle.history.specs.laws.Ready.{used-inside, found-used}
 use Rattle.history.specs.Promise.{between, answers_from, tallied}
-use Rattle.history.specs.History.{Call, hand, drop, ask, Event, dropped, leaves, event, Allowed, reached, told}
+use Rattle.history.specs.History.{Call, hand, drop, ask, Event, leaves, event, Allowed, reached, told}
 use Rattle.history.specs.laws.Reached.{start_is}
 use Rattle.history.specs.Taking.{take}
 

@@ -10,11 +10,9 @@ use Rattle.cut.specs.Requirement.{Segment, Fits, Finished}
 use Rattle.cut.specs.laws.Decision.{false-true}
 use Rattle.header.specs.declared.Fields.{Fields}
 use Rattle.header.specs.declared.Refusal.{Refusal}
-use Rattle.header.specs.declared.Refusal.TheVariants as Refusal
 use Rattle.header.specs.Parameters.{read_header}
 use Rattle.header.specs.Names.{name_data}
 use Rattle.object.specs.declared.Stage.{Stage}
-use Rattle.object.specs.declared.Stage.TheVariants as Stage
 use Rattle.slots.specs.Find.{is_free}
 use Rattle.name_search.specs.Requirement.{Named}
 use Rattle.collector.specs.State.{State, find}

@@ -8,12 +8,9 @@ use Rattle.answer.specs.declared.Answer.{Answer}
 use Rattle.answer.specs.declared.Part.{Part}
 use Rattle.answer.specs.declared.Part.TheVariants.{Header, Body}
 use Rattle.answer.specs.declared.Returned.{Returned}
-use Rattle.answer.specs.declared.Returned.TheVariants as Returned
 use Rattle.answer.specs.Table.{number_of, returned_with}
-use Rattle.answer.specs.declared.Answer.TheVariants as Answer
 use Rattle.answer.specs.declared.Reason.TheVariants as Reason
 use Rattle.answer.specs.declared.Refusal.{Refusal}
-use Rattle.answer.specs.declared.Refusal.TheVariants as Refusal
 use Rattle.counts.specs.declared.Counts.{Counts}
 use Rattle.counts.specs.Counted.{ceiling, none_yet, counted}
 use Rattle.wire.specs.declared.Carried.{Carried}
@@ -27,7 +24,6 @@ use Rattle.cut.specs.laws.Decision.{false-true}
 use Rattle.object.specs.Source.{SegmentOf}
 use Rattle.object.specs.declared.Slot.{Slot}
 use Rattle.object.specs.declared.Stage.{Stage}
-use Rattle.object.specs.declared.Stage.TheVariants as Stage
 use Rattle.slots.specs.Find.{is_free}
 use Rattle.slots.specs.Alone.{fits_alone}
 use Rattle.collector.specs.State.{Start, Opened, Reply, State, all_free, find, free}

@@ -1,6 +1,6 @@
 -- `layout::slots_from` meets its contract: each call of the closure reads its slot.
 -- Assumes nothing.
-use Rattle.std.proofs.Common.{◌≡◌, ℕ, zero, suc, ◌+◌, ◌-◌, ◌*◌, ◌/◌, ◌<◌, List, [], length, take, drop, get_or, ◌∙◌, subst, length-drop, arith, rules}
+use Rattle.std.proofs.Common.{◌≡◌, ℕ, zero, suc, ◌+◌, ◌*◌, ◌/◌, ◌<◌, List, [], length, take, drop, get_or, ◌∙◌, subst, length-drop, arith, rules}
 use Rattle.std.proofs.Math.Seq.{take_all}
 use Rattle.std.specs.Array.{IsFromFnResultFrom}
 use Rattle.std.specs.Fn.{Called}

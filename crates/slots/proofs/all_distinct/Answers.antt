@@ -2,7 +2,6 @@
 -- Assumes nothing.
 use mathlib.Core.Path.{refl, sym, ◌∙◌}
 use native.Mathlib.Omega.{arith}
-use Rattle.std.proofs.Common.{rules}
 use Rattle.slots.specs.Keys.{distinct_keys}
 use Rattle.slots.specs.laws.StateTests.{spent}
 use Rattle.slots.proofs.all_distinct.Goals as goal

@@ -1,6 +1,5 @@
 -- `slots::fresh_slot` meets its contract: all but the number and the stage is that of a free slot.
 -- Assumes nothing.
-use Rattle.std.proofs.Common.{rules}
 use Rattle.slots.specs.Stores.{free_slot, fresh_slot}
 use Rattle.slots.proofs.fresh_slot.Goals as goal
 

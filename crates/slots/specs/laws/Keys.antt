@@ -1,16 +1,13 @@
 -- No two slots hold one number exactly where no two keys but 0 are one.
-use Rattle.std.specs.Prelude.{◌≡◌, Bool, true, false, List, [], ◌∷◌, ◌++◌, ℕ, zero, suc, ◌+◌, ◌≤◌, ◌<◌, eqb, length, get_or, set, take, drop}
+use Rattle.std.specs.Prelude.{◌≡◌, Bool, true, false, List, [], ◌∷◌, ℕ, zero, suc, ◌+◌, eqb, take}
 use Rattle.std.proofs.Math.Path.{refl}
-use Rattle.std.proofs.Common.{sym, ◌∙◌, append-nil, add-one, arith, drop-cons, take-suc-set, eq-eqb, ne_eqb}
+use Rattle.std.proofs.Common.{sym, ◌∙◌, arith, eq-eqb, ne_eqb}
 use Rattle.std.proofs.Math.Decide.{ℕ_discrete}
-use Rattle.std.proofs.Math.Seq.{take-length, append_snoc}
-use Rattle.cut.specs.Lists.{both, pick}
+use Rattle.cut.specs.Lists.{pick}
 use Rattle.object.specs.declared.Slot.{Slot}
-use Rattle.slots.specs.Stores.{free_slot}
 use Rattle.slots.specs.Find.{free_stage, is_free, holds}
 use Rattle.slots.specs.State.{held_among, unlike, distinct}
 use Rattle.slots.specs.Keys.{key_of, keys_of, absent_key, unlike_key, distinct_keys}
-use Rattle.slots.specs.laws.StateTests.{spent, one_more}
 
 -- ---- keys for slots
 

@@ -7,12 +7,10 @@ use Rattle.std.proofs.Common.{sym, ◌∙◌, arith}
 use Rattle.std.proofs.Math.Bool.{Bool, true, false}
 use mathlib.Core.List.{List, [], ◌∷◌}
 use Rattle.answer.specs.declared.Answer.{Answer}
-use Rattle.answer.specs.declared.Answer.TheVariants as Answer
 use Rattle.cut.specs.Requirement.{header_most}
 use Rattle.cut.specs.Lists.{both, pick, Each}
 use Rattle.object.specs.declared.Slot.{Slot}
 use Rattle.object.specs.declared.Stage.{Stage}
-use Rattle.object.specs.declared.Stage.TheVariants as Stage
 use Rattle.slots.specs.Stores.{Stores, slot_at}
 use Rattle.slots.specs.Find.{find_in}
 use Rattle.slots.specs.Show.{shown_of}
@@ -21,7 +19,6 @@ use Rattle.slots.specs.laws.StateTests.{limits-hold}
 use Rattle.slots.specs.laws.Finished.{start-there}
 use Rattle.collector.specs.State.{State, Reply}
 use Rattle.collector.specs.Calls.{take_group, drop_number, open_with, locate, show, sound}
-use Rattle.queries.specs.Questions.{find}
 use Rattle.history.specs.laws.Ready.{used-inside, found-used}
 use Rattle.history.specs.laws.Shown.{held-lengths}
 use Rattle.history.specs.laws.Refused.{Kept, handed-kept, drop-kept}

@@ -5,7 +5,6 @@ use Rattle.std.specs.Prelude.{◌≡◌, refl, Bool, true, false, Result, Ok, Er
 use Rattle.std.proofs.Common.{ap, subst, inl, inr, arith}
 use Rattle.octets.specs.Octets.{part}
 use Rattle.answer.specs.declared.Answer.{Answer}
-use Rattle.answer.specs.declared.Answer.TheVariants as Answer
 use Rattle.answer.specs.declared.Heard.{Heard}
 use Rattle.answer.specs.declared.Refusal.{Refusal}
 use Rattle.answer.specs.declared.Reason.{Reason}
@@ -16,11 +15,11 @@ use Rattle.answer.specs.Table.{number_of, returned_with}
 use Rattle.answer.specs.laws.Table.{number-byte, refusal-from, refusal-to, unsent-refusal}
 use Rattle.wire.specs.declared.Carried.{Carried}
 use Rattle.wire.specs.Reading.{reading_of, address_in, address_of}
-use Rattle.wire.specs.laws.Theorems.{inside, Narrow, narrow}
+use Rattle.wire.specs.laws.Theorems.{inside, narrow}
 use Rattle.cut.specs.Lists.{Bytes}
 use Rattle.object.specs.declared.Outcome.{Outcome}
 use Rattle.object.specs.declared.Outcome.TheVariants.{Stored, Complete, Repeat, Conflict}
-use Rattle.collector.specs.State.{State, Reply}
+use Rattle.collector.specs.State.{State}
 use Rattle.collector.specs.Calls.{answer_for, take_group, sound}
 use Rattle.collector.specs.Arrival.{heard_as, heard_in, arrival_in}
 use Rattle.history.specs.Handed.{group, brought_in}
