@@ -5,7 +5,7 @@ use crate::edit::{applied, renamed, Edit};
 use crate::list::List;
 use crate::log::{verdict, Verdict};
 use crate::rounds::{Marks, Texts};
-use crate::source::{functions, Item};
+use crate::source::{functions, proof_folders, Item};
 use std::collections::BTreeSet;
 use std::fs::{self, File};
 use std::io;
@@ -245,8 +245,8 @@ impl Copy<'_> {
     /// Changes names in the proofs of functions.
     pub fn rename(&self, functions: &Marks, names: &[(String, String)]) -> Result<(), String> {
         for function in functions {
-            let folder = format!("proofs/{function}");
-            for path in entries(&self.place.join(&folder)) {
+            let folders = proof_folders(function).map(|folder| self.place.join(folder));
+            for path in folders.iter().flat_map(|folder| entries(folder)) {
                 if path.is_file() {
                     let text = told(&path, fs::read_to_string(&path))?;
                     told(&path, fs::write(&path, renamed(&text, names)))?;

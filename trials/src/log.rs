@@ -1,6 +1,7 @@
 //! What the prover said of a crate: whether it is proved, and if not, what is at fault and why.
 
 use crate::copies::CITES;
+use crate::source::function_of_proof;
 use std::collections::BTreeMap;
 
 /// Why something is refused.
@@ -114,10 +115,7 @@ fn errors(said: &str) -> Vec<(String, Why)> {
     let Some((folder, _)) = file.rsplit_once('/') else {
         return Vec::new();
     };
-    let of = |declared: &str| match folder.strip_prefix("proofs/") {
-        Some(function) => function.to_string(),
-        None => declared.to_string(),
-    };
+    let of = |declared: &str| function_of_proof(folder).unwrap_or(declared.to_string());
     if !folder.starts_with("proofs") && !folder.starts_with("specs") {
         return Vec::new();
     }

@@ -206,6 +206,18 @@ pub fn definitions(text: &str) -> Vec<Item> {
     found
 }
 
+/// The folders that a function's proof may lie in: that of one which calls itself has a `+` before the name.
+pub fn proof_folders(function: &str) -> [String; 2] {
+    let at = function.rfind('/').map_or(0, |slash| slash + 1);
+    let (type_path, name) = function.split_at(at);
+    ["", "+"].map(|mark| format!("proofs/{type_path}{mark}{name}"))
+}
+
+/// The function whose proof lies in a folder, if one does.
+pub fn function_of_proof(folder: &str) -> Option<String> {
+    Some(folder.strip_prefix("proofs/")?.replace('+', ""))
+}
+
 /// The path of a module of specs or proofs in its crate.
 pub fn module(file: &str) -> String {
     file.trim_end_matches(".antt").replace('/', ".")

@@ -4,7 +4,7 @@ use crate::copies::{Crate, Scope, Workshop, CONTROL};
 use crate::edit::{renamed, Edit};
 use crate::log::{Verdict, Why};
 use crate::rounds::{marks, rounds, Marks, Texts};
-use crate::source::{definitions, module};
+use crate::source::{definitions, module, proof_folders};
 
 /// What is tried in one copy.
 pub enum Trial<'a> {
@@ -90,8 +90,9 @@ fn is_in_proof(name: &(String, String), marks: &Option<Marks>, texts: &Texts) ->
     let changed = |text: &String| renamed(text, std::slice::from_ref(name)) != *text;
     let mut functions = marks.iter().flatten();
     functions.any(|function| {
-        let folder = format!("proofs/{function}/");
-        let mut files = texts.iter().filter(|(file, _)| file.starts_with(&folder));
+        let folders = proof_folders(function).map(|folder| folder + "/");
+        let is_its = |file: &str| folders.iter().any(|folder| file.starts_with(folder));
+        let mut files = texts.iter().filter(|(file, _)| is_its(file));
         files.any(|(_, text)| changed(text))
     })
 }

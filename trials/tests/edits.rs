@@ -1,7 +1,7 @@
 //! An edit is read off its file, and its old text must stand exactly once where it says.
 
 use trials::edit::{applied, renamed, Change, Edit};
-use trials::source::{definitions, functions};
+use trials::source::{definitions, function_of_proof, functions, proof_folders};
 
 const CODE: &str = "\
 // A comment on fn nothing() {
@@ -188,7 +188,8 @@ fn parts_of_names_are_changed_where_they_stand_whole() {
 
 #[test]
 fn a_method_is_named_by_its_type() {
-    for line in ["impl Pair {", "impl Pair<'_> {", "impl<'a> Pair<'a> {"] {
+    let lines = ["impl Pair {", "impl Pair<'_> {", "impl<'a> Pair<'a, '_> {"];
+    for line in lines {
         let text = CODE.replace("impl Pair {", line);
         let paths: Vec<String> = functions("src/lib.rt", &text)
             .into_iter()
@@ -196,4 +197,17 @@ fn a_method_is_named_by_its_type() {
             .collect();
         assert_eq!(paths, ["first", "Pair/second"]);
     }
+}
+
+#[test]
+fn the_proof_of_a_function_that_calls_itself_is_found_too() {
+    let folders = proof_folders("Pair/second");
+    assert_eq!(folders, ["proofs/Pair/second", "proofs/Pair/+second"]);
+    assert_eq!(proof_folders("first"), ["proofs/first", "proofs/+first"]);
+    for function in ["first", "Pair/second"] {
+        for folder in proof_folders(function) {
+            assert_eq!(function_of_proof(&folder).as_deref(), Some(function));
+        }
+    }
+    assert_eq!(function_of_proof("specs/laws"), None);
 }
