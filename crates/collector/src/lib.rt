@@ -50,15 +50,16 @@ pub struct BoundingNumbers {
     pub slot_marks: usize,
 }
 
-// A collector with all that its caller lends for a question: the counts, the stores and the marks. The calls that
-// change stores take those as three `&mut`: a struct of them would have every contract name what each one leaves.
+// A collector with all that its caller lends for a question: the counts, the stores and the marks. What is shown is a
+// part of the two stores and outlives the rest, so the rest has a lifetime of its own. The calls that change stores
+// take those as three `&mut`: a struct of them would have every contract name what each one leaves.
 #[derive(Clone, Copy)]
-pub struct Lent<'a> {
-    pub collector: &'a Collector,
+pub struct Lent<'stores, 'rest> {
+    pub collector: &'rest Collector,
     pub counts: Counts,
-    pub header: &'a [u8],
-    pub body: &'a [u8],
-    pub marks: &'a [u8],
+    pub header: &'stores [u8],
+    pub body: &'stores [u8],
+    pub marks: &'rest [u8],
 }
 
 // What an opening hands back: whether the collector is open, or why it is not. A refused one hands back a collector
@@ -428,7 +429,7 @@ impl Collector {
     }
 }
 
-impl<'a> Lent<'a> {
+impl<'stores> Lent<'stores, '_> {
     // Whether the state is not damaged.
     pub fn is_sound(&self) -> bool
         ensures { result ≡ sound (lent_state self.now) }
@@ -455,7 +456,7 @@ impl<'a> Lent<'a> {
     }
 
     // A part of the finished object in slot i; nothing where there is none.
-    pub fn shown_at(&self, part: Part, i: usize) -> &'a [u8]
+    pub fn shown_at(&self, part: Part, i: usize) -> &'stores [u8]
         ensures { result.now
             ≡ shown_of part i self.now.collector.now.limit (slot_at i self.now.collector.now.slots)
             self.now.header.now self.now.body.now }
@@ -468,12 +469,41 @@ impl<'a> Lent<'a> {
 
     // A finished object's header or body, as the part of the store that has it, without copying;
     // nothing where `locate` says why.
-    pub fn show(&self, number: u16, part: Part) -> &'a [u8]
+    pub fn show(&self, number: u16, part: Part) -> &'stores [u8]
         ensures { result.now ≡ show number part (lent_state self.now) }
     {
         let Ok(i) = self.locate(number) else {
             return &self.header[..0];
         };
         self.shown_at(part, i)
+    }
+}
+
+#[cfg(test)]
+mod tests {
+    use super::*;
+
+    // What is shown is a part of the two stores and of nothing else that is lent for the question, so that it may be
+    // read when the collector and the marks are already others.
+    #[test]
+    fn what_is_shown_outlives_the_question(rt: HostRuntime) {
+        let header = [0u8; Collector::HEADER_MOST];
+        let body = [0u8; Collector::LIMIT_LEAST];
+        let mut marks = [0u8; Collector::SLOT_MARKS];
+        let limit = Collector::LIMIT_LEAST;
+        let opened = Collector::opened(limit, 1, counts::none_yet(), &header, &body, &mut marks);
+        let shown = {
+            let collector = opened.collector;
+            let lent = Lent {
+                collector: &collector,
+                counts: opened.counts,
+                header: &header,
+                body: &body,
+                marks: &marks,
+            };
+            lent.show(5, Part::Body)
+        };
+        marks[0] = 1;
+        assert_eq!(rt; shown.len(), 0);
     }
 }

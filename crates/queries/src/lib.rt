@@ -25,7 +25,7 @@ fn reason_of(refusal: Refusal) -> Reason
 
 // What the header of a finished object says, or why it is not told: its core fields, Priority's byte,
 // and where its name stands in it.
-pub fn parameters(lent: &Lent<'_>, number: u16) -> Result<Fields, Reason>
+pub fn parameters(lent: &Lent<'_, '_>, number: u16) -> Result<Fields, Reason>
     ensures { result ≡ parameters number (lent_state lent.now) }
 {
     let i = lent.locate(number)?;
@@ -34,7 +34,7 @@ pub fn parameters(lent: &Lent<'_>, number: u16) -> Result<Fields, Reason>
 
 // The data of a finished object's name, as the part of the header store that has it, without
 // copying; nothing where it has no name or `parameters` refuses.
-pub fn name<'a>(lent: &Lent<'a>, number: u16) -> &'a [u8]
+pub fn name<'stores>(lent: &Lent<'stores, '_>, number: u16) -> &'stores [u8]
     ensures { result.now ≡ name number (lent_state lent.now) }
 {
     let Ok(i) = lent.locate(number) else {
@@ -44,7 +44,7 @@ pub fn name<'a>(lent: &Lent<'a>, number: u16) -> &'a [u8]
 }
 
 // The lowest transport number among the finished objects that have a name, or why none is told.
-pub fn find(lent: &Lent<'_>, asked: &[u8]) -> Result<u16, Reason>
+pub fn find(lent: &Lent<'_, '_>, asked: &[u8]) -> Result<u16, Reason>
     ensures { result ≡ find asked.now (lent_state lent.now) }
 {
     if !lent.is_sound() {
@@ -64,7 +64,7 @@ fn amount_of(kept: u32) -> Option<u32>
 
 // How many bytes of a number's object are still to come, finished or not, once that is known, or why it is not told:
 // what its slot keeps, so that no more is worked out than STATE asks for.
-pub fn missing(lent: &Lent<'_>, number: u16) -> Result<Option<u32>, Reason>
+pub fn missing(lent: &Lent<'_, '_>, number: u16) -> Result<Option<u32>, Reason>
     ensures { result ≡ missing number (lent_state lent.now) }
 {
     if !lent.is_sound() {

@@ -211,7 +211,7 @@ fn lent<'a>(
     header: &'a [u8],
     body: &'a [u8],
     marks: &'a [u8],
-) -> Lent<'a>
+) -> Lent<'a, 'a>
     ensures { lent_state result ≡ state held.now.0 held.now.1 (stores header.now body.now marks.now) }
 {
     let (collector, counts) = held;
