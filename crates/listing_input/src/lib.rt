@@ -71,7 +71,9 @@ fn byte(high: u8, low: u8) -> u8
     digit(high).unwrap_or(0) * 16 + digit(low).unwrap_or(0)
 }
 
-// The bytes that hex digits stand for, at the front of the group; and how many they are.
+// The bytes that hex digits stand for, at the front of the group; and how many they are. Not inlined: where line and
+// group are parts of one struct, the compiler couldn't tell that they lie apart, and would read digit by digit.
+#[inline(never)]
 fn decode(digits: &[u8], group: &mut [u8]) -> usize
     requires { length digits.now ≤ length group.old + length group.old }
     ensures value { result ≡ length (bytes_of digits.now) }
