@@ -119,15 +119,6 @@ fn verdict_of(case: Case) -> Verdict
 
 // ---- a case, written
 
-impl fmt::Display for Piece {
-    fn fmt<W: fmt::Write>(&self, f: &mut fmt::Formatter<W>) -> fmt::Result {
-        let number = self.number;
-        let flag = if self.last { "last" } else { "not last" };
-        let length = self.length;
-        write!(f, "{number}, {flag}, length {length}")
-    }
-}
-
 impl fmt::Display for Verdict {
     fn fmt<W: fmt::Write>(&self, f: &mut fmt::Formatter<W>) -> fmt::Result {
         f.write_str(match self {
@@ -138,32 +129,44 @@ impl fmt::Display for Verdict {
     }
 }
 
-impl fmt::Display for Case {
-    fn fmt<W: fmt::Write>(&self, f: &mut fmt::Formatter<W>) -> fmt::Result {
-        let case = *self;
-        let limit = case.limit;
-        write!(f, "limit {limit}")?;
-        if let Some(piece) = case.header {
-            write!(f, "; header {piece}")?;
-        }
-        if let Some(Sizes { body, header }) = case.core {
-            write!(f, ", HeaderSize {header}, BodySize {body}")?;
-        }
-        if let Some(piece) = case.first {
-            write!(f, "; body {piece}")?;
-        }
-        if let Some(piece) = case.second {
-            write!(f, "; body {piece}")?;
-        }
-        let verdict = verdict_of(case);
-        write!(f, ": {verdict}")
+// Each text is a write of its own, and where one can't be written the others go on.
+impl Piece {
+    fn say(&self, output: &impl Print, part: &str) {
+        let number = self.number;
+        let flag = if self.last { "last" } else { "not last" };
+        let length = self.length;
+        let _ = print!(output; "; {part} {number}");
+        let _ = print!(output; ", {flag}");
+        let _ = print!(output; ", length {length}");
     }
 }
 
-// Where a case can't be written the others go on.
+impl Case {
+    fn say(&self, output: &impl Print) {
+        let case = *self;
+        let limit = case.limit;
+        let _ = print!(output; "limit {limit}");
+        if let Some(piece) = case.header {
+            piece.say(output, "header");
+        }
+        if let Some(Sizes { body, header }) = case.core {
+            let _ = print!(output; ", HeaderSize {header}");
+            let _ = print!(output; ", BodySize {body}");
+        }
+        if let Some(piece) = case.first {
+            piece.say(output, "body");
+        }
+        if let Some(piece) = case.second {
+            piece.say(output, "body");
+        }
+        let verdict = verdict_of(case);
+        let _ = println!(output; ": {verdict}");
+    }
+}
+
 fn say(output: &impl Print, cases: &[Case]) {
     for case in cases {
-        let _ = println!(output; "{case}");
+        case.say(output);
     }
 }
 
