@@ -6,7 +6,7 @@ ghost use Rattle.cut.specs.Sums.{possible_in, accepts_in, fits_in};
 ghost use Rattle.part.specs.Asked.{end_right, record_right, sound_part, Counted};
 
 use crate::{bounds, ended, full, holds, record};
-use cut::{Bounds, Record, Segment};
+use cut::{Bounds, Record};
 
 // A part: its bounds, its record, its marks and how many of them are set.
 #[derive(Clone, Copy)]
@@ -47,33 +47,30 @@ impl Gathered<'_> {
 
     // The same of what is in and one segment more, whose mark is not set yet; with is the record with it.
     #[tactic(auto, using(cut::specs::laws::Sums::room_within))]
-    fn accepts(&self, segment: &Segment<'_>, with: Record) -> bool
-        ensures { result ≡ accepts_in segment.now.last segment.now.number
-            self.now.bounds with self.now.marks.now }
+    fn accepts(&self, last: bool, number: usize, with: Record) -> bool
+        ensures { result ≡ accepts_in last number self.now.bounds with self.now.marks.now }
     {
         let room = bounds::room(self.bounds, with);
-        if segment.last {
+        if last {
             if self.total == 0 {
                 return bounds::alone(self.bounds, with);
             }
             return self.total_from(room) == 0;
         }
-        segment.number < room && self.total_from(room) == ended(with)
+        number < room && self.total_from(room) == ended(with)
     }
 
     // Whether a segment of a number that is not in fits, with those that are.
     #[tactic(auto, unfolding(cut::specs::Sums::fits_in))]
-    pub fn fits(&self, segment: &Segment<'_>) -> bool
-        ensures { result ≡ fits_in self.now.bounds self.now.kept self.now.marks.now
-            segment.now.last segment.now.number (length segment.now.bytes.now) }
+    pub fn fits(&self, last: bool, number: usize, count: usize) -> bool
+        ensures { result ≡ fits_in self.now.bounds self.now.kept self.now.marks.now last number count }
     {
-        if self.bounds.numbers <= segment.number {
+        if self.bounds.numbers <= number {
             return false;
         }
-        let count = segment.bytes.len();
-        let with = record::add(segment.last, segment.number, count, self.kept);
-        record::joins(full(self.kept, self.total), segment.last, count, self.kept)
-            && self.accepts(segment, with)
+        let with = record::add(last, number, count, self.kept);
+        record::joins(full(self.kept, self.total), last, count, self.kept)
+            && self.accepts(last, number, with)
     }
 
     // ---- whether it is sound

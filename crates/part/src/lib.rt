@@ -87,13 +87,19 @@ fn full(kept: Record, total: u32) -> bool
 }
 
 // The record with one segment more.
-pub fn with(bounds: Bounds, kept: Record, total: u32, segment: &Segment<'_>) -> Record
-    requires { segment.now.number < 32768 }
-    ensures { result ≡ record_adding bounds kept total segment.now.last segment.now.number
-        (length segment.now.bytes.now) }
+pub fn with(
+    bounds: Bounds,
+    kept: Record,
+    total: u32,
+    last: bool,
+    number: usize,
+    count: usize,
+) -> Record
+    requires { number < 32768 }
+    ensures { result ≡ record_adding bounds kept total last number count }
 {
-    let with = record::add(segment.last, segment.number, segment.bytes.len(), kept);
-    record::settle(bounds, !segment.last || full(kept, total), with)
+    let with = record::add(last, number, count, kept);
+    record::settle(bounds, !last || full(kept, total), with)
 }
 
 // The record of a part that gets none, within bounds that may have met.
