@@ -5,3 +5,4 @@ pub mod Fresh
 pub mod Ready
 pub mod Held
 pub mod Finished
+pub mod FromFn

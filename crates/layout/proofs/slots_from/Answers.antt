@@ -1,27 +1,13 @@
 -- `layout::slots_from` meets its contract: each call of the closure reads its slot.
 -- Assumes nothing.
-use Rattle.std.proofs.Common.{◌≡◌, ℕ, zero, suc, ◌+◌, ◌*◌, ◌/◌, ◌<◌, List, [], length, take, drop, get_or, ◌∙◌, subst, length-drop, arith, rules}
+use Rattle.std.proofs.Common.{◌≡◌, ℕ, ◌+◌, ◌*◌, ◌/◌, [], length, take, drop, get_or, ◌∙◌, length-drop, arith, rules}
 use Rattle.std.proofs.Math.Seq.{take_all}
-use Rattle.std.specs.Array.{IsFromFnResultFrom}
-use Rattle.std.specs.Fn.{Called}
 use Rattle.std.proofs.lemmas.List.FromFn.{fill_by_all, get_or-map-range_with_len}
-use denote.Param.Members.{Mut}
 use borrow.Author.Tests.{tests}
+use Rattle.slots.specs.laws.FromFn.{made-by}
 use Rattle.layout.specs.Layout.{slot_in}
 use Rattle.layout.specs.laws.Layout.{slot-alone, chunks-each, from-each}
 use Rattle.layout.proofs.slots_from.Goals as goal
-
--- where each call leaves the closure as it was, what is made is what the calls give
-made-by : {F B : Type 0} (g : Mut F (ℕ × Unit {0}) B) (f : F) (each : ℕ → B) (made : List B) (n i : ℕ) (d : B)
-    → ((x : ℕ) (y : B) (q : F) → Called g f (x, tt) y q → (q ≡ f) × (y ≡ each x))
-    → IsFromFnResultFrom g f made i n → (k j : ℕ) → k < n → i + k ≡ j → get_or made j d ≡ each j
-made-by g f each made zero i d calls result k j h e = absurd (omega arith)
-made-by g f each made (suc n) i d calls result zero j h e =
-    let here : i ≡ j = omega arith in rw (← here) (result.2.1 d ∙ (calls i result.1 result.0 result.3).1)
-made-by {F} {B} g f each made (suc n) i d calls result (suc k) j h e =
-    made-by g f each made n (i + 1) d calls
-    (subst (λ (q : F). IsFromFnResultFrom g q made (i + 1) n) (calls i result.1 result.0 result.3).0 result.4) k j
-    (omega arith) (omega arith)
 
 pub returns : goal.returns
 returns c =
