@@ -21,6 +21,7 @@ ghost use Rattle.slots.specs.Take.{placed, placed_at, drop_at, Inside};
 use answer::Part;
 use cut::{Record, Segment};
 use object::{Decided, Slot, Stage, Tally, Took};
+use std::array;
 
 // How many slots a collector may have.
 pub const SLOTS_LEAST: usize = 1;
@@ -122,7 +123,7 @@ fn key_of(slot: &Slot) -> u32
 fn keys_of(slots: &[Slot; SLOTS_MOST]) -> [u32; SLOTS_MOST]
     ensures { result ≡ keys_of slots.now }
 {
-    slots.each_ref().map(key_of)
+    array::from_fn(|i| key_of(&slots[i]))
 }
 
 // Whether a key is 0, or none of the others.
