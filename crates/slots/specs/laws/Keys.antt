@@ -1,13 +1,14 @@
 -- No two slots hold one number exactly where no two keys but 0 are one.
-use Rattle.std.specs.Prelude.{◌≡◌, Bool, true, false, List, [], ◌∷◌, ℕ, zero, suc, ◌+◌, eqb, take}
+use Rattle.std.specs.Prelude.{◌≡◌, Bool, true, false, List, [], ◌∷◌, ℕ, zero, suc, ◌+◌, ◌≤◌, ◌<◌, eqb, length, get_or, take, drop}
 use Rattle.std.proofs.Math.Path.{refl}
 use Rattle.std.proofs.Common.{sym, ◌∙◌, arith, eq-eqb, ne_eqb}
 use Rattle.std.proofs.Math.Decide.{ℕ_discrete}
-use Rattle.cut.specs.Lists.{pick}
+use Rattle.cut.specs.Lists.{both, pick}
 use Rattle.object.specs.declared.Slot.{Slot}
 use Rattle.slots.specs.Find.{free_stage, is_free, holds}
 use Rattle.slots.specs.State.{held_among, unlike, distinct}
 use Rattle.slots.specs.Keys.{key_of, keys_of, absent_key, unlike_key, distinct_keys}
+use Rattle.slots.specs.laws.StateTests.{spent, one_more}
 
 -- ---- keys for slots
 
@@ -59,3 +60,17 @@ keys-taken (suc count) (slot ∷ slots) = rw (keys-taken count slots) refl
 pub distinct-keys : (count : ℕ) (slots : List Slot) → distinct_keys (take count (keys_of slots))
     ≡ distinct (take count slots)
 distinct-keys count slots = rw (keys-taken count slots) (distinct-all (take count slots))
+
+-- ---- key by key
+
+module _ (keys : List ℕ) (count i : ℕ) where
+  pub distinct_none : length (take count keys) ≤ i → distinct_keys (drop i (take count keys)) ≡ true
+  unfolding distinct_keys
+  distinct_none h = rw (spent (take count keys) i h) refl
+
+  module _ (h : i < count) (g : i < length keys) where
+    pub distinct-on : distinct_keys (drop i (take count keys))
+        ≡ both (unlike_key (get_or keys i 0) (drop (i + 1) (take count keys)))
+        (distinct_keys (drop (i + 1) (take count keys)))
+    unfolding distinct_keys
+    distinct-on = rw (one_more 0 keys count i h g) refl
