@@ -84,12 +84,16 @@ module _ (has : Bool) (asked list : List ℕ) (at : ℕ) (l : Left has asked lis
   one : at < length list → Next list at l.rest
   one h = next list at l.rest h l.lists
 
-  -- the list is not broken, so that none is found only where none is left
+  -- the list is not broken
+  pub left-whole : at < length list → found_at list at ≡ None → ⊥
+  left-whole h e = let z : ◌≡◌ {A = ℕ} 0 1 = cc (one h).found in omega arith
+
+  -- so none is found only where none is left
   pub left-end : found_at list at ≡ None → has ≡ false
   left-end e = go (dec_lt at (length list))
     where
       go : Dec (at < length list) → has ≡ false
-      go (yes h) = let z : ◌≡◌ {A = ℕ} 0 1 = cc (one h).found in absurd (omega arith)
+      go (yes h) = absurd (left-whole h e)
       go (no h) = left-none (omega arith)
 
   module _ (p : Parameter) (f : found_at list at ≡ Some p) where
