@@ -75,7 +75,7 @@ left-first asked i slot store = go slot.stage
 
 module _ (has : Bool) (asked list : List ℕ) (at : ℕ) (l : Left has asked list at) where
   -- none is left
-  left-none : length list ≤ at → has ≡ false
+  pub left-none : length list ≤ at → has ≡ false
   unfolding some_named
   left-none h =
       let e : l.rest ≡ [] = cc (from_end list at h) in

@@ -64,11 +64,20 @@ distinct-keys count slots = rw (keys-taken count slots) (distinct-all (take coun
 -- ---- key by key
 
 module _ (keys : List ℕ) (count i : ℕ) where
+  pub absent_none : (key : ℕ) → length (take count keys) ≤ i → absent_key key (drop i (take count keys)) ≡ true
+  unfolding absent_key
+  absent_none key h = rw (spent (take count keys) i h) refl
+
   pub distinct_none : length (take count keys) ≤ i → distinct_keys (drop i (take count keys)) ≡ true
   unfolding distinct_keys
   distinct_none h = rw (spent (take count keys) i h) refl
 
   module _ (h : i < count) (g : i < length keys) where
+    pub absent-on : (key : ℕ) → absent_key key (drop i (take count keys))
+        ≡ pick (eqb (get_or keys i 0) key) false (absent_key key (drop (i + 1) (take count keys)))
+    unfolding absent_key
+    absent-on key = rw (one_more 0 keys count i h g) refl
+
     pub distinct-on : distinct_keys (drop i (take count keys))
         ≡ both (unlike_key (get_or keys i 0) (drop (i + 1) (take count keys)))
         (distinct_keys (drop (i + 1) (take count keys)))
