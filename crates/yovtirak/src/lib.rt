@@ -156,8 +156,9 @@ pub extern "C" fn yovtirak_open(
     };
     let before = layout::counts_from(words);
     let opened = Collector::opened(limit, slots, before, header, body, marks);
+    let fresh = opened.collector;
     layout::put_counts(counts, opened.counts);
-    keep(state, opened.opening.is_ok(), &opened.collector);
+    keep(state, opened.opening.is_ok(), &fresh);
     opening_word(opened.opening)
 }
 
