@@ -82,11 +82,15 @@ fn modules(file: &str) -> Vec<String> {
 }
 
 /// The functions of a file of code. A function's body starts behind the line at its own indent that ends in a brace.
+/// The tests, which stand last, are none: a check doesn't read them.
 pub fn functions(file: &str, text: &str) -> Vec<Item> {
     let lines = lines(text);
     let mut found = Vec::new();
     let mut owner: Option<(usize, &str)> = None;
     for (first, line) in lines.iter().enumerate() {
+        if line.text == "#[cfg(test)]" {
+            break;
+        }
         if line.text.starts_with("//") {
             continue;
         }

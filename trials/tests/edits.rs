@@ -211,3 +211,13 @@ fn the_proof_of_a_function_that_calls_itself_is_found_too() {
     }
     assert_eq!(function_of_proof("specs/laws"), None);
 }
+
+#[test]
+fn tests_are_no_functions_of_the_code() {
+    let text =
+        format!("{CODE}\n#[cfg(test)]\nmod tests {{\n    #[test]\n    fn third() {{\n    }}\n}}\n");
+    assert_eq!(
+        functions("src/lib.rt", &text),
+        functions("src/lib.rt", CODE)
+    );
+}
