@@ -156,6 +156,7 @@ pub extern "C" fn yovtirak_open(
     };
     let before = layout::counts_from(words);
     let opened = Collector::opened(limit, slots, before, header, body, marks);
+    // In a place of its own: lent as a part of `opened` it took more time, and more of the stack.
     let fresh = opened.collector;
     layout::put_counts(counts, opened.counts);
     keep(state, opened.opening.is_ok(), &fresh);
